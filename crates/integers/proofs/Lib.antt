@@ -1,0 +1,12 @@
+pub mod Parts
+pub mod Diff
+pub mod Ring
+pub mod Solver
+pub mod Order
+pub mod Lists
+pub mod Sum
+pub mod Quadratic
+pub mod Gerschgorin
+pub mod CeilDiv
+pub mod Machine
+pub mod Examples

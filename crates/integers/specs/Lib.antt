@@ -1,0 +1,5 @@
+pub mod Integer
+pub mod Lists
+pub mod Sum
+pub mod Quadratic
+pub mod CeilDiv

@@ -1,0 +1,1 @@
+// Mathematics only: definitions in specs/, laws in proofs/.
