@@ -1,0 +1,1 @@
+// Sets as masks: definitions in specs/, laws in proofs/.
