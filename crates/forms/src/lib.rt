@@ -1,0 +1,39 @@
+ghost use mathlib.Core.Path.{_≡_};
+ghost use Prim.Native.Nat.{_≤_, _<_};
+ghost use lib.IntN.{pos, natAbs};
+ghost use lib.ListN.{length, getD};
+ghost use Rattle.forms.specs.Form.{mono};
+ghost use Rattle.forms.specs.Store.{addAt, addMonomial, cleared, Bounded};
+
+// Makes the first `n` numbers 0.
+pub fn clear(t: &mut [i64], n: usize)
+    requires { ⌜ n ≤ length (now t) ⌝ }
+    ensures { λ _. ⌜ now (t .exit) ≡ cleared n (now (t .entry)) ⌝ }
+{
+    let mut i = 0;
+    while i < n {
+        t[i] = 0;
+        i += 1;
+    }
+}
+
+// Adds `c` to the number at `at`.
+fn add_at(t: &mut [i64], at: usize, c: i64)
+    requires { ⌜ at < length (now t) ⌝ }
+    requires { ⌜ natAbs (getD (now t) at (pos 0)) ≤ 5000000000000000000 ⌝ }
+    requires { ⌜ natAbs c ≤ 1000000000000000000 ⌝ }
+    ensures { λ _. ⌜ now (t .exit) ≡ addAt at c (now (t .entry)) ⌝ }
+{
+    t[at] = t[at] + c;
+}
+
+// Adds the monomial `c` times place `p` times place `q` into a table of side `side`: `c` at (p, q) and `c` at (q, p).
+pub fn add_monomial(t: &mut [i64], side: usize, p: usize, q: usize, c: i64)
+    requires { ⌜ Bounded side 4000000000000000000 (now t) ⌝ }
+    requires { ⌜ (p < side) × (q < side) ⌝ }
+    requires { ⌜ natAbs c ≤ 1000000000000000000 ⌝ }
+    ensures { λ _. ⌜ now (t .exit) ≡ addMonomial side (mono p q c) (now (t .entry)) ⌝ }
+{
+    add_at(t, p * side + q, c);
+    add_at(t, q * side + p, c);
+}
