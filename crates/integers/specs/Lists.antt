@@ -1,7 +1,8 @@
 -- Statements and tests over a list or over the numbers below a bound.
-use mathlib.Core.Bool.{Bool, true, _&&_}
+use mathlib.Core.Bool.{Bool, true, false, _&&_, _||_}
 use mathlib.Core.List.{List, [], _∷_, _++_}
 use Prim.Native.Nat.{ℕ, zero, suc}
+use lib.Dec.{ltb, eqb}
 
 -- P of every element
 abbrev pub All {ℓ} : {A : Type ℓ} → (A → Type 0) → List A → Type 0
@@ -17,3 +18,9 @@ allBelow (suc n) f = allBelow n f && f n
 unfoldable pub joinBelow {ℓ} : {A : Type ℓ} → ℕ → (ℕ → List A) → List A
 joinBelow zero f = []
 joinBelow (suc n) f = joinBelow n f ++ f n
+
+-- the lexicographic order of lists of numbers of one length: by the first number, then by the second, and so on
+unfoldable pub comesBefore : List ℕ → List ℕ → Bool
+comesBefore [] ys = false
+comesBefore (x ∷ xs) [] = false
+comesBefore (x ∷ xs) (y ∷ ys) = ltb x y || eqb x y && comesBefore xs ys
