@@ -3,13 +3,15 @@
 use mathlib.Core.Path.{_≡_, sym, _∙_, ap, subst}
 use mathlib.Core.Logic.{_⊎_, inl, inr}
 use mathlib.Core.Bool.{true, false, not}
-use Prim.Native.Nat.{ℕ, _<_, _≤_, _^_}
+use Prim.Native.Nat.{ℕ, _<_, _≤_, _^_, _*_, _%_}
 use native.Mathlib.Omega.{arith}
+use native.Mathlib.Nat.{one-mul, mod-eq-of-lt}
+use lib.Pow.{pow-lt}
 use lib.Dec.{T}
 use lib.IntN.{ℤ, pos, natAbs}
 use lib.Signed.{mag, ltZ, leZ, _<ℤ_, _≤ℤ_, ltZ-no}
 use mir.Syntax.{Width}
-use mir.Val.{SFits, toZ, ofZ, hbits}
+use mir.Val.{SFits, toZ, ofZ, bits, hbits}
 use mir.ValLaws.{toZ-pos}
 use mir.Facts.{toZ-ofZ}
 use Rattle.integers.proofs.Diff.{diff₁, diffs}
@@ -72,3 +74,7 @@ leZ-false a b e = go (≤ℤ-or-> a b)
 -- equal bits, as `==` compares
 pub same-bits : (w : Width) {a b : ℤ} → SFits w a → SFits w b → ofZ w a ≡ ofZ w b → a ≡ b
 same-bits w f g e = sym (toZ-ofZ f) ∙ ap (toZ w) e ∙ toZ-ofZ g
+
+-- one bit at place n of a word
+pub one-shifted : (w : Width) (n : ℕ) → n < bits w → 2 ^ n ≡ 1 * 2 ^ n % 2 ^ bits w
+one-shifted w n h = sym (ap (λ x. x % 2 ^ bits w) (one-mul (2 ^ n)) ∙ mod-eq-of-lt (pow-lt h))

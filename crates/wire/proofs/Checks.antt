@@ -1,14 +1,15 @@
 -- The laws of a list of checks.
 use Prim.Native.Nat.{ℕ, _<_, _≤_}
 use native.Mathlib.Omega.{arith}
-use mathlib.Core.Path.{_≡_, refl}
+use mathlib.Core.Path.{_≡_, refl, sym, _∙_}
 use mathlib.Core.Logic.{_⊎_, inl, inr}
 use mathlib.Core.Bool.{Bool, true, false, cond, _&&_}
 use mathlib.Core.List.{List, [], _∷_, _++_}
 use lib.Dec.{T, leb, leb→le}
 use mir.Facts.{and-yes}
 use Rattle.integers.specs.Lists.{All}
-use Rattle.wire.specs.Checks.{Check, refusal}
+use borrow.Author.Tests.{ltb-false}
+use Rattle.wire.specs.Checks.{Check, refusal, commandChecks}
 
 -- no check fails
 abbrev pub Passed : List Check → Type 0
@@ -96,3 +97,18 @@ lowest m (c ∷ cs) r =
 -- within one command, the lowest number: where the numbers do not fall, no check that fails has a lower one than that which is refused
 pub refusal-lowest : (cs : List Check) (n : ℕ) → T (rising cs) → refusal cs ≡ n → NoLower n cs
 refusal-lowest cs n r e = rw e at (lowest 0 cs r)
+
+-- ---- the checks of a command, where the common ones gave n
+
+module _ (here : Bool) (left size : ℕ) (own : List Check) (n : ℕ) (e : n ≡ refusal (commandChecks here left size [])) where
+  pub command-refused : (n ≡ 0 → ⊥) → n ≡ refusal (commandChecks here left size own)
+  unfolding commandChecks
+  command-refused h = e ∙ sym (refusal-hit (commandChecks here left size []) own (λ q. h (e ∙ q)))
+
+  pub command-own : n ≡ 0 → refusal (commandChecks here left size own) ≡ refusal own
+  unfolding commandChecks
+  command-own h = refusal-miss (commandChecks here left size []) own (refusal-none (commandChecks here left size []) (omega arith) (sym e ∙ h))
+
+  pub command-room : n ≡ 0 → size ≤ left
+  unfolding commandChecks
+  command-room h = ltb-false left size (refusal-none (commandChecks here left size []) (omega arith) (sym e ∙ h) .1 .0)

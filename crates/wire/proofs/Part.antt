@@ -2,14 +2,14 @@
 use Prim.Native.Nat.{ℕ, zero, suc, _+_, _-_, _≤_, _<_}
 use native.Mathlib.Nat.{add-assoc}
 use native.Mathlib.Omega.{arith}
-use mathlib.Core.Path.{_≡_, refl, sym, _∙_}
+use mathlib.Core.Path.{_≡_, refl, sym, _∙_, ap}
 use mathlib.Core.Bool.{Bool, true, false, not}
 use mathlib.Core.List.{List, [], _∷_}
 use lib.ListN.{length, getD, drop, length-drop}
 use lib.Seq.{getD-drop}
 use lib.Dec.{eqb, ltb}
 use borrow.Author.Tests.{ltb-true, ltb-false, eqb-true, eqb-false, not-false, lt-ltb, le-ltb, ne-eqb}
-use Rattle.wire.specs.Checks.{Check, check, refusal}
+use Rattle.wire.specs.Checks.{Check, check, refusal, commandChecks}
 use Rattle.wire.specs.Part.{Part, Reading, refused, accepted, goes, stops, operandsAt, size, checksAt, afterAt, command, step, follow, run, readFrom}
 use Rattle.wire.proofs.Number.{natAt-drop}
 use Rattle.wire.proofs.Checks.{refusal-none, refusal-hit, refusal-miss}
@@ -42,18 +42,22 @@ module _ {S : Type 0} (P : Part S) where
     pub allowed : refusal (own s read at) ≡ 0
 
 module _ {S : Type 0} (P : Part S) (s : List ℕ) (read : S) (at : ℕ) where
+  -- by the command's byte
+  pub own-at : (b : ℕ) → getD s at 0 ≡ b → own P s read at ≡ P .checks read b (operandsAt (P .widths b) s (at + 1))
+  own-at b e = ap (λ b. P .checks read b (operandsAt (P .widths b) s (at + 1))) e
+
   -- where a check that every command has fails, and where none does
   pub checksAt-common : (refusal (common P s read at) ≡ 0 → ⊥) → refusal (checksAt P s read at) ≡ refusal (common P s read at)
-  unfolding checksAt
+  unfolding checksAt commandChecks
   checksAt-common h = refusal-hit (common P s read at) (own P s read at) h
 
   pub checksAt-own : refusal (common P s read at) ≡ 0 → refusal (checksAt P s read at) ≡ refusal (own P s read at)
-  unfolding checksAt
+  unfolding checksAt commandChecks
   checksAt-own e =
       refusal-miss (common P s read at) (own P s read at) (refusal-none (common P s read at) (omega arith) e)
 
   pub checksAt-passed : at < length s → refusal (checksAt P s read at) ≡ 0 → Passes P s read at
-  unfolding checksAt refusal
+  unfolding checksAt commandChecks refusal
   checksAt-passed l e =
       let b = getD s at 0 in
       flag (not (P .here read b)) (λ t. absurd (omega (arith, rw t at e))) λ t.
@@ -66,7 +70,7 @@ module _ {S : Type 0} (P : Part S) (s : List ℕ) (read : S) (at : ℕ) where
       }
 
   pub passed-checksAt : Passes P s read at → refusal (checksAt P s read at) ≡ 0
-  unfolding checksAt refusal
+  unfolding checksAt commandChecks refusal
   passed-checksAt p = rw (p .here, le-ltb (length s - at) (size P (getD s at 0)) (omega (arith, p .room))) (p .allowed)
 
   -- One step of the reading.
@@ -106,6 +110,11 @@ module _ {S : Type 0} (P : Part S) (s : List ℕ) (read : S) (at : ℕ) where
           flag (eqb n 0)
           (λ u. let e = eqb-true n 0 u in let p = checksAt-passed l e in flag (P .last (getD s at 0)) (λ f. ends p f (step-ends l e f)) (λ f. moves p f (step-goes l e f)))
           (λ u. let h = eqb-false n 0 u in refuses n l refl h (step-refused n l refl h))
+
+-- a refusal's number is not 0, which says that there is none
+abbrev pub NumberedReading : {S : Type 0} → Reading S → Type 0
+NumberedReading (refused n at) = n ≡ 0 → ⊥
+NumberedReading (accepted read end) = Unit {0}
 
 module _ {S : Type 0} (P : Part S) (s : List ℕ) where
   -- where two continuations agree at every later position, a step followed by either is the same
@@ -197,6 +206,15 @@ module _ {S : Type 0} (P : Part S) (s : List ℕ) where
         ends = λ read at h l a n p q. let z : _≡_ {A = ℕ} 0 1 = cc in absurd (omega arith);
       }
 
+  -- no refusal has the number 0
+  pub readFrom-numbered : (read : S) (at : ℕ) → NumberedReading (readFrom P s read at)
+  readFrom-numbered = by-ways (λ read at r. NumberedReading r) (record {
+    missing = λ read at l e. omega arith;
+    refuses = λ read at n l e h. h;
+    goes = λ read at r p l rest. rest;
+    ends = λ read at p l. tt;
+  })
+
 -- Positions in a run of bytes that is the end of another.
 
 unfoldable pub shifted : {S : Type 0} → ℕ → Reading S → Reading S
@@ -210,7 +228,7 @@ operandsAt-drop (w ∷ ws) k s at = rw (natAt-drop, operandsAt-drop ws k s (at +
 
 module _ {S : Type 0} (P : Part S) (k : ℕ) (s : List ℕ) where
   checksAt-drop : (read : S) (at : ℕ) → checksAt P (drop k s) read at ≡ checksAt P s read (k + at)
-  unfolding checksAt
+  unfolding checksAt commandChecks
   checksAt-drop read at =
       let e : length s - k - at ≡ length s - (k + at) = omega arith in
       rw (getD-drop, operandsAt-drop, add-assoc, length-drop, e)

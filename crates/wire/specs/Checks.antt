@@ -1,7 +1,8 @@
 -- The checks of a command: each a refusal's number and a test that leads to it.
 use Prim.Native.Nat.{ℕ}
-use mathlib.Core.Bool.{Bool, cond}
+use mathlib.Core.Bool.{Bool, cond, not}
 use mathlib.Core.List.{List, [], _∷_}
+use lib.Dec.{ltb}
 
 pub record Check : Type 0 where
   pub number : ℕ
@@ -15,3 +16,7 @@ check number fails = record { number = number; fails = fails }
 unfoldable pub refusal : List Check → ℕ
 refusal [] = 0
 refusal (c ∷ cs) = cond (c .fails) (c .number) (refusal cs)
+
+-- the checks of a command: the byte is not a command here (1), the bytes left are fewer than its own (2), and its own checks
+unfoldable pub commandChecks : Bool → ℕ → ℕ → List Check → List Check
+commandChecks here left size own = check 1 (not here) ∷ check 2 (ltb left size) ∷ own

@@ -5,7 +5,7 @@ use lib.ListN.{take, drop}
 use lib.Seq.{sets}
 use lib.IntN.{ℤ}
 use mir.Syntax.{Width}
-use mir.Val.{toZ, ofZ, bits}
+use mir.Val.{toZ, bits}
 use Rattle.integers.specs.Lists.{All}
 
 -- a list of bytes

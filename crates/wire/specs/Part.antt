@@ -1,11 +1,11 @@
 -- How a part of the job file is read: one command byte, then operands of fixed width; commands first to last.
 use Prim.Native.Nat.{ℕ, zero, suc, _+_, _-_}
-use mathlib.Core.Bool.{Bool, cond, not}
+use mathlib.Core.Bool.{Bool, cond}
 use mathlib.Core.List.{List, [], _∷_}
 use lib.ListN.{length, getD}
-use lib.Dec.{eqb, ltb, leb}
+use lib.Dec.{eqb, ltb}
 use Rattle.wire.specs.Number.{natAt}
-use Rattle.wire.specs.Checks.{Check, check, refusal}
+use Rattle.wire.specs.Checks.{Check, commandChecks, refusal}
 
 -- the commands of a part, where S is what has been read so far
 pub record Part (S : Type 0) : Type 0 where
@@ -47,13 +47,11 @@ module _ {S : Type 0} (P : Part S) where
   abbrev pub size : ℕ → ℕ
   size b = suc (total (P .widths b))
 
-  -- all checks of the command at a position: not a command here (1), bytes end early (2), and its own
+  -- all checks of the command at a position
   unfoldable pub checksAt : List ℕ → S → ℕ → List Check
   checksAt s read at =
       let b = getD s at 0 in
-      check 1 (not (P .here read b))
-      ∷ check 2 (ltb (length s - at) (size b))
-      ∷ P .checks read b (operandsAt (P .widths b) s (at + 1))
+      commandChecks (P .here read b) (length s - at) (size b) (P .checks read b (operandsAt (P .widths b) s (at + 1)))
 
   -- what has been read after the command at a position
   unfoldable pub afterAt : List ℕ → S → ℕ → S

@@ -26,9 +26,10 @@ pub record Row (R : Type 0) : Type 0 where
   -- it ends the part
   pub last : Bool
 
-unfoldable pub isAmong : ℕ → List ℕ → Bool
+abbrev pub isAmong : ℕ → List ℕ → Bool
 isAmong b [] = false
-isAmong b (c ∷ cs) = eqb b c || isAmong b cs
+isAmong b (c ∷ []) = eqb b c
+isAmong b (c ∷ (d ∷ cs)) = eqb b c || isAmong b (d ∷ cs)
 
 -- a byte that is no command of the part
 abbrev pub noRow : {R : Type 0} → Row R

@@ -1,15 +1,14 @@
 // Little-endian numbers at a position of a slice, read and written, and the checks that every command has.
 ghost use mathlib.Core.Path.{_≡_};
-ghost use mathlib.Core.Bool.{cond, not};
-ghost use mathlib.Core.List.{[], _∷_};
+ghost use mathlib.Core.Bool.{cond};
+ghost use mathlib.Core.List.{[]};
 ghost use Prim.Native.Nat.{_+_, _≤_, _^_};
 ghost use lib.ListN.{length};
-ghost use lib.Dec.{ltb};
 ghost use lib.IntN.{natAbs};
 ghost use mir.Syntax.{Width, w16, w32, w64};
 ghost use mir.Val.{toZ, ofZ, bits};
 ghost use Rattle.wire.specs.Number.{natAt, intAt, putAt};
-ghost use Rattle.wire.specs.Checks.{check, refusal};
+ghost use Rattle.wire.specs.Checks.{commandChecks, refusal};
 
 pub fn u8_at(bytes: &[u8], at: usize) -> u8
     requires { ⌜ at + 1 ≤ length (now bytes) ⌝ }
@@ -156,7 +155,7 @@ pub fn first_of(test: bool, number: u8, rest: u8) -> u8
 
 // The refusal that the checks of every command lead to, or 0: that it may stand here, and that its bytes are there.
 pub fn command_refusal(here: bool, left: usize, size: usize) -> u8
-    ensures { λ r. ⌜ r ≡ refusal (check 1 (not here) ∷ check 2 (ltb left size) ∷ []) ⌝ }
+    ensures { λ r. ⌜ r ≡ refusal (commandChecks here left size []) ⌝ }
 {
     first_of(!here, 1, first_of(left < size, 2, 0))
 }

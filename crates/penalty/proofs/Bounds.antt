@@ -1,0 +1,65 @@
+-- How large the numbers of the tables of g and h become, for a register and a scheme within the limits.
+use mathlib.Core.Bool.{Bool, true, false, cond}
+use mathlib.Core.List.{[], _∷_}
+use mathlib.Core.Path.{_≡_}
+use Prim.Native.Nat.{ℕ, _+_, _*_, _≤_}
+use native.Mathlib.Nat.{le-refl, mul-le-mul}
+use native.Mathlib.Omega.{arith}
+use lib.Dec.{eqb}
+use lib.IntN.{ℤ, natAbs}
+use Rattle.integers.specs.Lists.{joinBelow}
+use Rattle.forms.specs.Form.{mono, place, times}
+use Rattle.forms.proofs.Store.{norm1, norm1-∷, norm1-append, norm1-join, norm1-times}
+use Rattle.register.specs.declared.Register.{Register}
+use Rattle.register.specs.Limits.{maxBase, maxTerms, maxCoefficient}
+use Rattle.register.specs.Register.{coefficient}
+use Rattle.register.specs.Valid.{Within}
+use Rattle.scheme.specs.declared.Scheme.{Scheme}
+use Rattle.scheme.specs.Scheme.{maxProducts, left, right, splitLeft, splitRight}
+use Rattle.scheme.specs.Function.{term, termOf, g}
+use Rattle.penalty.specs.Weights.{weight}
+use Rattle.penalty.specs.Penalty.{bracket, bracketOf, penaltyOf, h}
+use Rattle.penalty.proofs.Weights.{weight-small}
+
+pub norm1-term : (l r : ℕ) (c : ℤ) → norm1 (term l r c) ≡ natAbs c * 2
+unfolding term norm1
+norm1-term l r c = go (eqb l r)
+  where
+    go : (e : Bool) → norm1 (cond e (mono 0 (place l) c ∷ []) (mono (place l) (place r) c ∷ [])) ≡ natAbs c * 2
+    go true = omega arith
+    go false = omega arith
+
+pub norm1-bracket : (k l r : ℕ) → norm1 (bracket k l r) ≤ 16
+unfolding bracket norm1
+norm1-bracket k l r = omega arith
+
+-- h is g and the penalties
+pub norm1-h : (c : ℕ → ℤ) (r : Register) (s : Scheme) → norm1 (h c r s) ≡ norm1 (g c r s) + norm1 (joinBelow (s .products) (penaltyOf c r s))
+unfolding h
+norm1-h c r s = norm1-append (g c r s) _
+
+module _ (r : Register) (s : Scheme) (within : Within r) where
+  -- the first terms, and the first penalties
+
+  pub terms-norm : (n : ℕ) → n ≤ r .terms → norm1 (joinBelow n (termOf (coefficient r) s)) ≤ 2 * maxCoefficient * n
+  terms-norm n h =
+      norm1-join n (2 * maxCoefficient) (termOf (coefficient r) s)
+      (λ t l. omega (arith, norm1-term (splitLeft s t) (splitRight s t) (coefficient r t), within .terms t (omega arith) .coefficient-within))
+
+  pub penalties-norm : (n : ℕ) → norm1 (joinBelow n (penaltyOf (coefficient r) r s)) ≤ 16 * (maxTerms * maxCoefficient) * n
+  penalties-norm n =
+      norm1-join n (16 * (maxTerms * maxCoefficient)) (penaltyOf (coefficient r) r s)
+      (λ i l. small (r .choices + i))
+    where
+      small : (k : ℕ) → norm1 (times (weight (coefficient r) r s k) (bracketOf (r .choices) s k)) ≤ 16 * (maxTerms * maxCoefficient)
+      small k =
+          rw norm1-times
+          (omega (arith, mul-le-mul (weight-small r s k within) (norm1-bracket k (left (r .choices) s k) (right (r .choices) s k))))
+
+  pub g-norm : norm1 (g (coefficient r) r s) ≤ 2 * (maxBase + maxTerms * maxCoefficient)
+  unfolding g
+  g-norm =
+      omega (arith, norm1-∷ (mono 0 0 (r .base)) (joinBelow (r .terms) (termOf (coefficient r) s)), terms-norm (r .terms) (le-refl _), within .base, within .terms-within)
+
+  pub h-norm : s .products ≤ maxProducts → norm1 (h (coefficient r) r s) ≤ 2 * (maxBase + maxTerms * maxCoefficient) + maxProducts * (16 * (maxTerms * maxCoefficient))
+  h-norm l = omega (arith, norm1-h (coefficient r) r s, g-norm, penalties-norm (s .products))

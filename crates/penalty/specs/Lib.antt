@@ -1,0 +1,5 @@
+-- The penalty form.
+pub mod Weights
+pub mod Penalty
+pub mod Carried
+pub mod Least

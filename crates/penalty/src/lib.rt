@@ -1,0 +1,1 @@
+// The penalty form of a register and a scheme.

@@ -1,0 +1,3 @@
+-- Part 4 of the job file, and the cost of a plan.
+pub mod Plan
+pub mod Format

@@ -1,0 +1,1 @@
+// Part 4 of the job file, the plan, and its cost.

@@ -1,0 +1,5 @@
+pub mod Worked
+pub mod Commands
+pub mod Passes
+pub mod Going
+pub mod Answers

@@ -1,0 +1,34 @@
+-- The rows of the paper's refusal table that speak of the register, and its example.
+use mathlib.Core.Path.{_≡_, refl}
+use mathlib.Core.List.{List, [], _∷_, map}
+use Prim.Native.Nat.{ℕ}
+use Rattle.wire.specs.Number.{natAt, little}
+use Rattle.wire.specs.Checks.{refusal, commandChecks}
+use Rattle.wire.specs.Part.{Reading, refused, accepted, operandsAt, total, checksAt, afterAt, command, step, follow, run, readFrom, readPart, byItself}
+use Rattle.wire.specs.Rows.{Progress, rowOf}
+use Rattle.register.specs.Register.{fresh}
+use Rattle.integers.specs.Lists.{comesBefore}
+use Rattle.register.specs.declared.Register.{Register}
+use Rattle.register.specs.Format.{baseChecks, choiceChecks, termChecks, endChecks, registerInJob, registerByItself}
+
+-- number and position of a refusal, 0 and the position past the end where there is none
+abbrev answer : Reading (Progress Register) → ℕ × ℕ
+answer (refused number at) = (number, at)
+answer (accepted p end) = (0, end)
+
+-- the example's part 1
+abbrev example : List ℕ
+example = 0x10 ∷ 0x0A ∷ 0 ∷ 0 ∷ 0 ∷ 0x11 ∷ 4 ∷ 0 ∷ 0xE0 ∷ 1 ∷ 0x11 ∷ 4 ∷ 0 ∷ 0xD0 ∷ 2 ∷ 0x11 ∷ 7 ∷ 0 ∷ 0xE0 ∷ 1 ∷ 0x12 ∷ 1 ∷ 0 ∷ 0 ∷ 0 ∷ 0xFA ∷ 0xFF ∷ 0xFF ∷ 0xFF ∷ 0x12 ∷ 2 ∷ 0 ∷ 0 ∷ 0 ∷ 0xFC ∷ 0xFF ∷ 0xFF ∷ 0xFF ∷ 0x12 ∷ 7 ∷ 0 ∷ 0 ∷ 0 ∷ 5 ∷ 0 ∷ 0 ∷ 0 ∷ 0x1F ∷ []
+
+answers : map (λ s. answer (registerByItself s))
+    (example
+    ∷ (0x7E ∷ [])
+    ∷ []
+    ∷ (0x10 ∷ 0 ∷ 0 ∷ 0 ∷ 0 ∷ 0x1F ∷ [])
+    ∷ (0x10 ∷ 0 ∷ 0 ∷ 0 ∷ 0 ∷ 0x11 ∷ 0 ∷ 0 ∷ 0 ∷ 0 ∷ [])
+    ∷ (0x10 ∷ 0 ∷ 0 ∷ 0 ∷ 0 ∷ 0x11 ∷ 1 ∷ 0 ∷ 0 ∷ 0 ∷ 0x12 ∷ 2 ∷ 0 ∷ 0 ∷ 0 ∷ 1 ∷ 0 ∷ 0 ∷ 0 ∷ [])
+    ∷ (0x10 ∷ 0 ∷ 0 ∷ 0 ∷ 0 ∷ 0x11 ∷ 2 ∷ 0 ∷ 0 ∷ 0 ∷ 0x11 ∷ 1 ∷ 0 ∷ 0 ∷ 0 ∷ [])
+    ∷ [])
+    ≡ (0, 48) ∷ (1, 0) ∷ (2, 0) ∷ (3, 5) ∷ (4, 5) ∷ (5, 10) ∷ (7, 10) ∷ []
+unfolding registerByItself registerInJob byItself readPart readFrom run follow step command commandChecks checksAt afterAt operandsAt total natAt little refusal rowOf fresh baseChecks choiceChecks termChecks endChecks comesBefore
+answers = refl

@@ -1,0 +1,96 @@
+-- The register's commands: `10` base cost, `11` choice, `12` term, `1F` end.
+use Prim.Native.Nat.{ℕ, _-_, _^_}
+use mathlib.Core.Bool.{true, false, not, _||_}
+use mathlib.Core.List.{List, [], _∷_}
+use lib.Dec.{ltb, leb, eqb}
+use lib.IntN.{ℤ, natAbs}
+use mir.Syntax.{w32}
+use mir.Val.{toZ}
+use Rattle.integers.specs.Lists.{comesBefore}
+use Rattle.wire.specs.Checks.{Check, check}
+use Rattle.wire.specs.Part.{Part, Reading, readPart, byItself}
+use Rattle.wire.specs.Rows.{Progress, Row, partOf, unary, binary}
+use Rattle.register.specs.declared.Register.{Register}
+use Rattle.register.specs.Limits.{maxChoices, maxTerms, maxBase, maxTank, maxMinute, maxCoefficient}
+use Rattle.register.specs.Register.{tank, minute, mask, fresh, withBase, withChoice, withTerm}
+
+-- base cost within ±1,000,000,000
+unfoldable pub baseChecks : ℤ → List Check
+baseChecks base = check 4 (ltb maxBase (natAbs base)) ∷ []
+
+-- `10` base cost i32, once, first
+abbrev pub baseRow : Row Register
+baseRow = record {
+  byte = 0x10;
+  follows = 0 ∷ [];
+  widths = 4 ∷ [];
+  checks = λ r. unary λ base. baseChecks (toZ w32 base);
+  after = λ r. unary λ base. withBase r (toZ w32 base);
+  last = false;
+}
+
+-- up to 32 choices, in their ranges, rising strictly by tank, then minute: n choices were read, the last with tank₀, minute₀
+unfoldable pub choiceChecks : (n tank₀ minute₀ tank minute : ℕ) → List Check
+choiceChecks n tank₀ minute₀ tank minute =
+    check 3 (leb maxChoices n)
+    ∷ check 4 (eqb tank 0 || ltb maxTank tank || ltb maxMinute minute)
+    ∷ check 7 (not (eqb n 0 || comesBefore (tank₀ ∷ minute₀ ∷ []) (tank ∷ minute ∷ [])))
+    ∷ []
+
+-- `11` choice: tank u16, minute u16. All `11` come before all `12`
+abbrev pub choiceRow : Row Register
+choiceRow = record {
+  byte = 0x11;
+  follows = 0x10 ∷ 0x11 ∷ [];
+  widths = 2 ∷ 2 ∷ [];
+  checks = λ r. let previous = r .choices - 1 in binary (choiceChecks (r .choices) (tank r previous) (minute r previous));
+  after = λ r. binary (withChoice r);
+  last = false;
+}
+
+-- up to 256 terms, coefficients within ±1,000,000 and not 0, masks that name choices, rising strictly: n choices and m terms
+-- were read, the last term with mask₀
+unfoldable pub termChecks : (n m mask₀ mask : ℕ) → ℤ → List Check
+termChecks n m mask₀ mask coefficient =
+    check 3 (leb maxTerms m)
+    ∷ check 4 (eqb (natAbs coefficient) 0 || ltb maxCoefficient (natAbs coefficient))
+    ∷ check 5 (eqb mask 0 || leb (2 ^ n) mask)
+    ∷ check 7 (not (eqb m 0 || ltb mask₀ mask))
+    ∷ []
+
+-- `12` term: mask u32, coefficient i32
+abbrev pub termRow : Row Register
+termRow = record {
+  byte = 0x12;
+  follows = 0x10 ∷ 0x11 ∷ 0x12 ∷ [];
+  widths = 4 ∷ 4 ∷ [];
+  checks = λ r. binary λ m c. termChecks (r .choices) (r .terms) (mask r (r .terms - 1)) m (toZ w32 c);
+  after = λ r. binary λ m c. withTerm r m (toZ w32 c);
+  last = false;
+}
+
+-- there is at least one choice; there may be no term
+unfoldable pub endChecks : ℕ → List Check
+endChecks n = check 3 (eqb n 0) ∷ []
+
+-- `1F` end
+abbrev pub endRow : Row Register
+endRow = record {
+  byte = 0x1F;
+  follows = 0x10 ∷ 0x11 ∷ 0x12 ∷ [];
+  widths = [];
+  checks = λ r xs. endChecks (r .choices);
+  after = λ r xs. r;
+  last = true;
+}
+
+abbrev pub registerPart : Part (Progress Register)
+registerPart = partOf fresh (baseRow ∷ choiceRow ∷ termRow ∷ endRow ∷ [])
+
+-- the register at the front of a run of bytes, as in a job
+unfoldable pub registerInJob : List ℕ → Reading (Progress Register)
+registerInJob s = readPart registerPart s
+
+-- the register as a run of bytes by itself
+unfoldable pub registerByItself : List ℕ → Reading (Progress Register)
+registerByItself s = byItself s (registerInJob s)

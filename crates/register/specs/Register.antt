@@ -1,0 +1,69 @@
+-- The register's record: its entries, the fresh one, and one more choice or term.
+use Prim.Native.Nat.{ℕ, suc}
+use lib.ListN.{getD, set, replicate}
+use lib.IntN.{ℤ, pos}
+use Rattle.register.specs.declared.Register.{Register}
+use Rattle.register.specs.Limits.{maxChoices, maxTerms}
+
+-- choice i: its tank and its minute
+
+abbrev pub tank : Register → ℕ → ℕ
+tank r i = getD (r .tanks) i 0
+
+abbrev pub minute : Register → ℕ → ℕ
+minute r i = getD (r .minutes) i 0
+
+-- term t: its mask, in which bit i names choice i, and its coefficient
+
+abbrev pub mask : Register → ℕ → ℕ
+mask r t = getD (r .masks) t 0
+
+abbrev pub coefficient : Register → ℕ → ℤ
+coefficient r t = getD (r .coefficients) t (pos 0)
+
+-- no base cost, no choice, no term; every entry is 0
+unfoldable pub fresh : Register
+fresh = record {
+  base = pos 0;
+  choices = 0;
+  terms = 0;
+  tanks = replicate maxChoices 0;
+  minutes = replicate maxChoices 0;
+  masks = replicate maxTerms 0;
+  coefficients = replicate maxTerms (pos 0);
+}
+
+abbrev pub withBase : Register → ℤ → Register
+withBase r base = record {
+  base = base;
+  choices = r .choices;
+  terms = r .terms;
+  tanks = r .tanks;
+  minutes = r .minutes;
+  masks = r .masks;
+  coefficients = r .coefficients;
+}
+
+-- one choice more; choices are numbered from 0
+abbrev pub withChoice : Register → ℕ → ℕ → Register
+withChoice r tank minute = record {
+  base = r .base;
+  choices = suc (r .choices);
+  terms = r .terms;
+  tanks = set (r .tanks) (r .choices) tank;
+  minutes = set (r .minutes) (r .choices) minute;
+  masks = r .masks;
+  coefficients = r .coefficients;
+}
+
+-- one term more
+abbrev pub withTerm : Register → ℕ → ℤ → Register
+withTerm r mask coefficient = record {
+  base = r .base;
+  choices = r .choices;
+  terms = suc (r .terms);
+  tanks = r .tanks;
+  minutes = r .minutes;
+  masks = set (r .masks) (r .terms) mask;
+  coefficients = set (r .coefficients) (r .terms) coefficient;
+}

@@ -1,0 +1,3 @@
+pub mod Variables
+pub mod Function
+pub mod Filling

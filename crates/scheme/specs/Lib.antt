@@ -1,0 +1,7 @@
+-- Part 2 of the job file: the scheme (a quadratization), its variables and their sets, fillings, and the function g.
+pub mod Scheme
+pub mod Variables
+pub mod Format
+pub mod Valid
+pub mod Filling
+pub mod Function
