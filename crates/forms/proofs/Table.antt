@@ -1,9 +1,9 @@
 -- Laws of the flat table: the number of row i and column j stands at i n + j, a run with a table at its front is known by its
 -- numbers, and the sum of a form's table is exactly twice the form's value.
 use Prim.Native.Nat.{ℕ, zero, suc, _+_, _*_, _-_, _/_, _%_, _≤_, _<_}
-use mathlib.Core.Path.{_≡_, refl, sym, _∙_, ap, ap₂}
+use mathlib.Core.Path.{_≡_, refl, sym, _∙_, ap}
 use mathlib.Core.List.{List, [], _∷_, _++_}
-use native.Mathlib.Nat.{zero-mul, suc-mul, mul-one, add-zero, div-add-mod', mod-lt, div-lt-iff-lt-mul}
+use native.Mathlib.Nat.{mul-one, add-zero, div-add-mod', mod-lt, div-lt-iff-lt-mul}
 use native.Mathlib.Omega.{arith}
 use native.Mathlib.Decide.{decLt}
 use lib.Arith.{digits-div, digits-mod, digits-lt}
@@ -11,37 +11,13 @@ use lib.ListN.{length, getD, drop, length-append, length-drop, List·getD-append
 use lib.Seq.{getD-append-add, getD-drop, ext-getD}
 use lib.IntN.{ℤ, pos, negsuc, negℤ, _*ℤ_}
 use lib.Signed.{quotZ}
-use Rattle.integers.specs.Lists.{joinBelow}
 use Rattle.integers.specs.Quadratic.{quadratic}
+use Rattle.integers.proofs.Join.{join-cong, length-join, getD-join}
 use Rattle.integers.proofs.Sum.{sumBelow-cong, sumBelow-rows}
 use Rattle.integers.proofs.Quadratic.{quadratic-cong}
 use Rattle.forms.specs.Form.{Form, value, entry}
 use Rattle.forms.specs.Table.{row, rows, withTable, tableSum, tableValue}
 use Rattle.forms.proofs.Form.{Below, form-law}
-
--- ---- lists of one length, one after the other
-
-pub join-cong {ℓ} : {A : Type ℓ} (n : ℕ) (f g : ℕ → List A) → ((i : ℕ) → i < n → f i ≡ g i) → joinBelow n f ≡ joinBelow n g
-unfolding joinBelow
-join-cong zero f g h = refl
-join-cong (suc n) f g h = ap₂ _++_ (join-cong n f g (λ i l. h i (omega arith))) (h n (omega arith))
-
-pub length-join {ℓ} : {A : Type ℓ} (n w : ℕ) (f : ℕ → List A) → ((i : ℕ) → length (f i) ≡ w) → length (joinBelow n f) ≡ n * w
-unfolding joinBelow
-length-join zero w f h = sym (zero-mul w)
-length-join (suc n) w f h = length-append (joinBelow n f) (f n) ∙ ap₂ _+_ (length-join n w f h) (h n) ∙ sym (suc-mul n w)
-
-pub getD-join {ℓ} : {A : Type ℓ} (n w : ℕ) (f : ℕ → List A) → ((i : ℕ) → length (f i) ≡ w) → (i j : ℕ) (d : A) → i < n → j < w → getD (joinBelow n f) (i * w + j) d ≡ getD (f i) j d
-unfolding joinBelow
-getD-join zero w f h i j d l k = absurd (omega arith)
-getD-join (suc n) w f h i j d l k = go (λ m. getD-join n w f h i j d m k) (decLt i n)
-  where
-    len : length (joinBelow n f) ≡ n * w
-    len = length-join n w f h
-
-    go : (i < n → getD (joinBelow n f) (i * w + j) d ≡ getD (f i) j d) → Dec (i < n) → getD (joinBelow n f ++ f n) (i * w + j) d ≡ getD (f i) j d
-    go rec (yes m) = List·getD-append (joinBelow n f) (f n) d (i * w + j) (rw len (digits-lt m k)) ∙ rec m
-    go rec (no m) = let e : i ≡ n = omega arith in rw (e, ← len) (getD-append-add (joinBelow n f) (f n) j d)
 
 -- ---- the table at the front of a run
 

@@ -2,20 +2,22 @@
 -- So a symmetric matrix that is diagonally dominant is positive semidefinite.
 use mathlib.Core.Path.{_≡_, refl, sym, _∙_, ap}
 use mathlib.Core.List.{[], _∷_}
-use Prim.Native.Nat.{ℕ, suc, _<_}
+use Prim.Native.Nat.{ℕ, suc, _*_, _≤_, _<_}
 use native.Mathlib.Omega.{arith}
 use native.Mathlib.Decide.{ℕ-discrete}
-use lib.IntN.{ℤ, pos, negsuc, negℤ, _+ℤ_, _-ℤ_, _*ℤ_, zero-*ℤ}
+use lib.IntN.{ℤ, pos, natAbs, negsuc, negℤ, _+ℤ_, _-ℤ_, _*ℤ_, zero-*ℤ}
 use lib.Signed.{_≤ℤ_, ≤ℤ-refl}
 use Rattle.integers.specs.Quadratic.{Symmetric, offDiagonal, DiagonallyDominant}
 use Rattle.integers.specs.Integer.{abs}
 use Rattle.integers.proofs.Diff.{diff₄, diffs}
 use Rattle.integers.proofs.Ring.{*ℤ-distribˡ, *ℤ-sub-distribʳ, *ℤ-assoc}
 use Rattle.integers.proofs.Solver.{quote, atoms, ring}
-use Rattle.integers.proofs.Order.{≤ℤ-by, ≤ℤ-sub, ≤ℤ-trans, nonneg, pos-nonneg, square-nonneg, *ℤ-nonneg}
+use Rattle.integers.proofs.Order.{abs-nonneg, ≤ℤ-by, ≤ℤ-sub, ≤ℤ-trans, nonneg, pos-nonneg, square-nonneg, *ℤ-nonneg}
 use Rattle.integers.specs.Quadratic.{quadratic, Semidefinite}
 use Rattle.integers.specs.Sum.{sumBelow, except}
-use Rattle.integers.proofs.Sum.{sumBelow-cong, linear, sumBelow-swap, sumBelow-split, sumBelow-nonneg, except-same, except-other}
+use lib.Dec.{eqb}
+use Rattle.integers.proofs.Lists.{cond-cases}
+use Rattle.integers.proofs.Sum.{natAbs-sum, sumBelow-cong, linear, sumBelow-swap, sumBelow-split, sumBelow-nonneg, except-same, except-other}
 
 -- |c| (u² + v²) + 2 c u v is |c| (u ± v)²
 weighted : (c u v : ℤ) → pos 0 ≤ℤ (abs c *ℤ (u *ℤ u +ℤ v *ℤ v) +ℤ pos 2 *ℤ (c *ℤ u *ℤ v))
@@ -97,3 +99,17 @@ dominant→semidefinite n a symmetric dominant x =
     ≤ℤ-trans _ _ _
     (sumBelow-nonneg n _ (λ i l. *ℤ-nonneg _ _ (≤ℤ-sub _ _ .0 (dominant i l)) (square-nonneg (x i))))
     (gerschgorin n a symmetric x)
+
+-- ---- the sum beside the diagonal
+
+pub offDiagonal-nonneg : (n : ℕ) (t : ℕ → ℕ → ℤ) (i : ℕ) → pos 0 ≤ℤ offDiagonal n t i
+unfolding offDiagonal except
+offDiagonal-nonneg n t i = sumBelow-nonneg n _ (λ j h. cond-cases (λ x. pos 0 ≤ℤ x) (eqb j i) (pos 0) (abs (t i j)) (λ _. ≤ℤ-refl (pos 0)) (λ _. abs-nonneg (t i j)))
+
+pub offDiagonal-small : (n b : ℕ) (a : ℕ → ℕ → ℤ) (i : ℕ) → ((j : ℕ) → j < n → natAbs (a i j) ≤ b) → natAbs (offDiagonal n a i) ≤ b * n
+unfolding offDiagonal abs
+offDiagonal-small n b a i h = natAbs-sum n b _ (λ j l. go j l (ℕ-discrete j i))
+  where
+    go : (j : ℕ) → j < n → Dec (j ≡ i) → natAbs (except i (λ j. pos (natAbs (a i j))) j) ≤ b
+    go j l (yes e) = rw (e, except-same) (omega arith)
+    go j l (no d) = rw (except-other i (λ j. pos (natAbs (a i j))) j d) (h j l)

@@ -4,6 +4,7 @@ pub mod Ring
 pub mod Solver
 pub mod Order
 pub mod Lists
+pub mod Join
 pub mod Sum
 pub mod Quadratic
 pub mod Gerschgorin

@@ -1,6 +1,6 @@
 -- Tests, bits and lists: what the laws of sums, forms and sets share.
 use mathlib.Core.Path.{_≡_, refl, _∙_}
-use mathlib.Core.Logic.{_↔_, _⊎_, inl, inr}
+use mathlib.Core.Logic.{_↔_, _⊎_, inl, inr, ⊎-elim}
 use mathlib.Core.Bool.{Bool, true, false, cond, _&&_, _||_, not, true≢false, false≢true}
 use mathlib.Core.List.{List, [], _∷_, _++_}
 use Prim.Native.Nat.{ℕ, zero, suc, _<_}
@@ -18,6 +18,10 @@ use Rattle.integers.proofs.Ring.{one-*ℤ}
 pub T-and : (a b : Bool) → T (a && b) ↔ (T a × T b)
 T-and true b = ((λ t. (tt, t)), (λ t. t .1))
 T-and false b = ((λ t. absurd t), (λ t. absurd (t .0)))
+
+pub T-or : (a b : Bool) → T (a || b) ↔ (T a ⊎ T b)
+T-or true b = ((λ t. inl tt), (λ t. tt))
+T-or false b = ((λ t. inr t), (λ t. ⊎-elim (λ f. absurd f) (λ u. u) t))
 
 -- two tests that pass together are one
 pub T-ext : (a b : Bool) → T a ↔ T b → a ≡ b

@@ -15,7 +15,7 @@ use Rattle.integers.specs.Sum.{sumBelow, sumOver, except}
 use Rattle.integers.specs.Integer.{abs}
 use Rattle.integers.proofs.Diff.{diff₂, diff₃, diffs}
 use Rattle.integers.proofs.Ring.{+ℤ-interchange, *ℤ-distribˡ}
-use Rattle.integers.proofs.Order.{+ℤ-mono, +ℤ-nonneg, ≤ℤ-+ʳ}
+use Rattle.integers.proofs.Order.{+ℤ-mono, +ℤ-nonneg, ≤ℤ-+ʳ, natAbs-+}
 
 pub sumBelow-zero : (f : ℕ → ℤ) → sumBelow 0 f ≡ pos 0
 unfolding sumBelow
@@ -258,3 +258,8 @@ unfolding sumOver
 sumOver-swap n [] f = sumBelow-0 n
 sumOver-swap n (x ∷ l) f =
     sumBelow-+ n (λ i. f i x) (λ i. sumOver l (f i)) ∙ ap (λ u. sumBelow n (λ i. f i x) +ℤ u) (sumOver-swap n l f)
+
+pub natAbs-sumOver {ℓ} : {A : Type ℓ} (b : ℕ) (l : List A) (f : A → ℤ) → All (λ x. natAbs (f x) ≤ b) l → natAbs (sumOver l f) ≤ b * length l
+unfolding sumOver
+natAbs-sumOver b [] f h = omega arith
+natAbs-sumOver b (x ∷ l) f h = omega (arith, natAbs-+ (f x) (sumOver l f), h .0, natAbs-sumOver b l f (h .1))

@@ -1,33 +1,23 @@
 -- How large the numbers of the tables of g and h become, for a register and a scheme within the limits.
-use mathlib.Core.Bool.{Bool, true, false, cond}
-use mathlib.Core.List.{[], _∷_}
 use mathlib.Core.Path.{_≡_}
 use Prim.Native.Nat.{ℕ, _+_, _*_, _≤_}
-use native.Mathlib.Nat.{le-refl, mul-le-mul}
+use native.Mathlib.Nat.{mul-le-mul}
 use native.Mathlib.Omega.{arith}
-use lib.Dec.{eqb}
-use lib.IntN.{ℤ, natAbs}
+use lib.IntN.{ℤ}
 use Rattle.integers.specs.Lists.{joinBelow}
-use Rattle.forms.specs.Form.{mono, place, times}
-use Rattle.forms.proofs.Store.{norm1, norm1-∷, norm1-append, norm1-join, norm1-times}
+use Rattle.forms.specs.Form.{times}
+use Rattle.forms.proofs.Store.{norm1, norm1-append, norm1-join, norm1-times}
 use Rattle.register.specs.declared.Register.{Register}
 use Rattle.register.specs.Limits.{maxBase, maxTerms, maxCoefficient}
 use Rattle.register.specs.Register.{coefficient}
 use Rattle.register.specs.Valid.{Within}
 use Rattle.scheme.specs.declared.Scheme.{Scheme}
-use Rattle.scheme.specs.Scheme.{maxProducts, left, right, splitLeft, splitRight}
-use Rattle.scheme.specs.Function.{term, termOf, g}
+use Rattle.scheme.specs.Scheme.{maxProducts, left, right}
+use Rattle.scheme.specs.Function.{g}
 use Rattle.penalty.specs.Weights.{weight}
 use Rattle.penalty.specs.Penalty.{bracket, bracketOf, penaltyOf, h}
+use Rattle.scheme.proofs.Table.{norm1-g}
 use Rattle.penalty.proofs.Weights.{weight-small}
-
-pub norm1-term : (l r : ℕ) (c : ℤ) → norm1 (term l r c) ≡ natAbs c * 2
-unfolding term norm1
-norm1-term l r c = go (eqb l r)
-  where
-    go : (e : Bool) → norm1 (cond e (mono 0 (place l) c ∷ []) (mono (place l) (place r) c ∷ [])) ≡ natAbs c * 2
-    go true = omega arith
-    go false = omega arith
 
 pub norm1-bracket : (k l r : ℕ) → norm1 (bracket k l r) ≤ 16
 unfolding bracket norm1
@@ -39,13 +29,7 @@ unfolding h
 norm1-h c r s = norm1-append (g c r s) _
 
 module _ (r : Register) (s : Scheme) (within : Within r) where
-  -- the first terms, and the first penalties
-
-  pub terms-norm : (n : ℕ) → n ≤ r .terms → norm1 (joinBelow n (termOf (coefficient r) s)) ≤ 2 * maxCoefficient * n
-  terms-norm n h =
-      norm1-join n (2 * maxCoefficient) (termOf (coefficient r) s)
-      (λ t l. omega (arith, norm1-term (splitLeft s t) (splitRight s t) (coefficient r t), within .terms t (omega arith) .coefficient-within))
-
+  -- the first penalties
   pub penalties-norm : (n : ℕ) → norm1 (joinBelow n (penaltyOf (coefficient r) r s)) ≤ 16 * (maxTerms * maxCoefficient) * n
   penalties-norm n =
       norm1-join n (16 * (maxTerms * maxCoefficient)) (penaltyOf (coefficient r) r s)
@@ -57,9 +41,7 @@ module _ (r : Register) (s : Scheme) (within : Within r) where
           (omega (arith, mul-le-mul (weight-small r s k within) (norm1-bracket k (left (r .choices) s k) (right (r .choices) s k))))
 
   pub g-norm : norm1 (g (coefficient r) r s) ≤ 2 * (maxBase + maxTerms * maxCoefficient)
-  unfolding g
-  g-norm =
-      omega (arith, norm1-∷ (mono 0 0 (r .base)) (joinBelow (r .terms) (termOf (coefficient r) s)), terms-norm (r .terms) (le-refl _), within .base, within .terms-within)
+  g-norm = omega (arith, norm1-g (coefficient r) r s maxCoefficient (λ t l. within .terms t l .coefficient-within), within .base, within .terms-within)
 
   pub h-norm : s .products ≤ maxProducts → norm1 (h (coefficient r) r s) ≤ 2 * (maxBase + maxTerms * maxCoefficient) + maxProducts * (16 * (maxTerms * maxCoefficient))
   h-norm l = omega (arith, norm1-h (coefficient r) r s, g-norm, penalties-norm (s .products))

@@ -53,13 +53,13 @@ module _ (c : ℕ → ℤ) (r : Register) (s : Scheme) (valid : Valid r s) where
   pub same-least : (f : Filling → ℤ) → ((z : Filling) → f z ≡ value (factor z) (h c r s)) → SameLeast c r f
   same-least f is-h = record {
     least = m;
-    overFillings = record { place = induced n s (b .at); reached = is-h _ ∙ induced-value c r s valid (b .at); lowest = λ z. ≤ℤ-trans _ _ _ (below z) (penalised z) };
+    overFillings = record { witness = induced n s (b .at); reached = is-h _ ∙ induced-value c r s valid (b .at); lowest = λ z. ≤ℤ-trans _ _ _ (below z) (penalised z) };
     overPlans = record {
-      place = record { fed = b .at; inside = omega (arith, pow-pos n, b .inside) };
+      witness = record { fed = b .at; inside = omega (arith, pow-pos n, b .inside) };
       reached = refl;
       lowest = λ p. b .lowest (p .fed) (omega (arith, p .inside));
     };
-    carries = λ z e. ≤ℤ-antisym _ _ (≤ℤ-trans _ _ _ (penalised z) (≡→≤ℤ _ _ e)) (below z);
+    minimisers = λ z e. ≤ℤ-antisym _ _ (≤ℤ-trans _ _ _ (penalised z) (≡→≤ℤ _ _ e)) (below z);
   }
     where
       n : ℕ

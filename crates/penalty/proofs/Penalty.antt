@@ -3,11 +3,9 @@
 use mathlib.Core.Path.{_≡_, refl, sym, _∙_, ap, ap₂}
 use mathlib.Core.Logic.{_⊎_, inl, inr}
 use mathlib.Core.Bool.{Bool, true, false, cond, _&&_}
-use mathlib.Core.List.{[], _∷_}
 use Prim.Native.Nat.{ℕ, zero, suc, _+_, _-_, _≤_, _<_}
 use native.Mathlib.Nat.{le-refl}
 use native.Mathlib.Omega.{arith}
-use lib.Dec.{eqb}
 use lib.IntN.{ℤ, pos, _+ℤ_, _*ℤ_, *ℤ-zero, +ℤ-assoc, +ℤ-idr}
 use lib.Signed.{_≤ℤ_, ≤ℤ-refl}
 use Rattle.integers.specs.Integer.{abs}
@@ -18,7 +16,7 @@ use Rattle.integers.proofs.Order.{≤ℤ-trans, ≤ℤ-+ʳ, +ℤ-mono, *ℤ-mon
 use Rattle.integers.proofs.Sum.{sumBelow-cong, sumBelow-mono, sumBelow-0, sumBelow-+, sumBelow-*ˡ, sumBelow-*ʳ, sumBelow-swap, sumBelow-nonneg, sumBelow-member}
 use Rattle.sets.specs.Sets.{isSubset}
 use Rattle.sets.proofs.Sets.{subset-or}
-use Rattle.forms.specs.Form.{mono, place, value}
+use Rattle.forms.specs.Form.{value}
 use Rattle.forms.proofs.Form.{Below, below-[], below-∷, below-append, below-join, below-times, value-append, value-times, value-join}
 use Rattle.register.specs.declared.Register.{Register}
 use Rattle.register.specs.Register.{mask}
@@ -26,14 +24,15 @@ use Rattle.plan.specs.Plan.{cost}
 use Rattle.scheme.specs.declared.Scheme.{Scheme}
 use Rattle.scheme.specs.Scheme.{left, right, side, splitLeft, splitRight}
 use Rattle.scheme.specs.Filling.{Filling, factor, induced}
-use Rattle.scheme.specs.Function.{term, termOf, g}
+use Rattle.scheme.specs.Function.{g}
 use Rattle.scheme.specs.Valid.{Valid, Split}
 use Rattle.scheme.proofs.Function.{value-g}
 use Rattle.scheme.proofs.Filling.{induced-consistent, induced-cost}
 use Rattle.penalty.specs.Weights.{uses, weight}
 use Rattle.penalty.specs.Penalty.{bracket, bracketOf, penaltyOf, h}
 use Rattle.penalty.specs.Carried.{carried}
-use Rattle.penalty.proofs.Weights.{split-of, contribution-*}
+use Rattle.scheme.proofs.Table.{split-of, g-below}
+use Rattle.penalty.proofs.Weights.{contribution-*}
 use Rattle.penalty.proofs.Sets.{Broken, both, monomial-or}
 
 -- ---- h and its brackets
@@ -90,15 +89,7 @@ due-some true false true n = omega arith
 due-some true true false n = omega arith
 due-some true true true n = absurd (n refl)
 
--- ---- all places of g and h are below the side
-
-pub below-term : {n : ℕ} (l r : ℕ) (c : ℤ) → l < n → r < n → Below (suc n) (term l r c)
-unfolding term
-below-term {n} l r c a b = go (eqb l r)
-  where
-    go : (e : Bool) → Below (suc n) (cond e (mono 0 (place l) c ∷ []) (mono (place l) (place r) c ∷ []))
-    go true = below-∷ (omega arith) (omega arith) below-[]
-    go false = below-∷ (omega arith) (omega arith) below-[]
+-- ---- all places of h are below the side
 
 pub below-bracket : {n : ℕ} (k l r : ℕ) → k < n → l < n → r < n → Below (suc n) (bracket k l r)
 unfolding bracket
@@ -107,13 +98,7 @@ below-bracket k l r a b c =
     (below-∷ (omega arith) (omega arith) (below-∷ (omega arith) (omega arith) (below-∷ (omega arith) (omega arith) below-[])))
 
 module _ (c : ℕ → ℤ) (r : Register) (s : Scheme) (valid : Valid r s) where
-  -- the first terms, and the first penalties
-
-  pub below-terms : (n : ℕ) → n ≤ r .terms → Below (side (r .choices) s) (joinBelow n (termOf c s))
-  below-terms n h =
-      below-join n
-      (λ t l. let p = split-of valid t (omega arith) in below-term (splitLeft s t) (splitRight s t) (c t) (omega (arith, p .ordered, p .there)) (p .there))
-
+  -- the first penalties
   pub below-penalties : (n : ℕ) → n ≤ s .products → Below (side (r .choices) s) (joinBelow n (penaltyOf c r s))
   below-penalties n h = below-join n (λ i l. below-times (weight c r s (r .choices + i)) (brackets i (omega arith)))
     where
@@ -123,13 +108,9 @@ module _ (c : ℕ → ℤ) (r : Register) (s : Scheme) (valid : Valid r s) where
           let p = valid .within .products k (omega arith) (omega arith) in
           below-bracket k (left (r .choices) s k) (right (r .choices) s k) (omega arith) (omega (arith, p .ordered, p .falls)) (omega (arith, p .falls))
 
-  pub below-g : Below (side (r .choices) s) (g c r s)
-  unfolding g
-  below-g = below-∷ (omega arith) (omega arith) (below-terms (r .terms) (le-refl _))
-
   pub below-h : Below (side (r .choices) s) (h c r s)
   unfolding h
-  below-h = below-append below-g (below-penalties (s .products) (le-refl _))
+  below-h = below-append (g-below c r s valid) (below-penalties (s .products) (le-refl _))
 
 -- ---- what a term owes: the brackets of the products that it uses
 

@@ -20,14 +20,12 @@ use Rattle.register.specs.Valid.{Within}
 use Rattle.scheme.specs.declared.Scheme.{Scheme}
 use Rattle.scheme.specs.Scheme.{left, right, variables, splitLeft, splitRight}
 use Rattle.scheme.specs.Valid.{Products, Split, Valid}
+use Rattle.integers.proofs.Lists.{T-or}
+use Rattle.scheme.proofs.Table.{split-of}
 use Rattle.scheme.proofs.Variables.{upward-choice, upward-product, left-falls, variable-ind}
 use Rattle.penalty.specs.Weights.{reaches, uses, contribution, weight}
 
 -- ---- which products a variable reaches
-
-T-or : (a b : Bool) → T (a || b) ↔ (T a ⊎ T b)
-T-or true b = ((λ t. inl tt), (λ t. tt))
-T-or false b = ((λ t. inr t), (λ t. ⊎-elim (λ f. absurd f) (λ u. u) t))
 
 -- a choice reaches none
 pub reaches-choice : (n : ℕ) (s : Scheme) (k i : ℕ) → i < n → reaches n s k i ≡ false
@@ -122,10 +120,6 @@ module _ (n : ℕ) (s : Scheme) (products : Products n s) where
               right′ (inr p) = operand-by p (reaches-cases (p .j) v l m .1 (inr (inr (p .passes))))
 
 -- ---- which products a term uses
-
--- of a valid scheme each term has its split
-pub split-of : {r : Register} {s : Scheme} → Valid r s → (t : ℕ) → t < r .terms → Split r s t
-split-of valid t l = valid .within .splits t (rw (valid .all-split) l)
 
 -- in the paper's words: a term uses product k if k is in its split, or is an operand of a product that it uses
 pub uses-iff : (r : Register) (s : Scheme) → Valid r s → (t k : ℕ) → t < r .terms → r .choices ≤ k → k < variables (r .choices) s →

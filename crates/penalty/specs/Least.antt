@@ -10,8 +10,8 @@ use Rattle.penalty.specs.Carried.{carried}
 
 -- m is the least value of f: it is reached, and nothing is below it
 pub record Least {A : Type 0} (f : A → ℤ) (m : ℤ) : Type 0 where
-  pub place : A
-  pub reached : f place ≡ m
+  pub witness : A
+  pub reached : f witness ≡ m
   pub lowest : (a : A) → m ≤ℤ f a
 
 -- the least value of f over every filling is the least cost over every plan, and every filling that reaches it carries
@@ -20,4 +20,4 @@ pub record SameLeast (c : ℕ → ℤ) (r : Register) (f : Filling → ℤ) : Ty
   pub least : ℤ
   pub overFillings : Least f least
   pub overPlans : Least (λ (p : Plan (r .choices)). cost c r (p .fed)) least
-  pub carries : (z : Filling) → f z ≡ least → cost c r (carried (r .choices) z) ≡ least
+  pub minimisers : (z : Filling) → f z ≡ least → cost c r (carried (r .choices) z) ≡ least

@@ -1,0 +1,84 @@
+-- How large the numbers of R become, and the sums of a row's absolute values, with every sum on the way.
+use Prim.Native.Nat.{ℕ, _*_, _^_, _≤_, _<_}
+use mathlib.Core.List.{List}
+use native.Mathlib.Omega.{arith}
+use lib.Dec.{leb→le}
+use lib.IntN.{ℤ, pos, natAbs, _-ℤ_, _*ℤ_}
+use lib.ListN.{length, getD}
+use Rattle.integers.specs.Integer.{abs}
+use Rattle.integers.specs.Lists.{All}
+use Rattle.integers.specs.Sum.{sumBelow, sumOver}
+use Rattle.integers.specs.Quadratic.{offDiagonal}
+use Rattle.integers.proofs.Order.{natAbs-sub, natAbs-*-≤}
+use Rattle.integers.proofs.Lists.{All-map}
+use Rattle.integers.proofs.Sum.{natAbs-sum}
+use Rattle.forms.specs.Form.{entry}
+use Rattle.register.specs.declared.Register.{Register}
+use Rattle.register.specs.Limits.{maxChoices}
+use Rattle.scheme.specs.declared.Scheme.{Scheme}
+use Rattle.scheme.specs.Scheme.{side}
+use Rattle.scheme.specs.Valid as S
+use Rattle.certificate.specs.Limits.{maxSquares, maxWeight, maxEntry, squareEntries}
+use Rattle.certificate.specs.Certificate.{Square, Certificate}
+use Rattle.certificate.specs.Residual.{shifted, R, squareAt}
+use Rattle.certificate.specs.Valid.{SquareAllowed, Within}
+use Rattle.integers.proofs.Sum.{natAbs-sumOver}
+use Rattle.integers.proofs.Gerschgorin.{offDiagonal-small}
+use Rattle.certificate.proofs.Bounds.{Small, B-small}
+
+-- a number of B with any squares subtracted is at most this
+abbrev pub maxR : ℕ
+maxR = 18_960_000_000_000_000
+
+-- so the sum of a row's absolute values is at most 65 times that
+abbrev pub maxRow : ℕ
+maxRow = 1_232_400_000_000_000_000
+
+pub maxRow-fits : maxRow < 2 ^ 63
+maxRow-fits = leb→le _ _ tt
+
+pub side-within : (r : Register) (s : Scheme) → r .choices ≤ maxChoices → S.Within r s → side (r .choices) s ≤ squareEntries
+side-within r s l within = omega (arith, within .products-within)
+
+module _ (n : ℕ) (s : Scheme) where
+  pub square-small : (q : Square) → SquareAllowed n s q → (i j : ℕ) → i < squareEntries → j < squareEntries → natAbs (squareAt q i j) ≤ 100_000_000_000_000
+  square-small q ok i j h l =
+      natAbs-*-≤ (pos (q .w) *ℤ getD (q .v) i (pos 0)) (getD (q .v) j (pos 0)) (maxWeight * maxEntry) maxEntry
+      (natAbs-*-≤ (pos (q .w)) (getD (q .v) i (pos 0)) maxWeight maxEntry (ok .w-within) (ok .entries-within i h))
+      (ok .entries-within j l)
+
+  pub squares-small : (qs : List Square) → All (SquareAllowed n s) qs → (i j : ℕ) → i < squareEntries → j < squareEntries →
+      natAbs (sumOver qs (λ q. squareAt q i j)) ≤ 100_000_000_000_000 * length qs
+  squares-small qs h i j l m =
+      natAbs-sumOver 100_000_000_000_000 qs (λ q. squareAt q i j) (All-map (SquareAllowed n s) _ (λ q ok. square-small q ok i j l m) qs h)
+
+module _ (c : ℕ → ℤ) (r : Register) (s : Scheme) (k : Certificate) (low : Small c r) (choices : r .choices ≤ maxChoices) (scheme : S.Within r s) (within : Within r s k) where
+  abbrev n : ℕ
+  n = r .choices
+
+  -- the first squares subtracted, as many as there may be
+  pub rest-small : (qs : List Square) → All (SquareAllowed n s) qs → length qs ≤ maxSquares → (i j : ℕ) → i < side n s → j < side n s →
+      natAbs (entry (shifted c r s k) i j -ℤ sumOver qs (λ q. squareAt q i j)) ≤ maxR
+  rest-small qs h few i j l m =
+      omega (
+        arith,
+        natAbs-sub (entry (shifted c r s k) i j) (sumOver qs (λ q. squareAt q i j)),
+        B-small c r s k low within i j,
+        side-within r s choices scheme,
+        squares-small n s qs h i j (omega (arith, side-within r s choices scheme)) (omega (arith, side-within r s choices scheme)),
+      )
+
+  pub R-small : (i j : ℕ) → i < side n s → j < side n s → natAbs (R c r s k i j) ≤ maxR
+  unfolding R
+  R-small = rest-small (k .squares) (within .squares) (within .squares-within)
+
+  -- the first m absolute values of a row, and those beside the diagonal
+
+  pub row-small : (m i : ℕ) → m ≤ side n s → i < side n s → natAbs (sumBelow m (λ j. abs (R c r s k i j))) ≤ maxRow
+  unfolding abs
+  row-small m i l h =
+      omega (arith, natAbs-sum m maxR (λ j. abs (R c r s k i j)) (λ j u. R-small i j h (omega arith)), side-within r s choices scheme)
+
+  pub offDiagonal-R-small : (m i : ℕ) → m ≤ side n s → i < side n s → natAbs (offDiagonal m (R c r s k) i) ≤ maxRow
+  offDiagonal-R-small m i l h =
+      omega (arith, offDiagonal-small m maxR (R c r s k) i (λ j u. R-small i j h (omega arith)), side-within r s choices scheme)

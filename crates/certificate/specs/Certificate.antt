@@ -1,0 +1,26 @@
+-- What a certificate says.
+use Prim.Native.Nat.{ℕ}
+use mathlib.Core.List.{List, []}
+use lib.IntN.{ℤ, pos}
+
+-- a multiplier command: its byte, the variables that it names, and the multiplier m
+pub record Multiplier : Type 0 where
+  pub kind : ℕ
+  pub names : List ℕ
+  pub m : ℤ
+
+-- a square: its weight w and its entries v, place by place
+pub record Square : Type 0 where
+  pub w : ℕ
+  pub v : List ℤ
+
+-- scale s, target T, multipliers and squares, in the order of their commands
+pub record Certificate : Type 0 where
+  pub scale : ℕ
+  pub target : ℤ
+  pub multipliers : List Multiplier
+  pub squares : List Square
+
+-- nothing read yet
+abbrev pub fresh : Certificate
+fresh = record { scale = 0; target = pos 0; multipliers = []; squares = [] }

@@ -1,0 +1,75 @@
+-- The commands of our own certificate: at most two for each variable, and each allowed.
+use Prim.Native.Nat.{ℕ, zero, suc, _*_, _≤_, _<_}
+use mathlib.Core.Path.{refl}
+use mathlib.Core.List.{List, [], _∷_}
+use native.Mathlib.Omega.{arith}
+use lib.Dec.{eqb, lt→ltb}
+use lib.IntN.{ℤ, pos, negsuc, natAbs}
+use lib.ListN.{length, length-append}
+use Rattle.integers.specs.Lists.{All, joinBelow}
+use Rattle.integers.proofs.Lists.{cond-cases}
+use Rattle.register.specs.declared.Register.{Register}
+use Rattle.scheme.specs.declared.Scheme.{Scheme}
+use Rattle.scheme.specs.Scheme.{variables}
+use Rattle.certificate.specs.Limits.{maxMultiplier}
+use Rattle.certificate.specs.Rules.{byKey, arity, ruleOf}
+use Rattle.certificate.specs.Valid.{Allowed}
+use Rattle.plain.specs.Plain.{halfRowSum, linearLeft, unlessZero, cancelling, plain}
+use Rattle.certificate.proofs.Commands.{command, allowed-command}
+
+-- ---- how many commands
+
+length-join : {A : Type 0} (n b : ℕ) (f : ℕ → List A) → ((i : ℕ) → length (f i) ≤ b) → length (joinBelow n f) ≤ b * n
+unfolding joinBelow
+length-join zero b f h = omega arith
+length-join (suc n) b f h = omega (arith, length-append (joinBelow n f) (f n), length-join n b f h, h n)
+
+length-unlessZero : (kind i m : ℕ) → length (unlessZero kind i m) ≤ 1
+unfolding unlessZero
+length-unlessZero kind i m = cond-cases (λ l. length l ≤ 1) (eqb m 0) [] (command kind i m ∷ []) (λ _. omega arith) (λ _. omega arith)
+
+length-cancelling : (i : ℕ) (x : ℤ) → length (cancelling i x) ≤ 1
+unfolding cancelling
+length-cancelling i (pos m) = length-unlessZero 0x38 i m
+length-cancelling i (negsuc m) = length-unlessZero 0x39 i (suc m)
+
+-- at most two commands for each variable
+pub plain-count : (c : ℕ → ℤ) (r : Register) (s : Scheme) → length (plain c r s .multipliers) ≤ 2 * variables (r .choices) s
+unfolding plain
+plain-count c r s =
+    let N = variables (r .choices) s in
+    let first = joinBelow N (λ i. unlessZero 0x31 i (halfRowSum c r s i)) in
+    let second = joinBelow N (λ i. cancelling i (linearLeft c r s i)) in
+    omega (
+      arith,
+      length-append first second,
+      length-join N 1 (λ i. unlessZero 0x31 i (halfRowSum c r s i)) (λ i. length-unlessZero 0x31 i (halfRowSum c r s i)),
+      length-join N 1 (λ i. cancelling i (linearLeft c r s i)) (λ i. length-cancelling i (linearLeft c r s i)),
+    )
+
+-- ---- they are allowed
+
+module _ (n : ℕ) (s : Scheme) where
+  abbrev N : ℕ
+  N = variables n s
+
+  allowed-unlessZero : (kind i m : ℕ) → Allowed n s (command kind i m) → All (Allowed n s) (unlessZero kind i m)
+  unfolding unlessZero
+  allowed-unlessZero kind i m ok = cond-cases (All (Allowed n s)) (eqb m 0) [] (command kind i m ∷ []) (λ _. tt) (λ _. (ok, tt))
+
+  pub allowed-31 : (i m : ℕ) → i < N → m ≤ maxMultiplier → All (Allowed n s) (unlessZero 0x31 i m)
+  unfolding ruleOf byKey arity
+  allowed-31 i m h l = allowed-unlessZero 0x31 i m (allowed-command n s 0x31 i m (omega arith) (omega arith) refl l (lt→ltb i N h) tt tt)
+
+  allowed-38 : (i m : ℕ) → i < N → m ≤ maxMultiplier → All (Allowed n s) (unlessZero 0x38 i m)
+  unfolding ruleOf byKey arity
+  allowed-38 i m h l = allowed-unlessZero 0x38 i m (allowed-command n s 0x38 i m (omega arith) (omega arith) refl l (lt→ltb i N h) tt tt)
+
+  allowed-39 : (i m : ℕ) → i < N → m ≤ maxMultiplier → All (Allowed n s) (unlessZero 0x39 i m)
+  unfolding ruleOf byKey arity
+  allowed-39 i m h l = allowed-unlessZero 0x39 i m (allowed-command n s 0x39 i m (omega arith) (omega arith) refl l (lt→ltb i N h) tt tt)
+
+  pub allowed-cancelling : (i : ℕ) (x : ℤ) → i < N → natAbs x ≤ maxMultiplier → All (Allowed n s) (cancelling i x)
+  unfolding cancelling
+  allowed-cancelling i (pos m) h l = allowed-38 i m h l
+  allowed-cancelling i (negsuc m) h l = allowed-39 i (suc m) h l

@@ -1,0 +1,2 @@
+-- The certificate of our own.
+pub mod Plain

@@ -1,0 +1,1 @@
+// The certificate of our own.
