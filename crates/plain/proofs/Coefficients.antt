@@ -1,9 +1,9 @@
 -- The coefficients of g by the entries of its table.
 use mathlib.Core.Path.{_≡_, sym, _∙_, ap}
-use Prim.Native.Nat.{ℕ, _+_, _/_}
+use Prim.Native.Nat.{ℕ}
 use native.Mathlib.Decide.{ℕ-discrete}
 use native.Mathlib.Omega.{arith}
-use lib.IntN.{ℤ, pos, natAbs, _-ℤ_}
+use lib.IntN.{ℤ, pos, _-ℤ_}
 use Rattle.integers.specs.Integer.{abs}
 use Rattle.integers.specs.Sum.{except}
 use Rattle.integers.specs.Quadratic.{offDiagonal}
@@ -17,9 +17,10 @@ use Rattle.scheme.specs.Function.{g}
 use Rattle.plain.specs.Plain.{halfRowSum, linearLeft}
 
 module _ (c : ℕ → ℤ) (r : Register) (s : Scheme) where
-  pub halfRowSum-entry : (i : ℕ) → halfRowSum c r s i ≡ (natAbs (offDiagonal (variables (r .choices) s) (λ j k. entry (g c r s) (place j) (place k)) i) + 1) / 2
-  unfolding halfRowSum offDiagonal
-  halfRowSum-entry i = ap (λ x. (natAbs x + 1) / 2) (sumBelow-cong (variables (r .choices) s) _ _ (λ j l. same j (ℕ-discrete j i)))
+  pub rowSum-entry : (i : ℕ) → offDiagonal (variables (r .choices) s) (λ j k. coefficientOf (g c r s) (place j) (place k)) i
+      ≡ offDiagonal (variables (r .choices) s) (λ j k. entry (g c r s) (place j) (place k)) i
+  unfolding offDiagonal
+  rowSum-entry i = sumBelow-cong (variables (r .choices) s) _ _ (λ j l. same j (ℕ-discrete j i))
     where
       same : (j : ℕ) → Dec (j ≡ i) → except i (λ k. abs (coefficientOf (g c r s) (place i) (place k))) j ≡ except i (λ k. abs (entry (g c r s) (place i) (place k))) j
       same j (yes e) = rw e (except-same i _ ∙ sym (except-same i _))

@@ -18,9 +18,9 @@ use Rattle.scheme.specs.declared.Scheme.{Scheme}
 use Rattle.scheme.specs.Scheme.{variables}
 use Rattle.scheme.specs.Function.{g}
 use Rattle.certificate.specs.Residual.{shifted, R, rowHolds, carries}
-use Rattle.plain.proofs.Coefficients.{halfRowSum-entry}
+use Rattle.plain.proofs.Coefficients.{rowSum-entry}
 use Rattle.integers.proofs.Gerschgorin.{offDiagonal-nonneg}
-use Rattle.plain.specs.Plain.{plain}
+use Rattle.plain.specs.Plain.{halfRowSum, plain}
 use Rattle.plain.proofs.Entries.{plain-constant, plain-row-0, plain-column-0, plain-product, plain-square}
 
 module _ (c : ℕ → ℤ) (r : Register) (s : Scheme) where
@@ -55,8 +55,8 @@ module _ (c : ℕ → ℤ) (r : Register) (s : Scheme) where
       others j (no d) = except-other (place i) _ (place j) (λ e. d (omega arith)) ∙ ap abs (plain-product c r s i j d) ∙ sym (except-other i _ j d)
 
   row-variable : (i : ℕ) → i < N → offDiagonal (suc N) ours (place i) ≤ℤ ours (place i) (place i)
-  unfolding products
-  row-variable i h = rw (row-products i h, plain-square c r s i h, halfRowSum-entry c r s i) (half-up (offDiagonal N products i) (offDiagonal-nonneg N products i))
+  unfolding halfRowSum products
+  row-variable i h = rw (row-products i h, plain-square c r s i h, rowSum-entry c r s i) (half-up (offDiagonal N products i) (offDiagonal-nonneg N products i))
     where
       half-up : (x : ℤ) → pos 0 ≤ℤ x → x ≤ℤ (pos 2 *ℤ pos ((natAbs x + 1) / 2))
       half-up (pos n) k = pos-mono n (2 * ((n + 1) / 2)) (omega arith)

@@ -13,7 +13,7 @@ use Rattle.scheme.specs.Scheme.{variables}
 use Rattle.scheme.specs.Function.{g}
 use Rattle.integers.proofs.Gerschgorin.{offDiagonal-small}
 use Rattle.certificate.proofs.Bounds.{Small, maxG, norm1-g-within}
-use Rattle.plain.proofs.Coefficients.{halfRowSum-entry, linearLeft-entry}
+use Rattle.plain.proofs.Coefficients.{rowSum-entry, linearLeft-entry}
 use Rattle.plain.specs.Plain.{halfRowSum, linearLeft, subtractedConstant}
 
 negPart-small : (x : ℤ) → negPart x ≤ natAbs x
@@ -31,8 +31,9 @@ module _ (c : ℕ → ℤ) (r : Register) (s : Scheme) (low : Small c r) (few : 
   entry-g-small i j = omega (arith, entry-small (g c r s) i j, norm1-g-within c r s low)
 
   pub halfRowSum-small : (i : ℕ) → halfRowSum c r s i ≤ 80_384_000_000
+  unfolding halfRowSum
   halfRowSum-small i =
-      omega (arith, halfRowSum-entry c r s i, offDiagonal-small N maxG (λ i j. entry (g c r s) (place i) (place j)) i (λ j _. entry-g-small (place i) (place j)))
+      rw (rowSum-entry c r s i) (omega (arith, offDiagonal-small N maxG (λ i j. entry (g c r s) (place i) (place j)) i (λ j _. entry-g-small (place i) (place j))))
 
   pub linearLeft-small : (i : ℕ) → natAbs (linearLeft c r s i) ≤ 82_896_000_000
   linearLeft-small i =
