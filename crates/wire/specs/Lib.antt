@@ -4,3 +4,4 @@ pub mod Checks
 pub mod Part
 pub mod Rows
 pub mod Encoding
+pub mod Text

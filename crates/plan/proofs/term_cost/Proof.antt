@@ -1,0 +1,23 @@
+-- `plan::term_cost` meets its contract. Each return rewrites with the test on its way.
+use mathlib.Core.Path.{_∙_}
+use mir.Facts.{toZ-ofZ}
+use Rattle.sets.specs.Sets.{isSubset}
+use borrow.Author.Needs.{needs}
+use Rattle.plan.proofs.term_cost.Statement.{statement}
+use Rattle.plan.proofs.term_cost.Tie as tie
+
+wide-requires : tie.Need-wide-requires
+wide-requires c κs = search needs
+
+returns : tie.Need-returns
+unfolding isSubset
+returns c =
+    rw (c .before .if1 .taken)
+    (toZ-ofZ (record { sfits = c .wide .ok }) ∙ c .wide .ensures ∙ toZ-ofZ (c .before .before .fits .coefficient))
+
+returns-2 : tie.Need-returns-2
+unfolding isSubset
+returns-2 c = rw (c .if1 .left)
+
+pub term-cost-spec : {M : Type 1} → statement M
+term-cost-spec = tie.close (tie.spec wide-requires returns returns-2)

@@ -1,0 +1,22 @@
+-- Lines of text: a letter and decimal numbers with one space between, ended by byte 0A.
+use Prim.Native.Nat.{ℕ, zero, suc, _+_, _/_, _%_}
+use mathlib.Core.Bool.{true, false}
+use mathlib.Core.List.{List, [], _∷_, _++_, flatMap}
+use lib.Dec.{ltb}
+use lib.IntN.{ℤ, pos, negsuc}
+
+-- the decimal digits of a number, the highest first; the first number bounds how many, and one more than the number is enough
+unfoldable pub digitsTo : ℕ → ℕ → List ℕ
+digitsTo zero n = []
+digitsTo (suc k) n = elim (ltb n 10) [ true ↦ (48 + n) ∷ [] | false ↦ digitsTo k (n / 10) ++ ((48 + n % 10) ∷ []) ]
+
+unfoldable pub digits : ℕ → List ℕ
+digits n = digitsTo (suc n) n
+
+-- a leading `-` when negative, no leading zeros, 0 is `0`
+unfoldable pub decimal : ℤ → List ℕ
+decimal (pos n) = digits n
+decimal (negsuc n) = 0x2D ∷ digits (suc n)
+
+unfoldable pub line : ℕ → List ℤ → List ℕ
+line letter fields = letter ∷ (flatMap (λ z. 0x20 ∷ decimal z) fields ++ (0x0A ∷ []))

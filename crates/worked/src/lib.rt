@@ -1,0 +1,1 @@
+// The worked set of the scope paper, proved of the definitions.
