@@ -34,6 +34,11 @@ pub T-true : (b : Bool) → T b ↔ (b ≡ true)
 T-true true = ((λ t. refl), (λ e. tt))
 T-true false = ((λ t. absurd t), (λ e. absurd (false≢true e)))
 
+-- by the two values of a test
+pub flag : {G : Type 0} (b : Bool) → (b ≡ true → G) → (b ≡ false → G) → G
+flag true t f = t refl
+flag false t f = f refl
+
 -- a disjunction that fails, and a negation
 pub or-none : (a b : Bool) → (a || b) ≡ false → (a ≡ false) × (b ≡ false)
 or-none true b e = absurd (true≢false e)

@@ -5,9 +5,9 @@ use Prim.Native.Nat.{ℕ, _<_, _≤_}
 use native.Mathlib.Omega.{arith}
 use lib.ListN.{length}
 use borrow.Author.Tests.{lt-ltb, le-ltb}
-use Rattle.wire.specs.Part.{Reading, refused, accepted, readPart, byItself}
+use Rattle.wire.specs.Part.{Reading, refused, accepted, byItself}
 use Rattle.wire.specs.Rows.{Progress}
-use Rattle.wire.proofs.Part.{NumberedReading, readFrom-numbered}
+use Rattle.wire.proofs.Part.{NumberedReading, readPart-numbered}
 use Rattle.register.specs.declared.Register.{Register}
 use Rattle.register.specs.declared.RegisterRead.{RegisterRead}
 use Rattle.register.specs.declared.RegisterAnswer.{RegisterAnswer}
@@ -16,8 +16,8 @@ use Rattle.register.specs.Answer.{refusedAnswer, registerRead, registerA
 
 module _ (s : List ℕ) where
   numbered : NumberedReading (registerInJob s)
-  unfolding registerInJob readPart
-  numbered = readFrom-numbered registerPart s (registerPart .start) 0
+  unfolding registerInJob
+  numbered = readPart-numbered registerPart s
 
   module _ (part : RegisterRead) (e : part ≡ registerRead (registerInJob s)) where
     pub answer-refused : (part .number ≡ 0 → ⊥) → refusedAnswer (part .number) (part .position) ≡ registerAnswer (registerByItself s)

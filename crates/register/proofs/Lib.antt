@@ -3,3 +3,12 @@ pub mod Commands
 pub mod Passes
 pub mod Going
 pub mod Answers
+pub mod Within
+pub mod Bytes
+pub mod Sofar
+pub mod Allowed
+pub mod Complete
+pub mod Encoding
+pub mod Accept
+pub mod Lowest
+pub mod Opened

@@ -3,4 +3,5 @@ pub mod Limits
 pub mod Register
 pub mod Format
 pub mod Valid
+pub mod Encoding
 pub mod Answer

@@ -15,7 +15,8 @@ use Rattle.wire.specs.Number.{Bytes, bytesOf}
 use Rattle.wire.specs.Part.{Part, Reading, refused, accepted, operandsAt, total, size, afterAt, readFrom, readPart, byItself}
 use Rattle.wire.specs.Encoding.{Command, fields, Fit, encodeCommand, encode, Allowed, afterCommand, Accepts}
 use Rattle.wire.proofs.Number.{bytes-at, natAt-below, natAt-front, bytesOf-natAt, length-bytesOf}
-use Rattle.wire.proofs.Part.{flag, operands, Passes, Ways, by-ways, passed-checksAt, readFrom-goes, readFrom-ends, readFrom-end}
+use Rattle.integers.proofs.Lists.{flag}
+use Rattle.wire.proofs.Part.{operands, Passes, Ways, by-ways, passed-checksAt, readFrom-goes, readFrom-ends, readFrom-end}
 
 -- Operands.
 

@@ -4,3 +4,4 @@ pub mod Sign
 pub mod Checks
 pub mod Part
 pub mod Encoding
+pub mod Leads

@@ -3,21 +3,17 @@ use Prim.Native.Nat.{ℕ, zero, suc, _+_, _-_, _≤_, _<_}
 use native.Mathlib.Nat.{add-assoc}
 use native.Mathlib.Omega.{arith}
 use mathlib.Core.Path.{_≡_, refl, sym, _∙_, ap}
-use mathlib.Core.Bool.{Bool, true, false, not}
+use mathlib.Core.Bool.{Bool, true, false, not, cond}
 use mathlib.Core.List.{List, [], _∷_}
 use lib.ListN.{length, getD, drop, length-drop}
 use lib.Seq.{getD-drop}
 use lib.Dec.{eqb, ltb}
 use borrow.Author.Tests.{ltb-true, ltb-false, eqb-true, eqb-false, not-false, lt-ltb, le-ltb, ne-eqb}
+use Rattle.integers.proofs.Lists.{flag}
 use Rattle.wire.specs.Checks.{Check, check, refusal, commandChecks}
-use Rattle.wire.specs.Part.{Part, Reading, refused, accepted, goes, stops, operandsAt, size, checksAt, afterAt, command, step, follow, run, readFrom}
+use Rattle.wire.specs.Part.{Part, Reading, refused, accepted, goes, stops, operandsAt, size, checksAt, afterAt, command, step, follow, run, readFrom, readPart, byItself}
 use Rattle.wire.proofs.Number.{natAt-drop}
 use Rattle.wire.proofs.Checks.{refusal-none, refusal-hit, refusal-miss}
-
--- a Bool and what it is
-pub flag : {G : Type 0} (b : Bool) → (b ≡ true → G) → (b ≡ false → G) → G
-flag true t f = t refl
-flag false t f = f refl
 
 -- The checks of a command.
 
@@ -214,6 +210,19 @@ module _ {S : Type 0} (P : Part S) (s : List ℕ) where
     goes = λ read at r p l rest. rest;
     ends = λ read at p l. tt;
   })
+
+pub readPart-numbered : {S : Type 0} (P : Part S) (s : List ℕ) → NumberedReading (readPart P s)
+unfolding readPart
+readPart-numbered P s = readFrom-numbered P s (P .start) 0
+
+pub byItself-numbered : {S : Type 0} (s : List ℕ) (r : Reading S) → NumberedReading r → NumberedReading (byItself s r)
+unfolding byItself
+byItself-numbered s (refused n at) d = d
+byItself-numbered {S} s (accepted read end) d = by (ltb end (length s))
+  where
+    by : (t : Bool) → NumberedReading {S = S} (cond t (refused 12 end) (accepted read end))
+    by true = λ e. omega arith
+    by false = tt
 
 -- Positions in a run of bytes that is the end of another.
 
