@@ -3,5 +3,8 @@ pub mod Scheme
 pub mod Variables
 pub mod Format
 pub mod Valid
+pub mod Encoding
+pub mod Sets
+pub mod Answer
 pub mod Filling
 pub mod Function
