@@ -2,3 +2,4 @@
 pub mod Form
 pub mod Table
 pub mod Store
+pub mod Times

@@ -7,6 +7,10 @@ use lib.Signed.{quotZ}
 use Rattle.integers.specs.Lists.{joinBelow}
 use Rattle.integers.specs.Sum.{sumBelow}
 
+-- the working table is a run of 4,225 numbers
+abbrev pub tableNumbers : ℕ
+tableNumbers = 4_225
+
 -- f 0, f 1, .. f (n − 1)
 abbrev pub row : ℕ → (ℕ → ℤ) → List ℤ
 row n f = joinBelow n (λ j. f j ∷ [])

@@ -1,9 +1,16 @@
 ghost use mathlib.Core.Path.{_≡_};
 ghost use Prim.Native.Nat.{_≤_, _<_};
-ghost use lib.IntN.{pos, natAbs};
+ghost use lib.IntN.{pos, natAbs, _*ℤ_};
 ghost use lib.ListN.{length, getD};
 ghost use Rattle.forms.specs.Form.{mono};
 ghost use Rattle.forms.specs.Store.{addAt, addMonomial, cleared, Bounded};
+
+// The lent run of numbers that a call works in.
+pub struct WorkingTable;
+
+impl WorkingTable {
+    pub const NUMBERS: usize = 4_225;
+}
 
 // Makes the first `n` numbers 0.
 pub fn clear(t: &mut [i64], n: usize)
@@ -36,4 +43,14 @@ pub fn add_monomial(t: &mut [i64], side: usize, p: usize, q: usize, c: i64)
 {
     add_at(t, p * side + q, c);
     add_at(t, q * side + p, c);
+}
+
+// Adds the monomial `k` times `c` times place `p` times place `q`.
+pub fn add_multiple(t: &mut [i64], side: usize, p: usize, q: usize, k: i64, c: i64)
+    requires { ⌜ Bounded side 4000000000000000000 (now t) ⌝ }
+    requires { ⌜ (p < side) × (q < side) ⌝ }
+    requires { ⌜ natAbs (k *ℤ c) ≤ 1000000000000000000 ⌝ }
+    ensures { λ _. ⌜ now (t .exit) ≡ addMonomial side (mono p q (k *ℤ c)) (now (t .entry)) ⌝ }
+{
+    add_monomial(t, side, p, q, k * c);
 }

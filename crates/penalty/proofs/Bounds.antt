@@ -6,14 +6,16 @@ use native.Mathlib.Omega.{arith}
 use lib.IntN.{ℤ}
 use Rattle.integers.specs.Lists.{joinBelow}
 use Rattle.forms.specs.Form.{times}
+use Rattle.forms.specs.Table.{tableNumbers}
 use Rattle.forms.proofs.Store.{norm1, norm1-append, norm1-join, norm1-times}
 use Rattle.register.specs.declared.Register.{Register}
 use Rattle.register.specs.Limits.{maxBase, maxTerms, maxCoefficient}
 use Rattle.register.specs.Register.{coefficient}
 use Rattle.register.specs.Valid.{Within}
 use Rattle.scheme.specs.declared.Scheme.{Scheme}
-use Rattle.scheme.specs.Scheme.{maxProducts, left, right}
+use Rattle.scheme.specs.Scheme.{maxProducts, left, right, side}
 use Rattle.scheme.specs.Function.{g}
+use Rattle.scheme.specs.Valid.{Valid}
 use Rattle.penalty.specs.Weights.{weight}
 use Rattle.penalty.specs.Penalty.{bracket, bracketOf, penaltyOf, h}
 use Rattle.scheme.proofs.Table.{norm1-g}
@@ -45,3 +47,9 @@ module _ (r : Register) (s : Scheme) (within : Within r) where
 
   pub h-norm : s .products ≤ maxProducts → norm1 (h (coefficient r) r s) ≤ 2 * (maxBase + maxTerms * maxCoefficient) + maxProducts * (16 * (maxTerms * maxCoefficient))
   h-norm l = omega (arith, norm1-h (coefficient r) r s, g-norm, penalties-norm (s .products))
+
+-- a table of side N + 1 is at most 4,225 numbers
+pub side-square : (r : Register) (s : Scheme) → Within r → Valid r s → side (r .choices) s * side (r .choices) s ≤ tableNumbers
+side-square r s within valid =
+    let narrow : side (r .choices) s ≤ 65 = omega (arith, within .choices-within, valid .within .products-within) in
+    mul-le-mul narrow narrow

@@ -2,5 +2,8 @@ pub mod Weights
 pub mod Sets
 pub mod Penalty
 pub mod Bounds
+pub mod Scaled
 pub mod Least
+pub mod Answers
+pub mod Demand
 pub mod Worked

@@ -3,3 +3,4 @@ pub mod Weights
 pub mod Penalty
 pub mod Carried
 pub mod Least
+pub mod Answer

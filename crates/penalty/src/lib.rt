@@ -1,1 +1,235 @@
 // The penalty form of a register and a scheme.
+use forms::WorkingTable;
+use forms::add_monomial;
+use forms::add_multiple;
+use register::Register;
+use register::feedcheck_register;
+use scheme::Scheme;
+use scheme::feedcheck_scheme;
+ghost use mathlib.Core.Path.{_≡_};
+ghost use mathlib.Core.Bool.{cond};
+ghost use Prim.Native.Nat.{ℕ, _+_, _≤_, _<_};
+ghost use lib.IntN.{pos, natAbs, _*ℤ_};
+ghost use lib.ListN.{length};
+ghost use Rattle.integers.specs.Lists.{joinBelow};
+ghost use Rattle.forms.specs.Form.{times, entry};
+ghost use Rattle.forms.specs.Table.{tableNumbers, withTable};
+ghost use Rattle.forms.specs.Store.{addForm, Bounded};
+ghost use Rattle.register.specs.Limits.{maxCoefficient};
+ghost use Rattle.register.specs.Register.{coefficient};
+ghost use Rattle.register.specs.Valid.{Valid as ValidRegister};
+ghost use Rattle.scheme.specs.Scheme.{maxProducts, variables, side as sideOf};
+ghost use Rattle.scheme.specs.Function.{term, termOf, g};
+ghost use Rattle.scheme.specs.Valid.{Products, Valid};
+ghost use Rattle.penalty.specs.Weights.{reaches, contribution, weight};
+ghost use Rattle.penalty.specs.Penalty.{bracket, penaltyOf, h};
+ghost use Rattle.penalty.specs.Answer.{penaltyAnswer, penaltyTable};
+
+// The answer of the call: a refusal's number, part and position, or zeros.
+#[repr(C)]
+pub struct PenaltyAnswer {
+    pub number: u8,
+    pub part: u8,
+    pub position: usize,
+}
+
+// Whether variable v is product k, or k is an operand of v, or of an operand of v, and so on down. There are n choices.
+fn reaches(scheme: Scheme, n: usize, k: usize, v: usize) -> bool
+    requires { ⌜ Products n scheme ⌝ }
+    requires { ⌜ v < variables n scheme ⌝ }
+    requires { ⌜ scheme .products ≤ maxProducts ⌝ }
+    ensures { λ b. ⌜ b ≡ reaches n scheme k v ⌝ }
+{
+    if v < n {
+        return false;
+    }
+    // Operands are smaller than their product.
+    if v < k {
+        return false;
+    }
+    if v == k {
+        return true;
+    }
+    let i = v - n;
+    let l = scheme.lefts[i];
+    let r = scheme.rights[i];
+    if reaches(scheme, n, k, l as usize) {
+        return true;
+    }
+    reaches(scheme, n, k, r as usize)
+}
+
+// The magnitude of a term's coefficient, once, where the left or the right variable of its split reaches the product.
+fn once(left: bool, right: bool, size: u64) -> u64
+    requires { ⌜ size ≤ maxCoefficient ⌝ }
+    ensures { λ r. ⌜ r ≡ cond left size (cond right size 0) ⌝ }
+{
+    if left {
+        return size;
+    }
+    if right { size } else { 0 }
+}
+
+// What term t adds to the weight of product k.
+fn contribution(register: Register, scheme: Scheme, k: usize, t: usize) -> u64
+    requires { ⌜ ValidRegister register ⌝ }
+    requires { ⌜ Valid register scheme ⌝ }
+    requires { ⌜ t < register .terms ⌝ }
+    ensures { λ r. ⌜ pos r ≡ contribution (coefficient register) (register .choices) scheme k t ⌝ }
+{
+    let n = register.choices;
+    let c = register.coefficients[t];
+    let l = scheme.split_lefts[t];
+    let r = scheme.split_rights[t];
+    let left = reaches(scheme, n, k, l as usize);
+    let right = reaches(scheme, n, k, r as usize);
+    once(left, right, wire::magnitude(c as i64))
+}
+
+// The weight of product k: the sum of |coefficient| over the terms that use it, each once.
+fn weight(register: Register, scheme: Scheme, k: usize) -> u64
+    requires { ⌜ ValidRegister register ⌝ }
+    requires { ⌜ Valid register scheme ⌝ }
+    ensures { λ r. ⌜ pos r ≡ weight (coefficient register) register scheme k ⌝ }
+{
+    let terms = register.terms;
+    let mut total: u64 = 0;
+    let mut t = 0;
+    while t < terms {
+        total += contribution(register, scheme, k, t);
+        t += 1;
+    }
+    total
+}
+
+// Adds c times variable l times variable r, variable l once when they are one.
+pub fn add_term(table: &mut [i64], side: usize, l: usize, r: usize, c: i64)
+    requires { ⌜ Bounded side 4_000_000_000_000_000_000 (now table) ⌝ }
+    requires { ⌜ (l + 1 < side) × (r + 1 < side) ⌝ }
+    requires { ⌜ natAbs c ≤ 1_000_000_000_000_000_000 ⌝ }
+    ensures { λ _. ⌜ now (table .exit) ≡ addForm side (term l r c) (now (table .entry)) ⌝ }
+{
+    if l == r {
+        add_monomial(table, side, 0, l + 1, c);
+    } else {
+        add_monomial(table, side, l + 1, r + 1, c);
+    }
+}
+
+// Adds each term, its coefficient times a scale.
+pub fn add_terms(register: Register, scheme: Scheme, table: &mut [i64], side: usize, scale: i64)
+    requires { ⌜ ValidRegister register ⌝ }
+    requires { ⌜ Valid register scheme ⌝ }
+    requires { ⌜ side ≡ sideOf (register .choices) scheme ⌝ }
+    requires { ⌜ Bounded side 3_000_000_000_000_000_000 (now table) ⌝ }
+    requires { ⌜ natAbs scale ≤ 1_000_000 ⌝ }
+    ensures { λ _. ⌜ now (table .exit) ≡
+        addForm side (joinBelow (register .terms) (termOf (λ t. scale *ℤ coefficient register t) scheme)) (now (table .entry)) ⌝ }
+{
+    let terms = register.terms;
+    let mut t = 0;
+    while t < terms {
+        let l = scheme.split_lefts[t];
+        let r = scheme.split_rights[t];
+        let c = register.coefficients[t];
+        add_term(table, side, l as usize, r as usize, scale * (c as i64));
+        t += 1;
+    }
+}
+
+// Adds a scale times g.
+pub fn add_function(register: Register, scheme: Scheme, table: &mut [i64], side: usize, scale: i64)
+    requires { ⌜ ValidRegister register ⌝ }
+    requires { ⌜ Valid register scheme ⌝ }
+    requires { ⌜ side ≡ sideOf (register .choices) scheme ⌝ }
+    requires { ⌜ Bounded side 2_000_000_000_000_000_000 (now table) ⌝ }
+    requires { ⌜ natAbs scale ≤ 1_000_000 ⌝ }
+    ensures { λ _. ⌜ now (table .exit) ≡ addForm side (times scale (g (coefficient register) register scheme)) (now (table .entry)) ⌝ }
+{
+    let base = register.base;
+    add_monomial(table, side, 0, 0, scale * (base as i64));
+    add_terms(register, scheme, table, side, scale);
+}
+
+// Adds w times the bracket of product k, whose operands are l and r.
+fn add_bracket(table: &mut [i64], side: usize, k: usize, l: usize, r: usize, w: i64)
+    requires { ⌜ Bounded side 3_000_000_000_000_000_000 (now table) ⌝ }
+    requires { ⌜ (k + 1 < side) × (l < k) × (r < k) ⌝ }
+    requires { ⌜ natAbs w ≤ 1_000_000_000_000 ⌝ }
+    ensures { λ _. ⌜ now (table .exit) ≡ addForm side (times w (bracket k l r)) (now (table .entry)) ⌝ }
+{
+    add_multiple(table, side, 0, k + 1, w, 3);
+    add_multiple(table, side, k + 1, l + 1, w, -2);
+    add_multiple(table, side, k + 1, r + 1, w, -2);
+    add_multiple(table, side, l + 1, r + 1, w, 1);
+}
+
+// Adds each product's weight times its bracket.
+fn add_penalties(register: Register, scheme: Scheme, table: &mut [i64], side: usize)
+    requires { ⌜ ValidRegister register ⌝ }
+    requires { ⌜ Valid register scheme ⌝ }
+    requires { ⌜ side ≡ sideOf (register .choices) scheme ⌝ }
+    requires { ⌜ Bounded side 2_000_000_000_000_000_000 (now table) ⌝ }
+    ensures { λ _. ⌜ now (table .exit) ≡
+        addForm side (joinBelow (scheme .products) (penaltyOf (coefficient register) register scheme)) (now (table .entry)) ⌝ }
+{
+    let n = register.choices;
+    let products = scheme.products;
+    let mut i = 0;
+    while i < products {
+        let l = scheme.lefts[i];
+        let r = scheme.rights[i];
+        let w = weight(register, scheme, n + i);
+        add_bracket(table, side, n + i, l as usize, r as usize, w as i64);
+        i += 1;
+    }
+}
+
+// Makes the table hold the penalty form h. Numbers past (N + 1)² don't change.
+pub fn penalty_form(register: Register, scheme: Scheme, table: &mut [i64])
+    requires { ⌜ ValidRegister register ⌝ }
+    requires { ⌜ Valid register scheme ⌝ }
+    requires { ⌜ tableNumbers ≤ length (now table) ⌝ }
+    ensures { λ _. ⌜ now (table .exit) ≡
+        withTable (sideOf (register .choices) scheme) (entry (h (coefficient register) register scheme)) (now (table .entry)) ⌝ }
+{
+    let side = register.choices + scheme.products + 1;
+    forms::clear(table, side * side);
+    add_function(register, scheme, table, side, 1);
+    add_penalties(register, scheme, table, side);
+}
+
+// The penalty form of a register and a scheme, each as a run of bytes by itself.
+#[no_mangle]
+pub extern "C" fn feedcheck_penalty(
+    register: &[u8],
+    scheme: &[u8],
+    table: &mut [i64],
+) -> PenaltyAnswer
+    ensures { λ r. ⌜ r ≡ penaltyAnswer (now (register .entry)) (now (scheme .entry)) (now (table .entry)) ⌝ }
+    ensures { λ _. ⌜ now (table .exit) ≡ penaltyTable (now (register .entry)) (now (scheme .entry)) (now (table .entry)) ⌝ }
+{
+    if table.len() < WorkingTable::NUMBERS {
+        return PenaltyAnswer {
+            number: 11,
+            part: 0,
+            position: 0,
+        };
+    }
+    let first = feedcheck_register(register);
+    let second = feedcheck_scheme(register, scheme);
+    let number = second.number;
+    if number != 0 {
+        return PenaltyAnswer {
+            number: number,
+            part: second.part,
+            position: second.position,
+        };
+    }
+    penalty_form(first.register, second.scheme, table);
+    PenaltyAnswer {
+        number: 0,
+        part: 0,
+        position: 0,
+    }
+}

@@ -1,0 +1,78 @@
+-- A scale times g, term by term: as a form, how large it is, and its numbers as the code has them.
+use Prim.Native.Nat.{ℕ, _*_, _≤_, _<_}
+use mathlib.Core.Path.{_≡_, refl, _∙_, ap}
+use mathlib.Core.Bool.{Bool, true, false, cond}
+use mathlib.Core.List.{[], _∷_}
+use native.Mathlib.Omega.{arith}
+use lib.Dec.{eqb}
+use lib.IntN.{ℤ, natAbs, _*ℤ_}
+use mir.Syntax.{w32, w64}
+use mir.Val.{SFits, toZ, ofZ}
+use Rattle.integers.specs.Lists.{joinBelow}
+use Rattle.integers.proofs.Join.{join-cong}
+use Rattle.integers.proofs.Order.{natAbs-*-≤}
+use Rattle.integers.proofs.Machine.{fits-signed, read-signed, cast-read}
+use Rattle.forms.specs.Form.{mono, place, times}
+use Rattle.forms.proofs.Store.{norm1}
+use Rattle.forms.proofs.Times.{times-join}
+use Rattle.register.specs.declared.Register.{Register}
+use Rattle.register.specs.Limits.{maxCoefficient}
+use Rattle.register.specs.Register.{coefficient}
+use Rattle.register.specs.Valid.{Within}
+use Rattle.scheme.specs.declared.Scheme.{Scheme}
+use Rattle.scheme.specs.Scheme.{splitLeft, splitRight}
+use Rattle.scheme.specs.Function.{term, termOf, g}
+use Rattle.scheme.proofs.Table.{norm1-terms}
+
+-- ---- the form
+
+pub times-term : (k : ℤ) (l r : ℕ) (c : ℤ) → times k (term l r c) ≡ term l r (k *ℤ c)
+unfolding times term
+times-term k l r c = go (eqb l r)
+  where
+    go : (b : Bool) → times k (cond b (mono 0 (place l) c ∷ []) (mono (place l) (place r) c ∷ [])) ≡ cond b (mono 0 (place l) (k *ℤ c) ∷ []) (mono (place l) (place r) (k *ℤ c) ∷ [])
+    go true = refl
+    go false = refl
+
+pub times-g : (k : ℤ) (c : ℕ → ℤ) (r : Register) (s : Scheme) →
+    times k (g c r s) ≡ mono 0 0 (k *ℤ r .base) ∷ joinBelow (r .terms) (termOf (λ t. k *ℤ c t) s)
+unfolding times g
+times-g k c r s =
+    ap (λ f. mono 0 0 (k *ℤ r .base) ∷ f)
+    (times-join k (r .terms) (termOf c s) ∙ join-cong (r .terms) _ _ (λ t l. times-term k (splitLeft s t) (splitRight s t) (c t)))
+
+-- ---- how large it is
+
+module _ (k : ℤ) (r : Register) (s : Scheme) (small : natAbs k ≤ 1_000_000) (within : Within r) where
+  pub scaled-small : (t : ℕ) → t < r .terms → natAbs (k *ℤ coefficient r t) ≤ 1_000_000 * maxCoefficient
+  scaled-small t l = natAbs-*-≤ k (coefficient r t) 1_000_000 maxCoefficient small (within .terms t l .coefficient-within)
+
+  -- the first terms
+  pub scaled-norm : (n : ℕ) → n ≤ r .terms → norm1 (joinBelow n (termOf (λ t. k *ℤ coefficient r t) s)) ≤ 1_000_000 * maxCoefficient * 2 * n
+  scaled-norm n l = norm1-terms (λ t. k *ℤ coefficient r t) r s (1_000_000 * maxCoefficient) scaled-small n l
+
+-- ---- its numbers as the code has them
+
+-- a scale times a number of 32 bits
+pub record Product (k x : ℤ) : Type 0 where
+  pub narrow : SFits w32 x
+  pub fits : SFits w64 (k *ℤ toZ w64 (ofZ w64 (toZ w32 (ofZ w32 x))))
+  pub reads : toZ w64 (ofZ w64 (k *ℤ toZ w64 (ofZ w64 (toZ w32 (ofZ w32 x))))) ≡ k *ℤ x
+  pub low : natAbs (k *ℤ x) ≤ 1_000_000_000_000_000
+
+pub product : (k x : ℤ) → natAbs k ≤ 1_000_000 → natAbs x ≤ 1_000_000_000 → Product k x
+product k x a b = record {
+  narrow = narrow;
+  fits = rw same (fits-signed w64 (k *ℤ x) (omega (arith, low)));
+  reads = rw same (read-signed w64 (k *ℤ x) (omega (arith, low)));
+  low = low;
+}
+  where
+    narrow : SFits w32 x
+    narrow = fits-signed w32 x (omega arith)
+
+    low : natAbs (k *ℤ x) ≤ 1_000_000_000_000_000
+    low = natAbs-*-≤ k x 1_000_000 1_000_000_000 a b
+
+    same : k *ℤ toZ w64 (ofZ w64 (toZ w32 (ofZ w32 x))) ≡ k *ℤ x
+    same = ap (λ y. k *ℤ y) (cast-read w32 w64 x (omega arith) narrow)
