@@ -22,7 +22,9 @@ use Rattle.scheme.specs.Valid as S
 use Rattle.certificate.specs.Rules.{arity, byKey, ruleOf}
 use Rattle.certificate.specs.Residual.{bound}
 use Rattle.certificate.specs.Valid.{Valid}
-use Rattle.certificate.proofs.Worked.{exampleRegister, exampleScheme, exampleCertificate, w9}
+use Rattle.register.proofs.Example.{exampleRegister}
+use Rattle.scheme.proofs.Example.{exampleScheme}
+use Rattle.certificate.proofs.Worked.{exampleCertificate, w9}
 use Rattle.certificate.proofs.Commands.{allowed-command}
 use Rattle.certificate.proofs.Bound.{plan-bound}
 

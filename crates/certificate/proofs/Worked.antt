@@ -4,17 +4,16 @@ use mathlib.Core.Path.{_≡_, refl}
 use mathlib.Core.Bool.{true, false}
 use mathlib.Core.List.{[], _∷_, flatMap, map}
 use lib.IntN.{ℤ, pos, negsuc}
-use lib.ListN.{replicate}
 use Rattle.integers.specs.CeilDiv.{ceilDiv}
 use Rattle.integers.specs.Integer.{abs}
 use Rattle.integers.specs.Lists.{allBelow, joinBelow}
 use Rattle.integers.specs.Sum.{sumBelow, sumOver, except}
 use Rattle.integers.specs.Quadratic.{offDiagonal}
 use Rattle.forms.specs.Form.{times, entry}
-use Rattle.register.specs.declared.Register.{Register}
 use Rattle.register.specs.Register.{coefficient}
-use Rattle.scheme.specs.declared.Scheme.{Scheme}
 use Rattle.scheme.specs.Function.{term, g}
+use Rattle.register.proofs.Example.{exampleRegister}
+use Rattle.scheme.proofs.Example.{exampleScheme}
 use Rattle.certificate.specs.Certificate.{Certificate}
 use Rattle.certificate.specs.Rules.{byKey, ruleOf}
 use Rattle.certificate.specs.Residual.{nullPart, subtractedPart, nullForms, subtractedForms, reformulated, shifted, R, rowHolds, carries, bound}
@@ -22,35 +21,14 @@ use Rattle.certificate.proofs.Commands.{command}
 
 -- T/s of −7/2, 7/2, −1/3 give −3, 4, 0
 
-abbrev ratio : ℤ → ℕ → Certificate
+abbrev pub ratio : ℤ → ℕ → Certificate
 ratio t s = record { scale = s; target = t; multipliers = []; squares = [] }
 
-w8 : map bound (ratio (negsuc 6) 2 ∷ ratio (pos 7) 2 ∷ ratio (negsuc 0) 3 ∷ []) ≡ negsuc 2 ∷ pos 4 ∷ pos 0 ∷ []
+pub w8 : map bound (ratio (negsuc 6) 2 ∷ ratio (pos 7) 2 ∷ ratio (negsuc 0) 3 ∷ []) ≡ negsuc 2 ∷ pos 4 ∷ pos 0 ∷ []
 unfolding bound ceilDiv
 w8 = refl
 
--- the example's register, scheme and certificate, with target t
-
-abbrev pub exampleRegister : Register
-exampleRegister = record {
-  base = pos 10;
-  choices = 3;
-  terms = 3;
-  tanks = 4 ∷ 4 ∷ 7 ∷ replicate 29 0;
-  minutes = 480 ∷ 720 ∷ 480 ∷ replicate 29 0;
-  masks = 1 ∷ 2 ∷ 7 ∷ replicate 253 0;
-  coefficients = negsuc 5 ∷ negsuc 3 ∷ pos 5 ∷ replicate 253 (pos 0);
-}
-
-abbrev pub exampleScheme : Scheme
-exampleScheme = record {
-  products = 2;
-  splits = 3;
-  lefts = 0 ∷ 2 ∷ replicate 30 0;
-  rights = 1 ∷ 3 ∷ replicate 30 0;
-  «split_lefts» = 0 ∷ 1 ∷ 4 ∷ replicate 253 0;
-  «split_rights» = 0 ∷ 1 ∷ 4 ∷ replicate 253 0;
-}
+-- the example's certificate, with target t
 
 abbrev pub exampleCertificate : ℤ → Certificate
 exampleCertificate t = record {

@@ -4,35 +4,23 @@ use mathlib.Core.Path.{_≡_, refl}
 use mathlib.Core.Bool.{true, false}
 use mathlib.Core.List.{[], _∷_, flatMap, map}
 use lib.IntN.{negsuc}
-use lib.ListN.{replicate}
 use Rattle.integers.specs.Integer.{abs}
 use Rattle.integers.specs.Lists.{allBelow, joinBelow}
 use Rattle.integers.specs.Sum.{sumBelow, sumOver, except}
 use Rattle.integers.specs.Quadratic.{offDiagonal}
 use Rattle.forms.specs.Form.{coefficientOf, times, entry}
 use Rattle.register.specs.Register.{coefficient}
-use Rattle.scheme.specs.declared.Scheme.{Scheme}
 use Rattle.scheme.specs.Function.{term, g}
 use Rattle.certificate.specs.Certificate.{Certificate}
 use Rattle.certificate.specs.Rules.{byKey, ruleOf}
 use Rattle.certificate.specs.Residual.{nullPart, subtractedPart, nullForms, subtractedForms, reformulated, shifted, R, rowHolds, carries}
-use Rattle.certificate.proofs.Worked.{exampleRegister}
+use Rattle.register.proofs.Example.{exampleRegister}
 use Rattle.certificate.proofs.Commands.{command}
+use Rattle.scheme.proofs.Example.{builtScheme}
 use Rattle.plain.specs.Plain.{halfRowSum, linearLeft, unlessZero, cancelling, subtractedConstant, plain}
 
--- product 3 = (0,1), splits (0,0), (1,1), (2,3)
-abbrev scheme : Scheme
-scheme = record {
-  products = 1;
-  splits = 3;
-  lefts = 0 ∷ replicate 31 0;
-  rights = 1 ∷ replicate 31 0;
-  «split_lefts» = 0 ∷ 1 ∷ 2 ∷ replicate 253 0;
-  «split_rights» = 0 ∷ 1 ∷ 3 ∷ replicate 253 0;
-}
-
 -- the certificate with T = −6 and both `31` at m
-abbrev with31 : ℕ → Certificate
+abbrev pub with31 : ℕ → Certificate
 with31 m = record {
   scale = 1;
   target = negsuc 5;
@@ -41,11 +29,11 @@ with31 m = record {
 }
 
 -- ours has T = −6 and both at 3
-w7 : plain (coefficient exampleRegister) exampleRegister scheme ≡ with31 3
+pub w7 : plain (coefficient exampleRegister) exampleRegister builtScheme ≡ with31 3
 unfolding plain subtractedConstant linearLeft halfRowSum unlessZero cancelling coefficientOf g joinBelow term sumBelow sumOver offDiagonal except abs
 w7 = refl
 
 -- it carries T, and with both at 2 in place of 3 it doesn't
-w7-carries : map (λ m. carries (coefficient exampleRegister) exampleRegister scheme (with31 m)) (3 ∷ 2 ∷ []) ≡ true ∷ false ∷ []
+pub w7-carries : map (λ m. carries (coefficient exampleRegister) exampleRegister builtScheme (with31 m)) (3 ∷ 2 ∷ []) ≡ true ∷ false ∷ []
 unfolding carries allBelow rowHolds R shifted reformulated nullForms subtractedForms nullPart subtractedPart ruleOf byKey flatMap times entry g joinBelow term sumBelow sumOver offDiagonal except abs
 w7-carries = refl

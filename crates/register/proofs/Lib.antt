@@ -1,3 +1,4 @@
+pub mod Example
 pub mod Worked
 pub mod Commands
 pub mod Passes

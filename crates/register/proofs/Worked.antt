@@ -1,6 +1,6 @@
 -- The rows of the paper's refusal table that speak of the register, and its example.
 use mathlib.Core.Path.{_≡_, refl}
-use mathlib.Core.List.{List, [], _∷_, map}
+use mathlib.Core.List.{[], _∷_, map}
 use Prim.Native.Nat.{ℕ}
 use Rattle.wire.specs.Number.{natAt, little}
 use Rattle.wire.specs.Checks.{refusal, commandChecks}
@@ -9,6 +9,7 @@ use Rattle.wire.specs.Rows.{Progress, rowOf}
 use Rattle.register.specs.Register.{fresh}
 use Rattle.integers.specs.Lists.{comesBefore}
 use Rattle.register.specs.declared.Register.{Register}
+use Rattle.register.proofs.Example.{registerBytes}
 use Rattle.register.specs.Format.{baseChecks, choiceChecks, termChecks, endChecks, registerInJob, registerByItself}
 
 -- number and position of a refusal, 0 and the position past the end where there is none
@@ -16,12 +17,8 @@ abbrev answer : Reading (Progress Register) → ℕ × ℕ
 answer (refused number at) = (number, at)
 answer (accepted p end) = (0, end)
 
--- the example's part 1
-abbrev example : List ℕ
-example = 0x10 ∷ 0x0A ∷ 0 ∷ 0 ∷ 0 ∷ 0x11 ∷ 4 ∷ 0 ∷ 0xE0 ∷ 1 ∷ 0x11 ∷ 4 ∷ 0 ∷ 0xD0 ∷ 2 ∷ 0x11 ∷ 7 ∷ 0 ∷ 0xE0 ∷ 1 ∷ 0x12 ∷ 1 ∷ 0 ∷ 0 ∷ 0 ∷ 0xFA ∷ 0xFF ∷ 0xFF ∷ 0xFF ∷ 0x12 ∷ 2 ∷ 0 ∷ 0 ∷ 0 ∷ 0xFC ∷ 0xFF ∷ 0xFF ∷ 0xFF ∷ 0x12 ∷ 7 ∷ 0 ∷ 0 ∷ 0 ∷ 5 ∷ 0 ∷ 0 ∷ 0 ∷ 0x1F ∷ []
-
-answers : map (λ s. answer (registerByItself s))
-    (example
+pub answers : map (λ s. answer (registerByItself s))
+    (registerBytes
     ∷ (0x7E ∷ [])
     ∷ []
     ∷ (0x10 ∷ 0 ∷ 0 ∷ 0 ∷ 0 ∷ 0x1F ∷ [])

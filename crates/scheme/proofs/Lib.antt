@@ -1,3 +1,4 @@
+pub mod Example
 pub mod Variables
 pub mod Function
 pub mod Filling

@@ -1,4 +1,4 @@
--- The example, 113 bytes, and W9: it is accepted, and with T = 1 refused.
+-- The example, 113 bytes, as a job: it is accepted, with T = 1 refused, and one byte more is refused.
 use mathlib.Core.Path.{_≡_, refl}
 use mathlib.Core.List.{List, [], _∷_, _++_, map, flatMap}
 use Prim.Native.Nat.{ℕ}
@@ -28,26 +28,24 @@ use Rattle.plan.specs.Format.{planChecks, planInJob}
 use Rattle.certificate.specs.Rules.{byKey, arity, ruleOf}
 use Rattle.certificate.specs.Residual.{nullPart, subtractedPart, nullForms, subtractedForms, reformulated, shifted, R, rowHolds, carries, bound}
 use Rattle.certificate.specs.Format.{scaleChecks, outOfRange, multiplierChecks, squareChecks, commandsInJob, judged, certificateInJob}
+use Rattle.register.proofs.Example.{registerBytes}
+use Rattle.scheme.proofs.Example.{schemeBytes}
 use Rattle.job.specs.Outcome.{follow, outcome}
 use Rattle.job.specs.Listing.{choiceLines, fedLines, boundLine, listing}
 
 -- parts 1 and 2
-abbrev front : List ℕ
-front =
-    0x10 ∷ 0x0A ∷ 0 ∷ 0 ∷ 0
-    ∷ 0x11 ∷ 4 ∷ 0 ∷ 0xE0 ∷ 1 ∷ 0x11 ∷ 4 ∷ 0 ∷ 0xD0 ∷ 2 ∷ 0x11 ∷ 7 ∷ 0 ∷ 0xE0 ∷ 1
-    ∷ 0x12 ∷ 1 ∷ 0 ∷ 0 ∷ 0 ∷ 0xFA ∷ 0xFF ∷ 0xFF ∷ 0xFF ∷ 0x12 ∷ 2 ∷ 0 ∷ 0 ∷ 0 ∷ 0xFC ∷ 0xFF ∷ 0xFF ∷ 0xFF ∷ 0x12 ∷ 7 ∷ 0 ∷ 0 ∷ 0 ∷ 5 ∷ 0 ∷ 0 ∷ 0 ∷ 0x1F
-    ∷ 0x21 ∷ 0 ∷ 1 ∷ 0x21 ∷ 2 ∷ 3 ∷ 0x22 ∷ 0 ∷ 0 ∷ 0x22 ∷ 1 ∷ 1 ∷ 0x22 ∷ 4 ∷ 4 ∷ 0x2F ∷ []
+abbrev pub front : List ℕ
+front = registerBytes ++ schemeBytes
 
 -- parts 3 and 4, with a target below 256
-abbrev back : ℕ → List ℕ
+abbrev pub back : ℕ → List ℕ
 back target =
     0x30 ∷ 1 ∷ 0 ∷ 0 ∷ 0 ∷ target ∷ 0 ∷ 0 ∷ 0 ∷ 0 ∷ 0 ∷ 0 ∷ 0
     ∷ 0x39 ∷ 0 ∷ 6 ∷ 0 ∷ 0 ∷ 0 ∷ 0 ∷ 0 ∷ 0 ∷ 0 ∷ 0x39 ∷ 1 ∷ 4 ∷ 0 ∷ 0 ∷ 0 ∷ 0 ∷ 0 ∷ 0 ∷ 0 ∷ 0x38 ∷ 4 ∷ 5 ∷ 0 ∷ 0 ∷ 0 ∷ 0 ∷ 0 ∷ 0 ∷ 0 ∷ 0x3F
     ∷ 0x40 ∷ 3 ∷ 0 ∷ 0 ∷ 0 ∷ []
 
 -- `T 0 4 480` .. `B 0 0 0`
-abbrev lines : List ℕ
+abbrev pub lines : List ℕ
 lines =
     0x54 ∷ 0x20 ∷ 0x30 ∷ 0x20 ∷ 0x34 ∷ 0x20 ∷ 0x34 ∷ 0x38 ∷ 0x30 ∷ 0x0A
     ∷ 0x54 ∷ 0x20 ∷ 0x31 ∷ 0x20 ∷ 0x34 ∷ 0x20 ∷ 0x37 ∷ 0x32 ∷ 0x30 ∷ 0x0A
@@ -57,10 +55,10 @@ lines =
     ∷ 0x42 ∷ 0x20 ∷ 0x30 ∷ 0x20 ∷ 0x30 ∷ 0x20 ∷ 0x30 ∷ 0x0A ∷ []
 
 -- with T = 0 the lines; with T = 1 `R 9 107`; with one more byte `R 12 113`
-w9 : map (λ s. listing (outcome s)) ((front ++ back 0) ∷ (front ++ back 1) ∷ (front ++ (back 0 ++ (0 ∷ []))) ∷ [])
+pub jobs : map (λ s. listing (outcome s)) ((front ++ back 0) ∷ (front ++ back 1) ∷ (front ++ (back 0 ++ (0 ∷ []))) ∷ [])
     ≡ lines
     ∷ (0x52 ∷ 0x20 ∷ 0x39 ∷ 0x20 ∷ 0x31 ∷ 0x30 ∷ 0x37 ∷ 0x0A ∷ [])
     ∷ (0x52 ∷ 0x20 ∷ 0x31 ∷ 0x32 ∷ 0x20 ∷ 0x31 ∷ 0x31 ∷ 0x33 ∷ 0x0A ∷ [])
     ∷ []
 unfolding outcome follow listing choiceLines fedLines boundLine line decimal digits digitsTo flatMap joinBelow allBelow comesBefore abs sumBelow sumOver except offDiagonal ceilDiv isMember isSubset isProperSubset times entry natAt little refusal commandChecks operandsAt total checksAt afterAt command step P.follow run readFrom readPart rowOf Reg.fresh baseChecks choiceChecks termChecks RegFormat.endChecks registerInJob Sch.fresh upTo upward E term g isNew productChecks splitChecks SchFormat.endChecks schemeInJob cost planChecks planInJob byKey arity ruleOf nullPart subtractedPart nullForms subtractedForms reformulated shifted R rowHolds carries bound scaleChecks outOfRange multiplierChecks squareChecks commandsInJob judged certificateInJob
-w9 = refl
+jobs = refl

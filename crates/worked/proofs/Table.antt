@@ -1,0 +1,63 @@
+-- The paper's worked set, proved of the definitions, as one table.
+use mathlib.Core.Path.{_≡_}
+use mathlib.Core.Bool.{true, false}
+use mathlib.Core.List.{List, [], _∷_, _++_, map}
+use lib.IntN.{pos, negsuc}
+use Rattle.register.specs.Register.{coefficient}
+use Rattle.register.proofs.Example.{registerBytes, exampleRegister}
+use Rattle.scheme.specs.Variables.{E}
+use Rattle.scheme.proofs.Example.{exampleScheme, builtScheme}
+use Rattle.scheme.proofs.Worked as Scheme
+use Rattle.plan.specs.Encoding.{encodePlan}
+use Rattle.plan.specs.Answer.{acceptedCost, costAnswer}
+use Rattle.plan.proofs.Worked as Plan
+use Rattle.builder.specs.Builder.{build, built}
+use Rattle.builder.proofs.Worked as Builder
+use Rattle.penalty.specs.Weights.{weight}
+use Rattle.penalty.proofs.Worked as Penalty
+use Rattle.certificate.specs.Residual.{bound, carries}
+use Rattle.certificate.proofs.Worked as Certificate
+use Rattle.plain.specs.Plain.{plain}
+use Rattle.plain.proofs.Worked as Plain
+use Rattle.job.specs.Outcome.{outcome}
+use Rattle.job.specs.Listing.{listing}
+use Rattle.worked.proofs.Jobs.{front, back, lines, jobs}
+
+pub record Worked : Type 0 where
+  -- W1: sets of 3 and 4 are masks 3 and 7
+  pub w1 : map (E 3 exampleScheme) (3 ∷ 4 ∷ []) ≡ 3 ∷ 7 ∷ []
+  -- W2: plans 0, 3, 7 cost 10, 0, 5
+  pub w2 : map (λ p. costAnswer registerBytes (encodePlan p)) (0 ∷ 3 ∷ 7 ∷ []) ≡ map acceptedCost (pos 10 ∷ pos 0 ∷ pos 5 ∷ [])
+  -- W3: the builder makes product 3 = (0,1), splits (0,0), (1,1), (2,3)
+  pub w3 : build exampleRegister ≡ built builtScheme
+  -- W4: five choices, one term of all five: 5 = (0,1), 6 = (2,3), 7 = (5,6), split (4,7)
+  pub w4 : build Builder.five ≡ built Builder.fiveScheme
+  -- W5: bracket in h for (z_k,z_l,z_r) = 000 to 111
+  pub w5 : map Penalty.bracketAt Penalty.fillings ≡ pos 0 ∷ pos 0 ∷ pos 0 ∷ pos 1 ∷ pos 3 ∷ pos 1 ∷ pos 1 ∷ pos 0 ∷ []
+  -- W6: on W3, P_3 = 5
+  pub w6 : weight (coefficient exampleRegister) exampleRegister builtScheme 3 ≡ pos 5
+  -- W7: on W3 our certificate has T = −6; with both `31` at 2 in place of 3 it is refused 9
+  pub w7 : plain (coefficient exampleRegister) exampleRegister builtScheme ≡ Plain.with31 3
+  pub w7-refused : map (λ m. carries (coefficient exampleRegister) exampleRegister builtScheme (Plain.with31 m)) (3 ∷ 2 ∷ []) ≡ true ∷ false ∷ []
+  -- W8: T/s of −7/2, 7/2, −1/3 give −3, 4, 0
+  pub w8 : map bound (Certificate.ratio (negsuc 6) 2 ∷ Certificate.ratio (pos 7) 2 ∷ Certificate.ratio (negsuc 0) 3 ∷ []) ≡ negsuc 2 ∷ pos 4 ∷ pos 0 ∷ []
+  -- W9: the example is accepted, and with T = 1 refused: `R 9 107`; one more byte: `R 12 113`
+  pub w9 : map (λ s. listing (outcome s)) ((front ++ back 0) ∷ (front ++ back 1) ∷ (front ++ (back 0 ++ (0 ∷ []))) ∷ [])
+      ≡ lines
+      ∷ (0x52 ∷ 0x20 ∷ 0x39 ∷ 0x20 ∷ 0x31 ∷ 0x30 ∷ 0x37 ∷ 0x0A ∷ [])
+      ∷ (0x52 ∷ 0x20 ∷ 0x31 ∷ 0x32 ∷ 0x20 ∷ 0x31 ∷ 0x31 ∷ 0x33 ∷ 0x0A ∷ [])
+      ∷ []
+
+pub worked : Worked
+worked = record {
+  w1 = Scheme.w1;
+  w2 = Plan.w2;
+  w3 = Builder.w3;
+  w4 = Builder.w4;
+  w5 = Penalty.w5;
+  w6 = Penalty.w6;
+  w7 = Plain.w7;
+  w7-refused = Plain.w7-carries;
+  w8 = Certificate.w8;
+  w9 = jobs;
+}
