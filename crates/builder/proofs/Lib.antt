@@ -1,1 +1,17 @@
 pub mod Worked
+pub mod First
+pub mod Steps
+pub mod Joining
+pub mod Steady
+pub mod Fronts
+pub mod Passing
+pub mod Reducing
+pub mod Covers
+pub mod Choosing
+pub mod Terms
+pub mod Bytes
+pub mod Holds
+pub mod Unions
+pub mod Validity
+pub mod Answers
+pub mod Call

@@ -3,7 +3,7 @@ use mathlib.Core.Path.{_≡_}
 use Prim.Native.Nat.{ℕ, _+_, _*_, _≤_}
 use native.Mathlib.Nat.{mul-le-mul}
 use native.Mathlib.Omega.{arith}
-use lib.IntN.{ℤ}
+use lib.IntN.{ℤ, pos}
 use Rattle.integers.specs.Lists.{joinBelow}
 use Rattle.forms.specs.Form.{times}
 use Rattle.forms.specs.Table.{tableNumbers}
@@ -47,6 +47,10 @@ module _ (r : Register) (s : Scheme) (within : Within r) where
 
   pub h-norm : s .products ≤ maxProducts → norm1 (h (coefficient r) r s) ≤ 2 * (maxBase + maxTerms * maxCoefficient) + maxProducts * (16 * (maxTerms * maxCoefficient))
   h-norm l = omega (arith, norm1-h (coefficient r) r s, g-norm, penalties-norm (s .products))
+
+-- a weight as the code has it
+pub weight-read-small : (r : Register) (s : Scheme) (k x : ℕ) → Within r → pos x ≡ weight (coefficient r) r s k → x ≤ maxTerms * maxCoefficient
+weight-read-small r s k x within e = rw (← e) at (weight-small r s k within)
 
 -- a table of side N + 1 is at most 4,225 numbers
 pub side-square : (r : Register) (s : Scheme) → Within r → Valid r s → side (r .choices) s * side (r .choices) s ≤ tableNumbers

@@ -1,9 +1,11 @@
--- A scale times g, term by term: as a form, how large it is, and its numbers as the code has them.
-use Prim.Native.Nat.{ℕ, _*_, _≤_, _<_}
-use mathlib.Core.Path.{_≡_, refl, _∙_, ap}
+-- A scale times g, term by term: as a form, how large it is, the table to which it is added, and its numbers as the code has
+-- them.
+use Prim.Native.Nat.{ℕ, _+_, _*_, _≤_, _<_}
+use mathlib.Core.Path.{_≡_, refl, sym, _∙_, ap}
 use mathlib.Core.Bool.{Bool, true, false, cond}
-use mathlib.Core.List.{[], _∷_}
+use mathlib.Core.List.{List, [], _∷_}
 use native.Mathlib.Omega.{arith}
+use native.Mathlib.Numerals.{add-one}
 use lib.Dec.{eqb}
 use lib.IntN.{ℤ, natAbs, _*ℤ_}
 use mir.Syntax.{w32, w64}
@@ -12,17 +14,19 @@ use Rattle.integers.specs.Lists.{joinBelow}
 use Rattle.integers.proofs.Join.{join-cong}
 use Rattle.integers.proofs.Order.{natAbs-*-≤}
 use Rattle.integers.proofs.Machine.{fits-signed, read-signed, cast-read}
-use Rattle.forms.specs.Form.{mono, place, times}
-use Rattle.forms.proofs.Store.{norm1}
+use Rattle.forms.specs.Form.{Form, mono, place, times}
+use Rattle.forms.specs.Store.{addForm, Bounded}
+use Rattle.forms.proofs.Store.{norm1, addForm-join, bounded-addForm, bounded-weaken}
 use Rattle.forms.proofs.Times.{times-join}
 use Rattle.register.specs.declared.Register.{Register}
 use Rattle.register.specs.Limits.{maxCoefficient}
 use Rattle.register.specs.Register.{coefficient}
 use Rattle.register.specs.Valid.{Within}
 use Rattle.scheme.specs.declared.Scheme.{Scheme}
-use Rattle.scheme.specs.Scheme.{splitLeft, splitRight}
+use Rattle.scheme.specs.Scheme.{side, splitLeft, splitRight}
 use Rattle.scheme.specs.Function.{term, termOf, g}
-use Rattle.scheme.proofs.Table.{norm1-terms}
+use Rattle.scheme.specs.Valid.{Valid}
+use Rattle.scheme.proofs.Table.{terms-below, norm1-terms}
 
 -- ---- the form
 
@@ -50,6 +54,27 @@ module _ (k : ℤ) (r : Register) (s : Scheme) (small : natAbs k ≤ 1_000_000) 
   -- the first terms
   pub scaled-norm : (n : ℕ) → n ≤ r .terms → norm1 (joinBelow n (termOf (λ t. k *ℤ coefficient r t) s)) ≤ 1_000_000 * maxCoefficient * 2 * n
   scaled-norm n l = norm1-terms (λ t. k *ℤ coefficient r t) r s (1_000_000 * maxCoefficient) scaled-small n l
+
+-- ---- a table to which it is added
+
+-- the first t terms
+abbrev pub firstTerms : ℤ → Register → Scheme → ℕ → Form
+firstTerms k r s t = joinBelow t (termOf (λ t. k *ℤ coefficient r t) s)
+
+-- the table after t terms has room for one more
+pub terms-room : (k : ℤ) (r : Register) (s : Scheme) (n t : ℕ) (table table₀ : List ℤ) → Within r → Valid r s → n ≡ side (r .choices) s →
+    Bounded n 3_000_000_000_000_000_000 table₀ → natAbs k ≤ 1_000_000 → t ≤ r .terms → table ≡ addForm n (firstTerms k r s t) table₀ →
+    Bounded n 4_000_000_000_000_000_000 table
+terms-room k r s n t table table₀ within valid e h small l d =
+    rw d
+    (bounded-weaken (bounded-addForm (rw e (terms-below (λ t. k *ℤ coefficient r t) r s valid t l)) h)
+    (omega (arith, scaled-norm k r s small within t l, within .terms-within)))
+
+pub terms-turn : (k : ℤ) (r : Register) (s : Scheme) (n t : ℕ) (table table₀ u : List ℤ) (x : ℤ) → x ≡ k *ℤ coefficient r t →
+    table ≡ addForm n (firstTerms k r s t) table₀ → u ≡ addForm n (term (splitLeft s t) (splitRight s t) x) table →
+    u ≡ addForm n (firstTerms k r s (t + 1)) table₀
+terms-turn k r s n t table table₀ u x e d f =
+    f ∙ rw (d, e, add-one) (sym (addForm-join n t (termOf (λ t. k *ℤ coefficient r t) s) table₀))
 
 -- ---- its numbers as the code has them
 

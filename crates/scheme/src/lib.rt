@@ -102,7 +102,7 @@ fn entry(entries: &[u32], i: usize) -> u32
 }
 
 // The union of the sets of two variables.
-fn union_of(sets: &[u32], l: u8, r: u8) -> u32
+pub fn union_of(sets: &[u32], l: u8, r: u8) -> u32
     ensures { λ x. ⌜ x ≡ unionIn (now (sets .entry)) l r ⌝ }
 {
     entry(sets, l as usize) | entry(sets, r as usize)
@@ -124,7 +124,7 @@ fn is_new(sets: &[u32], count: usize, union: u32) -> bool
 }
 
 // The sets of n choices.
-fn choice_sets(n: usize) -> [u32; Scheme::VARIABLES]
+pub fn choice_sets(n: usize) -> [u32; Scheme::VARIABLES]
     requires { ⌜ n ≤ maxChoices ⌝ }
     ensures { λ r. ⌜ ((s : Scheme) → SetsBelow n s n r) ⌝ }
 {

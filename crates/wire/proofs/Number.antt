@@ -130,7 +130,7 @@ natAt-drop k m s at = rw drop-drop
 
 -- Numbers written.
 
-sets-append : (l : List ℕ) (i : ℕ) (xs ys : List ℕ) → sets l i (xs ++ ys) ≡ sets (sets l i xs) (i + length xs) ys
+pub sets-append : (l : List ℕ) (i : ℕ) (xs ys : List ℕ) → sets l i (xs ++ ys) ≡ sets (sets l i xs) (i + length xs) ys
 sets-append l i [] ys = rw add-zero
 sets-append l i (x ∷ xs) ys = rw (sets-append _ (suc i) xs ys, add-suc, suc-add)
 

@@ -1,7 +1,7 @@
 -- `penalty::add_penalties` meets its contract. After i turns the penalties of the first i products are added.
 use mathlib.Core.Path.{_≡_, refl, _∙_, ap}
 use mathlib.Core.List.{List}
-use Prim.Native.Nat.{ℕ, _+_, _*_, _≤_, _<_, _-_}
+use Prim.Native.Nat.{ℕ, _+_, _≤_, _<_, _-_}
 use native.Mathlib.Omega.{arith}
 use native.Mathlib.Numerals.{add-one}
 use lib.IntN.{ℤ, pos}
@@ -14,7 +14,6 @@ use Rattle.forms.specs.Form.{times}
 use Rattle.forms.specs.Store.{addForm, Bounded}
 use Rattle.forms.proofs.Store.{addForm-join, length-addForm, bounded-addForm, bounded-weaken}
 use Rattle.register.specs.declared.Register.{Register}
-use Rattle.register.specs.Limits.{maxTerms, maxCoefficient}
 use Rattle.register.specs.Register.{coefficient}
 use Rattle.register.specs.Valid.{Within}
 use Rattle.scheme.specs.declared.Scheme.{Scheme}
@@ -22,9 +21,8 @@ use Rattle.scheme.specs.Scheme.{left, side}
 use Rattle.scheme.specs.Valid.{Valid}
 use Rattle.penalty.specs.Weights.{weight}
 use Rattle.penalty.specs.Penalty.{bracket, penaltyOf}
-use Rattle.penalty.proofs.Weights.{weight-small}
 use Rattle.penalty.proofs.Penalty.{below-penalties}
-use Rattle.penalty.proofs.Bounds.{penalties-norm}
+use Rattle.penalty.proofs.Bounds.{penalties-norm, weight-read-small}
 use Rattle.penalty.proofs.add_penalties.Statement.{statement}
 use Rattle.penalty.proofs.add_penalties.Tie as tie
 
@@ -45,10 +43,6 @@ operands r s i valid l =
     let p = valid .within .products (r .choices + i) (omega arith) (omega arith) in
     let x : left (r .choices) s (r .choices + i) < r .choices + i = omega (arith, p .ordered, p .falls) in
     (rw (same (r .choices) i) at x, rw (same (r .choices) i) at (p .falls))
-
--- the weight of product n + i as the code has it
-weight-low : (r : Register) (s : Scheme) (k x : ℕ) → Within r → pos x ≡ weight (coefficient r) r s k → x ≤ maxTerms * maxCoefficient
-weight-low r s k x within e = rw (← e) at (weight-small r s k within)
 
 turn : (r : Register) (s : Scheme) (n i : ℕ) (t t₀ u : List ℤ) (w : ℤ) → w ≡ weight (coefficient r) r s (r .choices + i) →
     t ≡ addForm n (joinBelow i (penaltyOf (coefficient r) r s)) t₀ →
@@ -91,7 +85,7 @@ cast-add-bracket-2 c = search needs
 cast-add-bracket-3 : tie.Need-cast-add-bracket-3 Inv-loop μ-loop
 cast-add-bracket-3 c =
     let b = c .before .before .before .before .before .before in
-    let l = weight-low (b .args .register) (b .args .t2) _ _ (b .pre .0 .within) (c .before .weight .ensures) in
+    let l = weight-read-small (b .args .register) (b .args .t2) _ _ (b .pre .0 .within) (c .before .weight .ensures) in
     fits-signed w64 (pos (c .before .weight .result)) (omega (arith, l))
 
 add-bracket-requires : tie.Need-add-bracket-requires Inv-loop μ-loop
@@ -99,7 +93,7 @@ add-bracket-requires c κs =
     let b = c .before .before .before .before .before .before in
     let i = c .before .before .before .before .before .loop in
     let l : i .i < b .args .t2 .products = omega arith in
-    let w = weight-low (b .args .register) (b .args .t2) _ _ (b .pre .0 .within) (c .before .weight .ensures) in
+    let w = weight-read-small (b .args .register) (b .args .t2) _ _ (b .pre .0 .within) (c .before .weight .ensures) in
     let o = operands (b .args .register) (b .args .t2) (i .i) (b .pre .1 .0) l in (
       room (b .args .register) (b .args .t2) _ (i .i) _ _ (b .pre .0 .within) (b .pre .1 .0) (b .pre .1 .1 .0) (b .pre .1 .1 .1) (omega arith) (i .inv .1),
       ((omega (arith, b .pre .1 .1 .0), o .0, o .1), rw (read-unsigned w64 (c .before .weight .result) (omega (arith, w))) (omega (arith, w))),
@@ -116,7 +110,7 @@ loop-again c =
     let b = c .before .before .before .before .before .before .before .before in
     let i = c .before .before .before .before .before .before .before .loop in
     let x = c .before .before .before .weight in
-    let w = weight-low (b .args .register) (b .args .t2) _ _ (b .pre .0 .within) (x .ensures) in
+    let w = weight-read-small (b .args .register) (b .args .t2) _ _ (b .pre .0 .within) (x .ensures) in
     (omega arith, turn (b .args .register) (b .args .t2) _ (i .i) _ _ _ _ (read-unsigned w64 _ (omega (arith, w)) ∙ x .ensures) (i .inv .1) (c .before .add-bracket .ensures))
 
 same-length : tie.Need-same-length Inv-loop μ-loop

@@ -1,48 +1,21 @@
 -- `penalty::add_terms` meets its contract. After t turns the first t terms are added.
-use mathlib.Core.Path.{_≡_, refl, sym, _∙_, ap₂}
-use mathlib.Core.List.{List}
-use Prim.Native.Nat.{ℕ, _+_, _≤_, _<_, _-_}
+use mathlib.Core.Path.{_≡_, refl, _∙_, ap₂}
+use Prim.Native.Nat.{ℕ, _≤_, _<_, _-_}
 use native.Mathlib.Omega.{arith}
-use native.Mathlib.Numerals.{add-one}
-use lib.IntN.{ℤ, natAbs, _*ℤ_}
+use lib.IntN.{ℤ, natAbs}
 use mir.Syntax.{w32, w64}
 use mir.Val.{toZ, ofZ}
 use borrow.Author.Needs.{needs}
 use Rattle.integers.specs.Lists.{joinBelow}
 use Rattle.integers.proofs.Machine.{cast-fits, read-signed}
-use Rattle.forms.specs.Form.{Form}
-use Rattle.forms.specs.Store.{addForm, Bounded}
-use Rattle.forms.proofs.Store.{addForm-join, length-addForm, bounded-addForm, bounded-weaken}
-use Rattle.register.specs.declared.Register.{Register}
+use Rattle.forms.specs.Store.{addForm}
+use Rattle.forms.proofs.Store.{length-addForm}
 use Rattle.register.specs.Register.{coefficient}
-use Rattle.register.specs.Valid.{Within}
-use Rattle.scheme.specs.declared.Scheme.{Scheme}
-use Rattle.scheme.specs.Scheme.{side, splitLeft, splitRight}
-use Rattle.scheme.specs.Function.{term, termOf}
-use Rattle.scheme.specs.Valid.{Valid}
-use Rattle.scheme.proofs.Table.{split-of, terms-below}
-use Rattle.penalty.proofs.Scaled.{scaled-norm, Product, product}
+use Rattle.scheme.specs.Scheme.{side}
+use Rattle.scheme.proofs.Table.{split-of}
+use Rattle.penalty.proofs.Scaled.{Product, product, firstTerms, terms-room, terms-turn}
 use Rattle.penalty.proofs.add_terms.Statement.{statement}
 use Rattle.penalty.proofs.add_terms.Tie as tie
-
--- the first t terms, scaled
-abbrev firstTerms : ℤ → Register → Scheme → ℕ → Form
-firstTerms k r s t = joinBelow t (termOf (λ t. k *ℤ coefficient r t) s)
-
--- the table after t terms has room for one more
-room : (k : ℤ) (r : Register) (s : Scheme) (n t : ℕ) (table table₀ : List ℤ) → Within r → Valid r s → n ≡ side (r .choices) s →
-    Bounded n 3_000_000_000_000_000_000 table₀ → natAbs k ≤ 1_000_000 → t ≤ r .terms → table ≡ addForm n (firstTerms k r s t) table₀ →
-    Bounded n 4_000_000_000_000_000_000 table
-room k r s n t table table₀ within valid e h small l d =
-    rw d
-    (bounded-weaken (bounded-addForm (rw e (terms-below (λ t. k *ℤ coefficient r t) r s valid t l)) h)
-    (omega (arith, scaled-norm k r s small within t l, within .terms-within)))
-
-turn : (k : ℤ) (r : Register) (s : Scheme) (n t : ℕ) (table table₀ u : List ℤ) (x : ℤ) → x ≡ k *ℤ coefficient r t →
-    table ≡ addForm n (firstTerms k r s t) table₀ → u ≡ addForm n (term (splitLeft s t) (splitRight s t) x) table →
-    u ≡ addForm n (firstTerms k r s (t + 1)) table₀
-turn k r s n t table table₀ u x e d f =
-    f ∙ rw (d, e, add-one) (sym (addForm-join n t (termOf (λ t. k *ℤ coefficient r t) s) table₀))
 
 abbrev Inv-loop : tie.InvT-loop
 Inv-loop table₀ side scale register scheme terms t₀ table t = (t ≤ register .terms) × (table ≡ addForm side (firstTerms (toZ w64 scale) register scheme t) table₀)
@@ -107,7 +80,7 @@ add-term-requires c κs =
     let l : i .t < b .args .t1 .terms = omega arith in
     let p = split-of (b .pre .1 .0) (i .t) l in
     let k = scaled b (i .t) l in (
-      room (scale b) (b .args .t1) (b .args .t2) _ (i .t) _ _ (b .pre .0 .within) (b .pre .1 .0) (b .pre .1 .1 .0) (b .pre .1 .1 .1 .0) (scale-small b) (omega arith) (i .inv .1),
+      terms-room (scale b) (b .args .t1) (b .args .t2) _ (i .t) _ _ (b .pre .0 .within) (b .pre .1 .0) (b .pre .1 .1 .0) (b .pre .1 .1 .1 .0) (scale-small b) (omega arith) (i .inv .1),
       (
         (omega (arith, p .ordered, p .there, b .pre .1 .1 .0), omega (arith, p .there, b .pre .1 .1 .0)),
         rw (k .reads) (omega (arith, k .low)),
@@ -124,7 +97,7 @@ loop-again : tie.Need-loop-again Inv-loop μ-loop
 loop-again c =
     let b = c .before .before .before .before .before .before .before .before in
     let i = c .before .before .before .before .before .before .before .loop in
-    (omega arith, turn (scale b) (b .args .t1) (b .args .t2) _ (i .t) _ _ _ _ (scaled b (i .t) (omega arith) .reads) (i .inv .1) (c .before .add-term .ensures))
+    (omega arith, terms-turn (scale b) (b .args .t1) (b .args .t2) _ (i .t) _ _ _ _ (scaled b (i .t) (omega arith) .reads) (i .inv .1) (c .before .add-term .ensures))
 
 same-length : tie.Need-same-length Inv-loop μ-loop
 same-length c = let b = c .before .before in rw (c .before .loop .inv .1) (length-addForm (b .args .side) (firstTerms (scale b) (b .args .t1) (b .args .t2) (c .before .loop .t)) (b .args .table .now))
