@@ -1,4 +1,5 @@
--- The worked rows; the rules and the relaxation; R, B and the bound; the table as a check builds it; how large the numbers become.
+-- The worked rows; the rules and the relaxation; R, B and the bound; the table as a check builds it; how large the numbers become;
+-- the commands one by one, and reading them.
 pub mod Commands
 pub mod Worked
 pub mod Forms
@@ -12,3 +13,20 @@ pub mod Peaks
 pub mod Bounds
 pub mod RowBounds
 pub mod Example
+pub mod Operands
+pub mod Ranges
+pub mod Asks
+pub mod Rows
+pub mod Shown
+pub mod Passes
+pub mod Lowest
+pub mod Going
+pub mod Encoded
+pub mod Growth
+pub mod Steps
+pub mod Sofar
+pub mod Checked
+pub mod Readback
+pub mod Leading
+pub mod Complete
+pub mod Accept

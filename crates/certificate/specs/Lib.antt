@@ -6,3 +6,5 @@ pub mod Residual
 pub mod Format
 pub mod Valid
 pub mod Relaxed
+pub mod Answer
+pub mod Encoding

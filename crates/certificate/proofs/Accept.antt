@@ -1,0 +1,122 @@
+-- What acceptance means, over all runs of bytes: the certificate is valid for the register and the scheme, and what was read is
+-- an encoding of it.
+use Prim.Native.Nat.{ℕ, _+_, _-_, _≤_}
+use native.Mathlib.Omega.{arith}
+use mathlib.Core.Path.{_≡_, refl, _∙_, ap}
+use mathlib.Core.Logic.{_↔_}
+use mathlib.Core.Bool.{Bool, true, false, cond}
+use mathlib.Core.List.{List, [], _∷_, _++_, append-nil}
+use lib.Dec.{T, ltb}
+use lib.IntN.{ℤ}
+use lib.ListN.{length, getD, drop}
+use lib.Seq.{drop-length}
+use borrow.Author.Tests.{le-ltb}
+use Rattle.integers.proofs.Lists.{T-true}
+use Rattle.wire.specs.Number.{Bytes}
+use Rattle.wire.specs.Part.{Reading, refused, accepted, size, afterAt, readPart, byItself}
+use Rattle.wire.specs.Rows.{Progress}
+use Rattle.wire.proofs.Part.{Ways, by-ways, readFrom-end}
+use Rattle.register.specs.declared.Register.{Register}
+use Rattle.register.specs.Valid as R
+use Rattle.scheme.specs.declared.Scheme.{Scheme}
+use Rattle.scheme.specs.Valid as S
+use Rattle.certificate.specs.Certificate.{Certificate}
+use Rattle.certificate.specs.Residual.{carries}
+use Rattle.certificate.specs.Format.{commandsInJob, judged, certificateInJob, certificateByItself}
+use Rattle.certificate.specs.Valid.{Within, Valid}
+use Rattle.certificate.specs.Encoding.{encodeBody, Encodes}
+use Rattle.certificate.proofs.Rows.{part, reached}
+use Rattle.certificate.proofs.Complete.{certificate-accepted}
+use Rattle.certificate.proofs.Steps.{Ended}
+use Rattle.certificate.proofs.Sofar.{Sofar, starts, goes-on, ends-here}
+
+module _ (reg : Register) (sch : Scheme) where
+  -- what was read in the end
+  ended : (s : List ℕ) (p : Progress Certificate) (end : ℕ) → commandsInJob reg sch s ≡ accepted p end → Ended reg sch s p end
+  unfolding commandsInJob readPart
+  ended s p end q = by-ways (part reg sch) s Q ways (part reg sch .start) 0 (starts reg sch s) q
+    where
+      Q : Progress Certificate → ℕ → Reading (Progress Certificate) → Type 0
+      Q read at x = Sofar reg sch s read at → x ≡ accepted p end → Ended reg sch s p end
+
+      ways : Ways (part reg sch) s Q
+      ways = record {
+        missing = λ read at l g q. let z : _≡_ {A = ℕ} 0 1 = cc in absurd (omega arith);
+        refuses = λ read at n l e d g q. let z : _≡_ {A = ℕ} 0 1 = cc in absurd (omega arith);
+        goes = λ read at x h l rest g q. rest (goes-on reg sch s read at h g l) q;
+        ends = λ read at h l g q.
+            let d : afterAt (part reg sch) s read at ≡ p = cc in
+            let k : at + size (part reg sch) (getD s at 0) ≡ end = cc in
+            rw (d, k) at (ends-here reg sch s read at h g l);
+      }
+
+  -- ---- the commands, judged by refusals 1 to 8
+
+  module _ (s : List ℕ) (p : Progress Certificate) (end : ℕ) (e : commandsInJob reg sch s ≡ accepted p end) where
+    pub within-accepted : Within reg sch (p .gave) × (p .previous ≡ 0x3F)
+    within-accepted = let h = ended s p end e in (h .within, h .previous)
+
+    -- the end is within the bytes
+    pub end-within : end ≤ length s
+    unfolding commandsInJob readPart
+    end-within = readFrom-end (part reg sch) s (part reg sch .start) 0 e .1
+
+    -- what was read, where nothing stands behind it
+    pub encodes-accepted : Bytes s → end ≡ length s → Encodes (p .gave) s
+    encodes-accepted b l =
+        let h = ended s p end e in
+        let rest : drop end s ≡ [] = ap (λ n. drop n s) l ∙ drop-length s in
+        let whole = encodeBody (p .gave .scale) (p .gave .target) (h .entries) ++ (0x3F ∷ []) in
+        record { entries = h .entries; commands = h .commands; bytes = h .bytes b ∙ ap (λ x. whole ++ x) rest ∙ append-nil whole }
+
+  module _ (c : ℕ → ℤ) where
+    -- ---- in a job: R carries T
+
+    judged-accepted : (x : Reading (Progress Certificate)) (p : Progress Certificate) (end : ℕ) → judged c reg sch x ≡ accepted p end → (x ≡ accepted p end) × T (carries c reg sch (p .gave))
+    unfolding judged
+    judged-accepted (refused n at) p end e = let z : _≡_ {A = ℕ} 0 1 = cc in absurd (omega arith)
+    judged-accepted (accepted q to) p end e = by (carries c reg sch (q .gave)) refl e
+      where
+        by : (t : Bool) → carries c reg sch (q .gave) ≡ t → _≡_ {A = Reading (Progress Certificate)} (cond t (accepted q to) (refused 9 (to - 1))) (accepted p end) → (_≡_ {A = Reading (Progress Certificate)} (accepted q to) (accepted p end)) × T (carries c reg sch (p .gave))
+        by true u e = let k : q ≡ p = cc in (e, rw (← k) (T-true _ .1 u))
+        by false u e = let z : _≡_ {A = ℕ} 0 1 = cc in absurd (omega arith)
+
+    module _ (s : List ℕ) (p : Progress Certificate) (end : ℕ) (e : certificateInJob c reg sch s ≡ accepted p end) where
+      pub commands-accepted : (commandsInJob reg sch s ≡ accepted p end) × T (carries c reg sch (p .gave))
+      unfolding certificateInJob
+      commands-accepted = judged-accepted (commandsInJob reg sch s) p end e
+
+      pub valid-accepted : Valid c reg sch (p .gave) × (p .previous ≡ 0x3F)
+      valid-accepted =
+          let (q, t) = commands-accepted in
+          let (w, f) = within-accepted s p end q in
+          (record { within = w; carried = t }, f)
+
+-- ---- a run of bytes by itself
+
+whole-accepted : {S : Type 0} (s : List ℕ) (x : Reading S) (p : S) → byItself s x ≡ accepted p (length s) → x ≡ accepted p (length s)
+unfolding byItself
+whole-accepted s (refused n at) p e = e
+whole-accepted {S} s (accepted q to) p e = by (ltb to (length s)) e
+  where
+    by : (t : Bool) → _≡_ {A = Reading S} (cond t (refused 12 to) (accepted q to)) (accepted p (length s)) → _≡_ {A = Reading S} (accepted q to) (accepted p (length s))
+    by true e = let z : _≡_ {A = ℕ} 0 1 = cc in absurd (omega arith)
+    by false e = e
+
+module _ (reg : Register) (regValid : R.Valid reg) (sch : Scheme) (schValid : S.Valid reg sch) (c : ℕ → ℤ) (k : Certificate) (s : List ℕ) (b : Bytes s) where
+  -- a certificate is accepted from just those runs of bytes that encode it, where it is valid
+  pub accepted-iff : (certificateByItself c reg sch s ≡ accepted (reached 0x3F k) (length s)) ↔ (Valid c reg sch k × Encodes k s)
+  unfolding certificateByItself certificateInJob judged byItself
+  accepted-iff = (to, from)
+    where
+      to : certificateByItself c reg sch s ≡ accepted (reached 0x3F k) (length s) → Valid c reg sch k × Encodes k s
+      to e =
+          let q = whole-accepted s (certificateInJob c reg sch s) (reached 0x3F k) e in
+          let (x, t) = commands-accepted reg sch c s (reached 0x3F k) (length s) q in
+          (record { within = within-accepted reg sch s (reached 0x3F k) (length s) x .0; carried = t }, encodes-accepted reg sch s (reached 0x3F k) (length s) x b refl)
+
+      from : Valid c reg sch k × Encodes k s → certificateByItself c reg sch s ≡ accepted (reached 0x3F k) (length s)
+      from (v, e) =
+          let x = certificate-accepted reg sch (omega (arith, regValid .within .choices-within, schValid .within .products-within)) k s (v .within) e in
+          let t : carries c reg sch k ≡ true = T-true (carries c reg sch k) .0 (v .carried) in
+          rw (x, t, le-ltb (length s) (length s) (omega arith))

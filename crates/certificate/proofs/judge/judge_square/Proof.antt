@@ -1,0 +1,43 @@
+-- `certificate::judge::judge_square` meets its contract. The common checks first, then its own.
+use mathlib.Core.Path.{sym, _∙_}
+use mathlib.Core.List.{[]}
+use native.Mathlib.Omega.{arith}
+use Rattle.wire.proofs.Checks.{command-refused, command-own, command-room}
+use borrow.Author.Needs.{needs}
+use Rattle.certificate.proofs.judge.judge_square.Statement.{statement}
+use Rattle.certificate.proofs.judge.judge_square.Tie as tie
+
+after-scale-requires : tie.Need-after-scale-requires
+after-scale-requires c κs = search needs
+
+sub-command-refusal : tie.Need-sub-command-refusal
+sub-command-refusal c = search needs
+
+command-refusal-requires : tie.Need-command-refusal-requires
+command-refusal-requires c κs = search needs
+
+returns : tie.Need-returns
+returns c = rw (← (c .before .before .after-scale .ensures)) (command-refused _ _ _ _ _ (c .before .command-refusal .ensures) (c .if1 .taken))
+
+square-at-requires : tie.Need-square-at-requires
+square-at-requires c κs = omega (arith, command-room _ _ _ [] _ (c .before .command-refusal .ensures) (c .if1 .left))
+
+square-refusal-requires : tie.Need-square-refusal-requires
+square-refusal-requires c κs = search needs
+
+returns-2 : tie.Need-returns-2
+returns-2 c =
+    let m = c .before in
+    c .square-refusal .ensures ∙ rw (m .square-at .ensures, ← (m .before .before .before .after-scale .ensures)) (sym (command-own _ _ _ _ _ (m .before .before .command-refusal .ensures) (m .before .if1 .left)))
+
+pub judge-square-spec : {M : Type 1} → statement M
+judge-square-spec =
+    tie.close
+    (tie.spec
+    after-scale-requires
+    sub-command-refusal
+    command-refusal-requires
+    returns
+    square-at-requires
+    square-refusal-requires
+    returns-2)

@@ -1,0 +1,110 @@
+-- What the code keeps of a certificate, what its checks look at, and what the certificate's calls answer, by what reading leads
+-- to. The code's records have the paper's names too: here they are Counts, Named and Filled.
+use Prim.Native.Nat.{ℕ, _+_}
+use mathlib.Core.Path.{_≡_}
+use mathlib.Core.Bool.{true}
+use mathlib.Core.List.{List, [], _∷_, _++_}
+use lib.IntN.{pos}
+use lib.ListN.{length, getD, replicate}
+use Rattle.wire.specs.Part.{Reading, refused, accepted, operandsAt}
+use Rattle.wire.specs.Rows.{Progress}
+use Rattle.register.specs.declared.Register.{Register}
+use Rattle.scheme.specs.declared.Scheme.{Scheme}
+use Rattle.scheme.specs.Scheme.{variables}
+use Rattle.scheme.specs.Sets.{SetsBelow}
+use Rattle.certificate.specs.declared.Certificate.{Certificate as Counts}
+use Rattle.certificate.specs.declared.Multiplier.{Multiplier as Named}
+use Rattle.certificate.specs.declared.Square.{Square as Filled}
+use Rattle.certificate.specs.declared.Rule.{Rule as Judged}
+use Rattle.certificate.specs.declared.CertificateRead.{CertificateRead}
+use Rattle.certificate.specs.Limits.{squareEntries}
+use Rattle.certificate.specs.Certificate.{Multiplier, Square, Certificate}
+use Rattle.certificate.specs.Rules.{Rule, arity, byKey, noRule, rules}
+use Rattle.certificate.specs.Format.{multiplierOf, squareOf}
+
+-- ---- what the code keeps
+
+-- a certificate by its counts
+abbrev pub countsOf : Certificate → Counts
+countsOf k = record {
+  scale = k .scale;
+  target = k .target;
+  multipliers = length (k .multipliers);
+  squares = length (k .squares);
+}
+
+-- a multiplier command by the variables that it names, 0 where it names fewer
+abbrev pub namedOf : Multiplier → Named
+namedOf t = record {
+  kind = t .kind;
+  i = getD (t .names) 0 0;
+  j = getD (t .names) 1 0;
+  k = getD (t .names) 2 0;
+  l = getD (t .names) 3 0;
+  m = t .m;
+}
+
+abbrev pub filledOf : Square → Filled
+filledOf q = record { weight = q .w; entries = q .v }
+
+abbrev pub squareIn : Filled → Square
+squareIn q = record { w = q .weight; v = q .entries }
+
+-- no square read yet
+unfoldable pub freshSquare : Filled
+freshSquare = record { weight = 0; entries = replicate squareEntries (pos 0) }
+
+-- ---- the command at a position
+
+-- the operands of a multiplier command
+abbrev pub multiplierWidths : ℕ → List ℕ
+multiplierWidths kind = replicate (arity kind) 1 ++ (8 ∷ [])
+
+unfoldable pub multiplierAt : List ℕ → ℕ → Multiplier
+multiplierAt s at = let kind = getD s at 0 in multiplierOf kind (operandsAt (multiplierWidths kind) s (at + 1))
+
+abbrev pub squareWidths : List ℕ
+squareWidths = 4 ∷ replicate squareEntries 2
+
+unfoldable pub squareRead : List ℕ → ℕ → Square
+squareRead s at = squareOf (operandsAt squareWidths s (at + 1))
+
+-- ---- what the checks look at
+
+-- n choices, N variables, and the sets of the variables
+pub record Known (reg : Register) (sch : Scheme) (n N : ℕ) (sets : List ℕ) : Type 0 where
+  pub choices-is : reg .choices ≡ n
+  pub variables-is : variables n sch ≡ N
+  pub sets-are : SetsBelow n sch N sets
+
+-- the rule of a multiplier command
+unfoldable pub ruleAsked : ℕ → Scheme → Named → Rule
+ruleAsked n sch t = byKey noRule (t .kind) (rules n sch (t .i) (t .j) (t .k) (t .l))
+
+-- the tests of a rule: whether the sets fit is said where the variables are there
+pub record Judges (rule : Rule) (r : Judged) : Type 0 where
+  pub null-is : rule .null ≡ r .null
+  pub there-is : rule .there ≡ r .there
+  pub ordered-is : rule .ordered ≡ r .ordered
+  pub fits-is : rule .there ≡ true → rule .fits ≡ r .fits
+
+-- the last command's byte, and the counts
+pub record Shows (p : Progress Certificate) (previous multipliers squares : ℕ) : Type 0 where
+  pub previous-is : p .previous ≡ previous
+  pub multipliers-is : length (p .gave .multipliers) ≡ multipliers
+  pub squares-is : length (p .gave .squares) ≡ squares
+
+-- ---- answers
+
+-- nothing read
+abbrev pub freshCounts : Counts
+freshCounts = record { scale = 0; target = pos 0; multipliers = 0; squares = 0 }
+
+-- for the reader of a job: a refusal's number and position, or 0, the position past the end and the certificate's counts
+
+abbrev pub refusedRead : ℕ → ℕ → CertificateRead
+refusedRead number at = record { number = number; position = at; certificate = freshCounts }
+
+abbrev pub commandsRead : Reading (Progress Certificate) → CertificateRead
+commandsRead (refused number at) = refusedRead number at
+commandsRead (accepted p end) = record { number = 0; position = end; certificate = countsOf (p .gave) }
