@@ -1,13 +1,19 @@
 // A vector file, line by line.
+use crate::builds;
 use crate::costs;
+use crate::penalties;
 use crate::registers;
+use crate::schemes;
 use libc::STDOUT_FILENO;
 use std::num::wrapping_add_u64;
 
 // The calls, each with a vector file of its own.
 pub enum Group {
     Register,
+    Scheme,
+    Build,
     Cost,
+    Penalty,
 }
 
 // How far a file was read, the cases so far, and how many of them differ.
@@ -21,7 +27,10 @@ struct Tally {
 fn agrees(group: Group, line: &[u8]) -> bool {
     match group {
         Group::Register => registers::agrees(line),
+        Group::Scheme => schemes::agrees(line),
+        Group::Build => builds::agrees(line),
         Group::Cost => costs::agrees(line),
+        Group::Penalty => penalties::agrees(line),
     }
 }
 

@@ -1,11 +1,19 @@
 // Runs the library's calls on the vectors of the folder that it is started in, and compares every field of each answer.
+mod buffers;
+mod builds;
 mod costs;
 mod files;
+mod penalties;
 mod registers;
+mod schemes;
+mod tables;
 
 use files::Group;
 
 fn main() {
     files::run(Group::Register, b"register", b"register.txt");
+    files::run(Group::Scheme, b"scheme", b"scheme.txt");
+    files::run(Group::Build, b"build", b"build.txt");
     files::run(Group::Cost, b"cost", b"cost.txt");
+    files::run(Group::Penalty, b"penalty", b"penalty.txt");
 }

@@ -3,6 +3,7 @@ use crate::field::Bytes;
 use crate::field::Signed;
 use crate::field::Unsigned;
 use crate::field::find;
+use crate::field::is_same;
 ghost use mathlib.Core.Path.{_≡_};
 ghost use Prim.Native.Nat.{_≤_};
 ghost use lib.ListN.{length, take};
@@ -13,7 +14,7 @@ pub struct Cursor {
     pub same: bool,
 }
 
-// Bytes that a field put at the start of a buffer.
+// The count of the bytes that a field put at the start of a buffer, or that a field gives.
 pub struct Taken {
     pub count: usize,
     pub next: Cursor,
@@ -36,6 +37,17 @@ fn field_after(line: &[u8], at: usize) -> Field
     Field {
         start: start,
         end: find(line, start, b' '),
+    }
+}
+
+// A count, or 0 where it is above a limit.
+fn at_most(count: u64, limit: usize) -> usize
+    ensures { λ r. ⌜ r ≤ limit ⌝ }
+{
+    if count <= limit as u64 {
+        count as usize
+    } else {
+        0
     }
 }
 
@@ -62,6 +74,35 @@ impl Cursor {
                 at: end,
                 same: self.same & bytes.good,
             },
+        }
+    }
+
+    // The next field is a count up to a limit.
+    pub fn count(self, line: &[u8], limit: usize) -> Taken
+        ensures { λ r. ⌜ r .count ≤ limit ⌝ }
+    {
+        let field = field_after(line, self.at);
+        let start = field.start;
+        let end = field.end;
+        let number = Unsigned::of(&line[start..end]);
+        let value = number.value;
+        Taken {
+            count: at_most(value, limit),
+            next: Cursor {
+                at: end,
+                same: self.same & number.good & (value <= limit as u64),
+            },
+        }
+    }
+
+    // The next field is this word.
+    pub fn word(self, line: &[u8], word: &[u8]) -> Cursor {
+        let field = field_after(line, self.at);
+        let start = field.start;
+        let end = field.end;
+        Cursor {
+            at: end,
+            same: self.same & is_same(&line[start..end], word),
         }
     }
 

@@ -40,6 +40,21 @@ pub fn find(text: &[u8], from: usize, b: u8) -> usize
     i
 }
 
+// Two byte strings are the same.
+pub fn is_same(a: &[u8], b: &[u8]) -> bool {
+    if a.len() != b.len() {
+        return false;
+    }
+    let mut i = 0;
+    while i < a.len() {
+        if a[i] != b[i] {
+            return false;
+        }
+        i += 1;
+    }
+    true
+}
+
 // The value of a hexadecimal digit, or 16.
 fn digit(b: u8) -> u8 {
     match b {

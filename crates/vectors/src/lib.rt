@@ -6,6 +6,7 @@ mod field;
 pub use cursor::Cursor;
 pub use cursor::Taken;
 pub use field::find;
+pub use field::is_same;
 
 // The line is a case: no heading, and not empty.
 pub fn is_case(line: &[u8]) -> bool {
