@@ -30,3 +30,12 @@ pub mod Readback
 pub mod Leading
 pub mod Complete
 pub mod Accept
+pub mod Dominance
+pub mod Squares
+pub mod Adds
+pub mod ByCommand
+pub mod Midway
+pub mod Filled
+pub mod Checking
+pub mod Answers
+pub mod Demand

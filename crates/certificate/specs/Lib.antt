@@ -8,3 +8,6 @@ pub mod Valid
 pub mod Relaxed
 pub mod Answer
 pub mod Encoding
+pub mod Dominance
+pub mod Built
+pub mod Check

@@ -2,7 +2,10 @@
 use register::Register;
 use scheme::Scheme;
 
+mod carry;
+pub mod check;
 mod judge;
+mod pass;
 
 use judge::refusal_at;
 ghost use mathlib.Core.Path.{_≡_};
@@ -16,6 +19,7 @@ ghost use Rattle.scheme.specs.Sets.{SetsBelow};
 ghost use Rattle.scheme.specs.Scheme.{variables};
 ghost use Rattle.certificate.specs.Rules.{arity};
 ghost use Rattle.certificate.specs.Format.{commandsInJob};
+ghost use Rattle.certificate.specs.Check.{refusedCheck, refusedAnswer};
 ghost use Rattle.certificate.specs.Answer.{freshCounts, freshSquare, namedOf, filledOf, multiplierAt, squareRead, refusedRead, commandsRead};
 
 // A certificate by its counts: scale s, target T, how many multipliers and how many squares.
@@ -58,6 +62,23 @@ pub struct CertificateRead {
     pub number: u8,
     pub position: usize,
     pub certificate: Certificate,
+}
+
+// What checking the certificate at the front of a run of bytes leads to: a refusal's number and position, or 0, the position
+// past the end, and the bound.
+pub struct CheckRead {
+    pub number: u8,
+    pub position: usize,
+    pub bound: i64,
+}
+
+// The answer of the call: a refusal's number, part and position, or zeros and the bound.
+#[repr(C)]
+pub struct CheckAnswer {
+    pub number: u8,
+    pub part: u8,
+    pub position: usize,
+    pub bound: i64,
 }
 
 impl Certificate {
@@ -136,6 +157,31 @@ impl CertificateRead {
             number: number,
             position: position,
             certificate: certificate,
+        }
+    }
+}
+
+impl CheckRead {
+    fn refused(number: u8, position: usize) -> CheckRead
+        ensures { λ r. ⌜ r ≡ refusedCheck number position ⌝ }
+    {
+        CheckRead {
+            number: number,
+            position: position,
+            bound: 0,
+        }
+    }
+}
+
+impl CheckAnswer {
+    fn refused(number: u8, part: u8, position: usize) -> CheckAnswer
+        ensures { λ r. ⌜ r ≡ refusedAnswer number part position ⌝ }
+    {
+        CheckAnswer {
+            number: number,
+            part: part,
+            position: position,
+            bound: 0,
         }
     }
 }

@@ -1,0 +1,115 @@
+-- What the check's answer says, over all bytes. Where it answers 0 the three parts are accepted, no plan of this register costs
+-- less than the bound, the cost call's answers among them, and the second-order part is at least 0 at every list of whole numbers.
+use Prim.Native.Nat.{ℕ, _<_}
+use mathlib.Core.Path.{_≡_, refl, sym, _∙_, ap}
+use mathlib.Core.Bool.{Bool, true, false, cond}
+use mathlib.Core.List.{List}
+use native.Mathlib.Omega.{arith}
+use native.Mathlib.Decide.{decLt}
+use lib.Dec.{ltb}
+use lib.IntN.{ℤ, pos}
+use lib.ListN.{length}
+use lib.Signed.{_≤ℤ_}
+use borrow.Author.Tests.{lt-ltb, le-ltb}
+use Rattle.wire.specs.Part.{Reading, refused, accepted, byItself}
+use Rattle.wire.specs.Rows.{Progress}
+use Rattle.wire.proofs.Part.{NumberedReading, readPart-numbered, byItself-numbered}
+use Rattle.forms.specs.Table.{tableNumbers}
+use Rattle.register.specs.declared.Register.{Register}
+use Rattle.register.specs.Register.{coefficient}
+use Rattle.register.specs.Format.{registerPart, registerInJob, registerByItself}
+use Rattle.plan.specs.Plan.{cost}
+use Rattle.plan.specs.Format.{planPart, planInJob, planByItself}
+use Rattle.plan.specs.Answer.{planAnswer, costAnswer}
+use Rattle.register.specs.Valid as R
+use Rattle.scheme.specs.Valid as S
+use Rattle.scheme.specs.declared.Scheme.{Scheme}
+use Rattle.scheme.specs.Format.{schemePart, schemeInJob, schemeByItself}
+use Rattle.certificate.specs.Certificate.{Certificate}
+use Rattle.certificate.specs.Residual.{bound, secondOrder}
+use Rattle.certificate.specs.Format.{certificateInJob, certificateByItself}
+use Rattle.certificate.specs.Valid.{Valid}
+use Rattle.certificate.specs.declared.CheckAnswer.{CheckAnswer}
+use Rattle.certificate.specs.Check.{refusedAnswer, afterCertificate, afterScheme, afterRegister, checkAnswer}
+use Rattle.certificate.proofs.Accept.{valid-accepted}
+use Rattle.certificate.proofs.Answers.{accepted-both, job-numbered}
+use Rattle.certificate.proofs.Bound.{plan-bound}
+use Rattle.certificate.proofs.SecondOrder.{second-order}
+
+-- what an answer says that is no refusal
+pub record Shown (register scheme certificate : List ℕ) (a : CheckAnswer) : Type 0 where
+  pub reg : Register
+  pub sch : Scheme
+  pub cert : Certificate
+  -- the three parts are accepted
+  pub register-valid : R.Valid reg
+  pub scheme-valid : S.Valid reg sch
+  pub certificate-valid : Valid (coefficient reg) reg sch cert
+  pub bound-is : a .bound ≡ bound cert
+  -- every plan costs at least the bound, and so does every plan that the cost call reads with these bytes of the register
+  pub costs : (plan : ℕ) → a .bound ≤ℤ cost (coefficient reg) reg plan
+  pub answered-costs : (plan : List ℕ) → costAnswer register plan .number ≡ 0 → a .bound ≤ℤ costAnswer register plan .cost
+  -- the second-order part is at least 0 at every list of whole numbers
+  pub second-order-part : (x : ℕ → ℤ) → pos 0 ≤ℤ secondOrder (coefficient reg) reg sch cert x
+
+-- the cost call reads the same register
+costs-more : (register plan : List ℕ) (p : Progress Register) (end : ℕ) (b : ℤ) → registerByItself register ≡ accepted p end →
+    ((plan : ℕ) → b ≤ℤ cost (coefficient (p .gave)) (p .gave) plan) → costAnswer register plan .number ≡ 0 → b ≤ℤ costAnswer register plan .cost
+unfolding costAnswer planByItself planInJob
+costs-more register plan p end b e h z =
+    rw e (go (planByItself (p .gave) plan) (byItself-numbered plan _ (readPart-numbered (planPart (p .gave)) plan)) (rw e at z))
+  where
+    go : (x : Reading (Progress ℕ)) → NumberedReading x → planAnswer (p .gave) x .number ≡ 0 → b ≤ℤ planAnswer (p .gave) x .cost
+    go (refused n at) d f = absurd (d f)
+    go (accepted q to) d f = h (q .gave)
+
+module _ (register scheme certificate : List ℕ) (lent : List ℤ) where
+  pub answered-shown : checkAnswer register scheme certificate lent .number ≡ 0 → Shown register scheme certificate (checkAnswer register scheme certificate lent)
+  unfolding checkAnswer registerByItself registerInJob schemeByItself schemeInJob certificateByItself byItself
+  answered-shown e = by-length (decLt (length lent) tableNumbers)
+    where
+      -- an answer after a certificate that is accepted in a job
+      at-end : (p : Progress Register) (end : ℕ) (q : Progress Scheme) (end′ : ℕ) (k : Progress Certificate) (to : ℕ) →
+          registerByItself register ≡ accepted p end → schemeByItself (p .gave) scheme ≡ accepted q end′ →
+          certificateInJob (coefficient (p .gave)) (p .gave) (q .gave) certificate ≡ accepted k to →
+          (b : Bool) → afterCertificate (cond b (refused 12 to) (accepted k to)) .number ≡ 0 → Shown register scheme certificate (afterCertificate (cond b (refused 12 to) (accepted k to)))
+      at-end p end q end′ k to x y w true f = absurd (omega arith)
+      at-end p end q end′ k to x y w false f =
+          let both = accepted-both register scheme p end q end′ x y in
+          let v = valid-accepted (p .gave) (q .gave) (coefficient (p .gave)) certificate k to w .0 in
+          let h = plan-bound (coefficient (p .gave)) (p .gave) (q .gave) (k .gave) (both .scheme-valid) v in
+          record {
+            reg = p .gave;
+            sch = q .gave;
+            cert = k .gave;
+            register-valid = both .register-valid;
+            scheme-valid = both .scheme-valid;
+            certificate-valid = v;
+            bound-is = refl;
+            costs = h;
+            answered-costs = λ plan. costs-more register plan p end (bound (k .gave)) x h;
+            second-order-part = second-order (coefficient (p .gave)) (p .gave) (q .gave) (k .gave) (v .carried);
+          }
+
+      of-certificate : (p : Progress Register) (end : ℕ) (q : Progress Scheme) (end′ : ℕ) → registerByItself register ≡ accepted p end → schemeByItself (p .gave) scheme ≡ accepted q end′ →
+          (x : Reading (Progress Certificate)) → certificateInJob (coefficient (p .gave)) (p .gave) (q .gave) certificate ≡ x → NumberedReading x →
+          afterCertificate (byItself certificate x) .number ≡ 0 → Shown register scheme certificate (afterCertificate (byItself certificate x))
+      of-certificate p end q end′ x y (refused n at) w d f = absurd (d f)
+      of-certificate p end q end′ x y (accepted k to) w d f = at-end p end q end′ k to x y w (ltb to (length certificate)) f
+
+      of-scheme : (p : Progress Register) (end : ℕ) → registerByItself register ≡ accepted p end →
+          (x : Reading (Progress Scheme)) → schemeByItself (p .gave) scheme ≡ x → NumberedReading x →
+          afterScheme (p .gave) x certificate .number ≡ 0 → Shown register scheme certificate (afterScheme (p .gave) x certificate)
+      of-scheme p end x (refused n at) y d f = absurd (d f)
+      of-scheme p end x (accepted q end′) y d f = of-certificate p end q end′ x y (certificateInJob (coefficient (p .gave)) (p .gave) (q .gave) certificate) refl (job-numbered (coefficient (p .gave)) (p .gave) (q .gave) certificate) f
+
+      of-register : (x : Reading (Progress Register)) → registerByItself register ≡ x → NumberedReading x →
+          afterRegister x scheme certificate .number ≡ 0 → Shown register scheme certificate (afterRegister x scheme certificate)
+      of-register (refused n at) x d f = absurd (d f)
+      of-register (accepted p end) x d f = of-scheme p end x (schemeByItself (p .gave) scheme) refl (byItself-numbered scheme (schemeInJob (p .gave) scheme) (readPart-numbered (schemePart (p .gave)) scheme)) f
+
+      by-length : Dec (length lent < tableNumbers) → Shown register scheme certificate (checkAnswer register scheme certificate lent)
+      by-length (yes l) = let z : _≡_ {A = ℕ} 11 0 = ap (λ (a : CheckAnswer). a .number) (sym (ap (λ b. cond b (refusedAnswer 11 0 0) (afterRegister (registerByItself register) scheme certificate)) (lt-ltb (length lent) tableNumbers l))) ∙ e in absurd (omega arith)
+      by-length (no l) =
+          let g = le-ltb (length lent) tableNumbers (omega arith) in
+          rw g (of-register (registerByItself register) refl (byItself-numbered register (registerInJob register) (readPart-numbered registerPart register)) (rw g at e))

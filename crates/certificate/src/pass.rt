@@ -1,0 +1,203 @@
+// The table of R: what a certificate's commands add and subtract.
+use crate::Multiplier;
+use crate::Square;
+use crate::multiplier_at;
+use crate::names;
+use crate::square_at;
+use forms::add_monomial;
+use forms::add_multiple;
+use penalty::add_function;
+use register::Register;
+use scheme::Scheme;
+ghost use mathlib.Core.Path.{_≡_};
+ghost use mathlib.Core.Bool.{true};
+ghost use Prim.Native.Nat.{ℕ, _≤_, _<_};
+ghost use lib.Dec.{eqb};
+ghost use lib.IntN.{pos, natAbs};
+ghost use mathlib.Core.List.{[], _∷_};
+ghost use Rattle.forms.specs.Form.{mono, times};
+ghost use Rattle.forms.specs.Store.{addForm, Bounded};
+ghost use Rattle.scheme.specs.Scheme.{maxProducts, side as sideOf};
+ghost use Rattle.scheme.specs.Valid.{Products, Valid as SchemeValid};
+ghost use Rattle.wire.specs.Part.{accepted};
+ghost use Rattle.wire.specs.Rows.{Progress};
+ghost use Rattle.register.specs.Register.{coefficient};
+ghost use Rattle.register.specs.Valid.{Valid as RegisterValid};
+ghost use lib.ListN.{length};
+ghost use Rattle.forms.specs.Table.{tableNumbers, withTable};
+ghost use Rattle.certificate.specs.Certificate.{Certificate};
+ghost use Rattle.certificate.specs.Format.{commandsInJob};
+ghost use Rattle.certificate.specs.Limits.{maxMultiplier, squareEntries};
+ghost use Rattle.certificate.specs.Rules.{minus1};
+ghost use Rattle.certificate.specs.Residual.{squareAt, R};
+ghost use Rattle.certificate.specs.Answer.{squareIn};
+ghost use Rattle.certificate.specs.Built.{begunBy, Reads, Addable, added, SquareRange, lessWhere};
+
+// Adds k times the product of places p and q, less k times that of places p2 and q2.
+fn add_difference(table: &mut [i64], side: usize, p: usize, q: usize, p2: usize, q2: usize, k: i64)
+    requires { ⌜ Bounded side 3_000_000_000_000_000_000 (now table) ⌝ }
+    requires { ⌜ (p < side) × (q < side) × (p2 < side) × (q2 < side) ⌝ }
+    requires { ⌜ natAbs k ≤ maxMultiplier ⌝ }
+    ensures { λ _. ⌜ now (table .exit) ≡ addForm side (times k (mono p q (pos 1) ∷ mono p2 q2 minus1 ∷ [])) (now (table .entry)) ⌝ }
+{
+    add_multiple(table, side, p, q, k, 1);
+    add_multiple(table, side, p2, q2, k, -1);
+}
+
+// Adds k times z_k − z_l − z_r + 1, by the places of the variables.
+fn add_together(table: &mut [i64], side: usize, z: usize, l: usize, r: usize, k: i64)
+    requires { ⌜ Bounded side 3_000_000_000_000_000_000 (now table) ⌝ }
+    requires { ⌜ (z < side) × (l < side) × (r < side) ⌝ }
+    requires { ⌜ natAbs k ≤ maxMultiplier ⌝ }
+    ensures { λ _. ⌜ now (table .exit) ≡
+        addForm side (times k (mono 0 z (pos 1) ∷ mono 0 l minus1 ∷ mono 0 r minus1 ∷ mono 0 0 (pos 1) ∷ [])) (now (table .entry)) ⌝ }
+{
+    add_multiple(table, side, 0, z, k, 1);
+    add_multiple(table, side, 0, l, k, -1);
+    add_multiple(table, side, 0, r, k, -1);
+    add_multiple(table, side, 0, 0, k, 1);
+}
+
+// Subtracts the form of a product, m times. There are n choices.
+fn add_product(table: &mut [i64], side: usize, scheme: Scheme, n: usize, t: Multiplier)
+    requires { ⌜ Products n scheme ⌝ }
+    requires { ⌜ scheme .products ≤ maxProducts ⌝ }
+    requires { ⌜ side ≡ sideOf n scheme ⌝ }
+    requires { ⌜ Addable n scheme t ⌝ }
+    requires { ⌜ (0x35 ≤ t .kind) × (t .kind ≤ 0x37) ⌝ }
+    requires { ⌜ Bounded side 3_000_000_000_000_000_000 (now table) ⌝ }
+    ensures { λ _. ⌜ now (table .exit) ≡ addForm side (added n scheme t) (now (table .entry)) ⌝ }
+{
+    let kind = t.kind;
+    let k = -t.m;
+    let i = t.i as usize;
+    let at = i - n;
+    // The places of the product and of its operands.
+    let z = i + 1;
+    let l = scheme.lefts[at] as usize + 1;
+    let r = scheme.rights[at] as usize + 1;
+    match kind {
+        0x35 => add_difference(table, side, 0, l, 0, z, k),
+        0x36 => add_difference(table, side, 0, r, 0, z, k),
+        _ => add_together(table, side, z, l, r, k),
+    }
+}
+
+// Adds a multiplier command's form m times, or subtracts it m times. There are n choices.
+pub fn add_multiplier(table: &mut [i64], side: usize, scheme: Scheme, n: usize, t: Multiplier)
+    requires { ⌜ Products n scheme ⌝ }
+    requires { ⌜ scheme .products ≤ maxProducts ⌝ }
+    requires { ⌜ side ≡ sideOf n scheme ⌝ }
+    requires { ⌜ Addable n scheme t ⌝ }
+    requires { ⌜ Bounded side 3_000_000_000_000_000_000 (now table) ⌝ }
+    ensures { λ _. ⌜ now (table .exit) ≡ addForm side (added n scheme t) (now (table .entry)) ⌝ }
+{
+    let kind = t.kind;
+    let m = t.m;
+    let less = -m;
+    // The places of the variables named.
+    let i = t.i as usize + 1;
+    let j = t.j as usize + 1;
+    let k = t.k as usize + 1;
+    let l = t.l as usize + 1;
+    match kind {
+        0x31 => add_difference(table, side, i, i, 0, i, m),
+        0x32 => add_difference(table, side, 0, i, i, j, m),
+        0x33 => add_difference(table, side, 0, i, j, k, m),
+        0x34 => add_difference(table, side, i, j, k, l, m),
+        0x35..=0x37 => add_product(table, side, scheme, n, t),
+        0x38 => add_multiple(table, side, 0, i, less, 1),
+        _ => add_difference(table, side, 0, 0, 0, i, less),
+    }
+}
+
+// w·v_i·v_j.
+fn square_product(square: Square, i: usize, j: usize) -> i64
+    requires { ⌜ SquareRange (squareIn square) ⌝ }
+    requires { ⌜ (i < squareEntries) × (j < squareEntries) ⌝ }
+    ensures { λ r. ⌜ r ≡ squareAt (squareIn square) i j ⌝ }
+{
+    let w = square.weight;
+    let u = square.entries[i];
+    let v = square.entries[j];
+    (w as i64) * (u as i64) * (v as i64)
+}
+
+// Subtracts a square at each column of a row.
+fn subtract_row(table: &mut [i64], side: usize, square: Square, row: usize)
+    requires { ⌜ SquareRange (squareIn square) ⌝ }
+    requires { ⌜ (row < side) × (side ≤ squareEntries) ⌝ }
+    requires { ⌜ Bounded side 4_000_000_000_000_000_000 (now table) ⌝ }
+    ensures { λ _. ⌜ now (table .exit) ≡ lessWhere side (squareIn square) (λ i j. eqb i row) (now (table .entry)) ⌝ }
+{
+    let mut j = 0;
+    while j < side {
+        let at = row * side + j;
+        let x = table[at];
+        table[at] = x - square_product(square, row, j);
+        j += 1;
+    }
+}
+
+// Subtracts a square at each row and column.
+pub fn subtract_square(table: &mut [i64], side: usize, square: Square)
+    requires { ⌜ SquareRange (squareIn square) ⌝ }
+    requires { ⌜ side ≤ squareEntries ⌝ }
+    requires { ⌜ Bounded side 3_000_000_000_000_000_000 (now table) ⌝ }
+    ensures { λ _. ⌜ now (table .exit) ≡ lessWhere side (squareIn square) (λ i j. true) (now (table .entry)) ⌝ }
+{
+    let mut row = 0;
+    while row < side {
+        subtract_row(table, side, square, row);
+        row += 1;
+    }
+}
+
+// Makes the table hold the scaled function less the target, by the first command.
+fn begin(bytes: &[u8], register: Register, scheme: Scheme, table: &mut [i64])
+    requires { ⌜ RegisterValid register ⌝ }
+    requires { ⌜ SchemeValid register scheme ⌝ }
+    requires { ⌜ tableNumbers ≤ length (now table) ⌝ }
+    requires { ⌜ Reads register scheme (now bytes) ⌝ }
+    ensures { λ _. ⌜ now (table .exit) ≡
+        withTable (sideOf (register .choices) scheme) (R (coefficient register) register scheme (begunBy (now (bytes .entry)))) (now (table .entry)) ⌝ }
+{
+    let side = register.choices + scheme.products + 1;
+    let scale = wire::u32_at(bytes, 1);
+    let target = wire::i64_at(bytes, 5);
+    forms::clear(table, side * side);
+    add_function(register, scheme, table, side, scale as i64);
+    add_monomial(table, side, 0, 0, -target);
+}
+
+// Makes the table hold R, by commands that are accepted. Numbers past (N + 1)² don't change.
+pub fn fill(bytes: &[u8], register: Register, scheme: Scheme, table: &mut [i64])
+    requires { ⌜ RegisterValid register ⌝ }
+    requires { ⌜ SchemeValid register scheme ⌝ }
+    requires { ⌜ tableNumbers ≤ length (now table) ⌝ }
+    requires { ⌜ Reads register scheme (now bytes) ⌝ }
+    ensures { λ _. ⌜ ((p : Progress Certificate) (e : ℕ) → commandsInJob register scheme (now (bytes .entry)) ≡ accepted p e →
+        now (table .exit) ≡ withTable (sideOf (register .choices) scheme) (R (coefficient register) register scheme (p .gave)) (now (table .entry))) ⌝ }
+{
+    begin(bytes, register, scheme, table);
+    let side = register.choices + scheme.products + 1;
+    let mut at = 13;
+    while at < bytes.len() {
+        let command = bytes[at];
+        match command {
+            0x31..=0x39 => {
+                let t = multiplier_at(bytes, at);
+                add_multiplier(table, side, scheme, register.choices, t);
+                at += 9 + names(command);
+            }
+            0x3a => {
+                let square = square_at(bytes, at);
+                subtract_square(table, side, square);
+                at += 135;
+            }
+            _ => {
+                return;
+            }
+        }
+    }
+}
