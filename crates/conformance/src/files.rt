@@ -1,5 +1,6 @@
 // A vector file, line by line.
 use crate::builds;
+use crate::checks;
 use crate::costs;
 use crate::penalties;
 use crate::registers;
@@ -14,6 +15,7 @@ pub enum Group {
     Build,
     Cost,
     Penalty,
+    Check,
 }
 
 // How far a file was read, the cases so far, and how many of them differ.
@@ -31,6 +33,7 @@ fn agrees(group: Group, line: &[u8]) -> bool {
         Group::Build => builds::agrees(line),
         Group::Cost => costs::agrees(line),
         Group::Penalty => penalties::agrees(line),
+        Group::Check => checks::agrees(line),
     }
 }
 

@@ -1,6 +1,7 @@
 // Runs the library's calls on the vectors of the folder that it is started in, and compares every field of each answer.
 mod buffers;
 mod builds;
+mod checks;
 mod costs;
 mod files;
 mod penalties;
@@ -16,4 +17,5 @@ fn main() {
     files::run(Group::Build, b"build", b"build.txt");
     files::run(Group::Cost, b"cost", b"cost.txt");
     files::run(Group::Penalty, b"penalty", b"penalty.txt");
+    files::run(Group::Check, b"check", b"check.txt");
 }
