@@ -1,9 +1,11 @@
 -- W3 and W4 of the paper's worked set.
-use mathlib.Core.Path.{_≡_, refl}
-use mathlib.Core.List.{_∷_}
+use mathlib.Core.Path.{_≡_, refl, ap}
+use Prim.Native.Nat.{ℕ}
+use mathlib.Core.List.{List, [], _∷_}
 use lib.IntN.{pos}
 use lib.ListN.{replicate}
 use Rattle.integers.specs.Lists.{joinBelow}
+use Rattle.wire.specs.Number.{bytesOf}
 use Rattle.sets.specs.Sets.{isMember}
 use Rattle.register.specs.declared.Register.{Register}
 use Rattle.scheme.specs.declared.Scheme.{Scheme}
@@ -11,12 +13,22 @@ use Rattle.scheme.specs.Scheme.{fresh}
 use Rattle.scheme.specs.Variables.{E, upTo, upward}
 use Rattle.register.proofs.Example.{exampleRegister}
 use Rattle.scheme.proofs.Example.{builtScheme}
+use Rattle.scheme.specs.Encoding.{encodeProduct, encodeSplit, encodeScheme}
+use Rattle.builder.specs.Answer.{bytesBuffer, builtBuffer}
 use Rattle.builder.specs.Builder.{andThen, choicesOf, firstWith, joinPair, pairUp, reduce, splitOf, buildTerm, built, follow, buildFrom, build}
 
 -- the builder makes product 3 = (0,1), splits (0,0), (1,1), (2,3)
 pub w3 : build exampleRegister ≡ built builtScheme
 unfolding build buildFrom follow buildTerm splitOf reduce pairUp joinPair firstWith choicesOf andThen joinBelow isMember E upward upTo fresh
 w3 = refl
+
+-- and its bytes
+abbrev pub w3Bytes : List ℕ
+w3Bytes = 0x21 ∷ 0 ∷ 1 ∷ 0x22 ∷ 0 ∷ 0 ∷ 0x22 ∷ 1 ∷ 1 ∷ 0x22 ∷ 2 ∷ 3 ∷ 0x2F ∷ []
+
+pub w3-bytes : (buffer : List ℕ) → builtBuffer exampleRegister buffer (build exampleRegister) ≡ bytesBuffer buffer w3Bytes
+unfolding encodeScheme encodeProduct encodeSplit joinBelow bytesOf
+w3-bytes buffer = ap (builtBuffer exampleRegister buffer) w3
 
 -- five choices, one term of all five
 abbrev pub five : Register
@@ -29,3 +41,10 @@ fiveScheme = record { products = 3; splits = 1; lefts = 0 ∷ 2 ∷ 5 ∷ replic
 pub w4 : build five ≡ built fiveScheme
 unfolding build buildFrom follow buildTerm splitOf reduce pairUp joinPair firstWith choicesOf andThen joinBelow isMember E upward upTo fresh
 w4 = refl
+
+abbrev pub w4Bytes : List ℕ
+w4Bytes = 0x21 ∷ 0 ∷ 1 ∷ 0x21 ∷ 2 ∷ 3 ∷ 0x21 ∷ 5 ∷ 6 ∷ 0x22 ∷ 4 ∷ 7 ∷ 0x2F ∷ []
+
+pub w4-bytes : (buffer : List ℕ) → builtBuffer five buffer (build five) ≡ bytesBuffer buffer w4Bytes
+unfolding encodeScheme encodeProduct encodeSplit joinBelow bytesOf
+w4-bytes buffer = ap (builtBuffer five buffer) w4

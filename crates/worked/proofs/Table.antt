@@ -1,4 +1,5 @@
 -- The paper's worked set, proved of the definitions, as one table.
+use Prim.Native.Nat.{ℕ}
 use mathlib.Core.Path.{_≡_}
 use mathlib.Core.Bool.{true, false}
 use mathlib.Core.List.{List, [], _∷_, _++_, map}
@@ -12,6 +13,7 @@ use Rattle.plan.specs.Encoding.{encodePlan}
 use Rattle.plan.specs.Answer.{acceptedCost, costAnswer}
 use Rattle.plan.proofs.Worked as Plan
 use Rattle.builder.specs.Builder.{build, built}
+use Rattle.builder.specs.Answer.{bytesBuffer, builtBuffer}
 use Rattle.builder.proofs.Worked as Builder
 use Rattle.penalty.specs.Weights.{weight}
 use Rattle.penalty.proofs.Worked as Penalty
@@ -30,8 +32,10 @@ pub record Worked : Type 0 where
   pub w2 : map (λ p. costAnswer registerBytes (encodePlan p)) (0 ∷ 3 ∷ 7 ∷ []) ≡ map acceptedCost (pos 10 ∷ pos 0 ∷ pos 5 ∷ [])
   -- W3: the builder makes product 3 = (0,1), splits (0,0), (1,1), (2,3)
   pub w3 : build exampleRegister ≡ built builtScheme
+  pub w3-bytes : (buffer : List ℕ) → builtBuffer exampleRegister buffer (build exampleRegister) ≡ bytesBuffer buffer Builder.w3Bytes
   -- W4: five choices, one term of all five: 5 = (0,1), 6 = (2,3), 7 = (5,6), split (4,7)
   pub w4 : build Builder.five ≡ built Builder.fiveScheme
+  pub w4-bytes : (buffer : List ℕ) → builtBuffer Builder.five buffer (build Builder.five) ≡ bytesBuffer buffer Builder.w4Bytes
   -- W5: bracket in h for (z_k,z_l,z_r) = 000 to 111
   pub w5 : map Penalty.bracketAt Penalty.fillings ≡ pos 0 ∷ pos 0 ∷ pos 0 ∷ pos 1 ∷ pos 3 ∷ pos 1 ∷ pos 1 ∷ pos 0 ∷ []
   -- W6: on W3, P_3 = 5
@@ -53,7 +57,9 @@ worked = record {
   w1 = Scheme.w1;
   w2 = Plan.w2;
   w3 = Builder.w3;
+  w3-bytes = Builder.w3-bytes;
   w4 = Builder.w4;
+  w4-bytes = Builder.w4-bytes;
   w5 = Penalty.w5;
   w6 = Penalty.w6;
   w7 = Plain.w7;
