@@ -7,7 +7,7 @@ use mathlib.Core.List.{List}
 use native.Mathlib.Omega.{arith}
 use native.Mathlib.Decide.{decLt}
 use lib.Dec.{ltb}
-use lib.IntN.{ℤ, pos}
+use lib.IntN.{ℤ}
 use lib.ListN.{length}
 use lib.Signed.{_≤ℤ_}
 use borrow.Author.Tests.{lt-ltb, le-ltb}
@@ -26,31 +26,15 @@ use Rattle.scheme.specs.Valid as S
 use Rattle.scheme.specs.declared.Scheme.{Scheme}
 use Rattle.scheme.specs.Format.{schemePart, schemeInJob, schemeByItself}
 use Rattle.certificate.specs.Certificate.{Certificate}
-use Rattle.certificate.specs.Residual.{bound, secondOrder}
+use Rattle.certificate.specs.Residual.{bound}
 use Rattle.certificate.specs.Format.{certificateInJob, certificateByItself}
-use Rattle.certificate.specs.Valid.{Valid}
 use Rattle.certificate.specs.declared.CheckAnswer.{CheckAnswer}
+use Rattle.certificate.specs.Demand.{Shown}
 use Rattle.certificate.specs.Check.{refusedAnswer, afterCertificate, afterScheme, afterRegister, checkAnswer}
 use Rattle.certificate.proofs.Accept.{valid-accepted}
 use Rattle.certificate.proofs.Answers.{accepted-both, job-numbered}
 use Rattle.certificate.proofs.Bound.{plan-bound}
 use Rattle.certificate.proofs.SecondOrder.{second-order}
-
--- what an answer says that is no refusal
-pub record Shown (register scheme certificate : List ℕ) (a : CheckAnswer) : Type 0 where
-  pub reg : Register
-  pub sch : Scheme
-  pub cert : Certificate
-  -- the three parts are accepted
-  pub register-valid : R.Valid reg
-  pub scheme-valid : S.Valid reg sch
-  pub certificate-valid : Valid (coefficient reg) reg sch cert
-  pub bound-is : a .bound ≡ bound cert
-  -- every plan costs at least the bound, and so does every plan that the cost call reads with these bytes of the register
-  pub costs : (plan : ℕ) → a .bound ≤ℤ cost (coefficient reg) reg plan
-  pub answered-costs : (plan : List ℕ) → costAnswer register plan .number ≡ 0 → a .bound ≤ℤ costAnswer register plan .cost
-  -- the second-order part is at least 0 at every list of whole numbers
-  pub second-order-part : (x : ℕ → ℤ) → pos 0 ≤ℤ secondOrder (coefficient reg) reg sch cert x
 
 -- the cost call reads the same register
 costs-more : (register plan : List ℕ) (p : Progress Register) (end : ℕ) (b : ℤ) → registerByItself register ≡ accepted p end →

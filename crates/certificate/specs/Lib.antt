@@ -11,3 +11,4 @@ pub mod Encoding
 pub mod Dominance
 pub mod Built
 pub mod Check
+pub mod Demand

@@ -7,12 +7,12 @@ use mathlib.Core.List.{List}
 use native.Mathlib.Omega.{arith}
 use native.Mathlib.Decide.{decLt}
 use lib.IntN.{ℤ, pos, _*ℤ_}
-use lib.ListN.{length, getD}
+use lib.ListN.{length}
 use borrow.Author.Tests.{lt-ltb, le-ltb}
 use Rattle.wire.specs.Part.{Reading, refused, accepted}
 use Rattle.wire.specs.Rows.{Progress}
 use Rattle.forms.specs.Form.{value, entry}
-use Rattle.forms.specs.Table.{tableNumbers, tableSum, tableValue}
+use Rattle.forms.specs.Table.{tableNumbers, tableValue}
 use Rattle.forms.proofs.Table.{tableValue-form, withTable-length, withTable-past}
 use Rattle.register.specs.declared.Register.{Register}
 use Rattle.register.specs.Register.{coefficient}
@@ -24,23 +24,12 @@ use Rattle.scheme.specs.Filling.{Filling, factor}
 use Rattle.scheme.specs.Format.{schemeByItself}
 use Rattle.scheme.specs.Valid.{Valid}
 use Rattle.penalty.specs.Penalty.{h}
-use Rattle.penalty.specs.Least.{SameLeast}
+use Rattle.penalty.specs.Demand.{Holds, Made}
 use Rattle.penalty.specs.Answer.{answer, afterScheme, afterRegister, penaltyAnswer, withPenalty, tableAfterScheme, tableAfterRegister, penaltyTable}
 use Rattle.penalty.proofs.Penalty.{below-h}
 use Rattle.penalty.proofs.Bounds.{side-square}
 use Rattle.penalty.proofs.Least.{table-twice, table-least}
 use Rattle.penalty.proofs.Answers.{accepted-both, long}
-
--- what is demanded of a table that holds the penalty form of a register and a scheme, where `lent` was lent
-pub record Holds (reg : Register) (sch : Scheme) (lent table : List ℤ) : Type 0 where
-  -- the value read from it at every filling is that of h, and the sum is exactly twice the value
-  pub reads : (z : Filling) → tableValue (side (reg .choices) sch) table (factor z) ≡ value (factor z) (h (coefficient reg) reg sch)
-  pub twice : (z : Filling) → tableSum (side (reg .choices) sch) table (factor z) ≡ pos 2 *ℤ tableValue (side (reg .choices) sch) table (factor z)
-  -- the least value over the fillings is the least cost over the plans, and every filling that reaches it carries such a plan
-  pub least : SameLeast (coefficient reg) reg (λ z. tableValue (side (reg .choices) sch) table (factor z))
-  -- nothing else has changed
-  pub long : length table ≡ length lent
-  pub past : (k : ℕ) → side (reg .choices) sch * side (reg .choices) sch ≤ k → getD table k (pos 0) ≡ getD lent k (pos 0)
 
 -- the table of h does
 pub penalty-holds : (reg : Register) (sch : Scheme) → R.Valid reg → Valid reg sch → (lent : List ℤ) → tableNumbers ≤ length lent → Holds reg sch lent (withPenalty reg sch lent)
@@ -81,13 +70,6 @@ module _ (register scheme : List ℕ) (lent : List ℤ) (l : tableNumbers ≤ le
         rw (← (y .holds)) (penalty-holds (p .gave) (q .gave) (x .register-valid) (x .scheme-valid) lent l)
 
 -- zeros are answered only there
-pub record Made (register scheme : List ℕ) (lent : List ℤ) : Type 0 where
-  pub reg : Register
-  pub sch : Scheme
-  pub register-valid : R.Valid reg
-  pub scheme-valid : Valid reg sch
-  pub holds : Holds reg sch lent (penaltyTable register scheme lent)
-
 module _ (register scheme : List ℕ) (lent : List ℤ) where
   pub zeros-made : penaltyAnswer register scheme lent ≡ answer 0 0 0 → Made register scheme lent
   unfolding penaltyAnswer

@@ -4,3 +4,4 @@ pub mod Penalty
 pub mod Carried
 pub mod Least
 pub mod Answer
+pub mod Demand

@@ -1,0 +1,33 @@
+-- What is demanded of the check, over bytes.
+use Prim.Native.Nat.{ℕ}
+use mathlib.Core.Path.{_≡_}
+use mathlib.Core.List.{List}
+use lib.IntN.{ℤ, pos}
+use lib.Signed.{_≤ℤ_}
+use Rattle.register.specs.declared.Register.{Register}
+use Rattle.register.specs.Register.{coefficient}
+use Rattle.register.specs.Valid as R
+use Rattle.plan.specs.Plan.{cost}
+use Rattle.plan.specs.Answer.{costAnswer}
+use Rattle.scheme.specs.declared.Scheme.{Scheme}
+use Rattle.scheme.specs.Valid as S
+use Rattle.certificate.specs.declared.CheckAnswer.{CheckAnswer}
+use Rattle.certificate.specs.Certificate.{Certificate}
+use Rattle.certificate.specs.Residual.{bound, secondOrder}
+use Rattle.certificate.specs.Valid.{Valid}
+
+-- what an answer says that is no refusal
+pub record Shown (register scheme certificate : List ℕ) (a : CheckAnswer) : Type 0 where
+  pub reg : Register
+  pub sch : Scheme
+  pub cert : Certificate
+  -- the three parts are accepted
+  pub register-valid : R.Valid reg
+  pub scheme-valid : S.Valid reg sch
+  pub certificate-valid : Valid (coefficient reg) reg sch cert
+  pub bound-is : a .bound ≡ bound cert
+  -- every plan costs at least the bound, and so does every plan that the cost call reads with these bytes of the register
+  pub costs : (plan : ℕ) → a .bound ≤ℤ cost (coefficient reg) reg plan
+  pub answered-costs : (plan : List ℕ) → costAnswer register plan .number ≡ 0 → a .bound ≤ℤ costAnswer register plan .cost
+  -- the second-order part is at least 0 at every list of whole numbers
+  pub second-order-part : (x : ℕ → ℤ) → pos 0 ≤ℤ secondOrder (coefficient reg) reg sch cert x
