@@ -16,6 +16,7 @@ use Rattle.wire.specs.Number.{Bytes}
 use Rattle.wire.specs.Part.{Reading, refused, accepted, size, afterAt, readPart, byItself}
 use Rattle.wire.specs.Rows.{Progress}
 use Rattle.wire.proofs.Part.{Ways, by-ways, readFrom-end}
+use Rattle.wire.proofs.Encoding.{byItself-accepted}
 use Rattle.register.specs.declared.Register.{Register}
 use Rattle.register.specs.Valid as R
 use Rattle.scheme.specs.declared.Scheme.{Scheme}
@@ -94,29 +95,30 @@ module _ (reg : Register) (sch : Scheme) where
 
 -- ---- a run of bytes by itself
 
-whole-accepted : {S : Type 0} (s : List ℕ) (x : Reading S) (p : S) → byItself s x ≡ accepted p (length s) → x ≡ accepted p (length s)
-unfolding byItself
-whole-accepted s (refused n at) p e = e
-whole-accepted {S} s (accepted q to) p e = by (ltb to (length s)) e
-  where
-    by : (t : Bool) → _≡_ {A = Reading S} (cond t (refused 12 to) (accepted q to)) (accepted p (length s)) → _≡_ {A = Reading S} (accepted q to) (accepted p (length s))
-    by true e = let z : _≡_ {A = ℕ} 0 1 = cc in absurd (omega arith)
-    by false e = e
+module _ (reg : Register) (sch : Scheme) (c : ℕ → ℤ) (s : List ℕ) (p : Progress Certificate) (end : ℕ) (e : certificateByItself c reg sch s ≡ accepted p end) where
+  -- it is accepted in a job too, and ends with its last byte
+  pub whole-accepted : (certificateInJob c reg sch s ≡ accepted p end) × (end ≡ length s)
+  unfolding certificateByItself
+  whole-accepted =
+      let (q, l) = byItself-accepted s (certificateInJob c reg sch s) p end e in
+      (q, omega (arith, end-within reg sch s p end (commands-accepted reg sch c s p end q .0)))
 
-module _ (reg : Register) (regValid : R.Valid reg) (sch : Scheme) (schValid : S.Valid reg sch) (c : ℕ → ℤ) (k : Certificate) (s : List ℕ) (b : Bytes s) where
-  -- a certificate is accepted from just those runs of bytes that encode it, where it is valid
-  pub accepted-iff : (certificateByItself c reg sch s ≡ accepted (reached 0x3F k) (length s)) ↔ (Valid c reg sch k × Encodes k s)
+  -- what was read is valid, and the bytes are an encoding of it
+  pub whole-valid : Valid c reg sch (p .gave)
+  whole-valid = valid-accepted reg sch c s p end (whole-accepted .0) .0
+
+  pub whole-encodes : Bytes s → Encodes (p .gave) s
+  whole-encodes b = let (q, l) = whole-accepted in encodes-accepted reg sch s p end (commands-accepted reg sch c s p end q .0) b l
+
+module _ (reg : Register) (regValid : R.Valid reg) (sch : Scheme) (schValid : S.Valid reg sch) (c : ℕ → ℤ) (k : Certificate) (s : List ℕ) where
+  -- every encoding of a valid certificate is accepted
+  pub encoding-accepted : Valid c reg sch k → Encodes k s → certificateByItself c reg sch s ≡ accepted (reached 0x3F k) (length s)
   unfolding certificateByItself certificateInJob judged byItself
-  accepted-iff = (to, from)
-    where
-      to : certificateByItself c reg sch s ≡ accepted (reached 0x3F k) (length s) → Valid c reg sch k × Encodes k s
-      to e =
-          let q = whole-accepted s (certificateInJob c reg sch s) (reached 0x3F k) e in
-          let (x, t) = commands-accepted reg sch c s (reached 0x3F k) (length s) q in
-          (record { within = within-accepted reg sch s (reached 0x3F k) (length s) x .0; carried = t }, encodes-accepted reg sch s (reached 0x3F k) (length s) x b refl)
+  encoding-accepted v e =
+      let x = certificate-accepted reg sch (omega (arith, regValid .within .choices-within, schValid .within .products-within)) k s (v .within) e in
+      let t : carries c reg sch k ≡ true = T-true (carries c reg sch k) .0 (v .carried) in
+      rw (x, t, le-ltb (length s) (length s) (omega arith))
 
-      from : Valid c reg sch k × Encodes k s → certificateByItself c reg sch s ≡ accepted (reached 0x3F k) (length s)
-      from (v, e) =
-          let x = certificate-accepted reg sch (omega (arith, regValid .within .choices-within, schValid .within .products-within)) k s (v .within) e in
-          let t : carries c reg sch k ≡ true = T-true (carries c reg sch k) .0 (v .carried) in
-          rw (x, t, le-ltb (length s) (length s) (omega arith))
+  -- a certificate is accepted from just those runs of bytes that encode it, where it is valid
+  pub accepted-iff : Bytes s → (certificateByItself c reg sch s ≡ accepted (reached 0x3F k) (length s)) ↔ (Valid c reg sch k × Encodes k s)
+  accepted-iff b = (λ e. (whole-valid reg sch c s _ _ e, whole-encodes reg sch c s _ _ e b), λ h. encoding-accepted (h .0) (h .1))

@@ -1,5 +1,5 @@
+-- The worked row; the table of our own B; its rows; its commands and numbers; that it is valid; its bytes and the call's answer.
 pub mod Coefficients
--- The worked row; the table of our own B; its rows; its commands and numbers; that it is valid.
 pub mod Changes
 pub mod Worked
 pub mod Entries
@@ -7,3 +7,9 @@ pub mod Rows
 pub mod Commands
 pub mod Sizes
 pub mod Valid
+pub mod InTable
+pub mod BySign
+pub mod Encoded
+pub mod Writing
+pub mod Answers
+pub mod ReadBack

@@ -16,7 +16,7 @@ use Rattle.certificate.proofs.Bounds.{Small, maxG, norm1-g-within}
 use Rattle.plain.proofs.Coefficients.{rowSum-entry, linearLeft-entry}
 use Rattle.plain.specs.Plain.{halfRowSum, linearLeft, subtractedConstant}
 
-negPart-small : (x : ℤ) → negPart x ≤ natAbs x
+pub negPart-small : (x : ℤ) → negPart x ≤ natAbs x
 negPart-small (pos m) = omega arith
 negPart-small (negsuc m) = omega arith
 

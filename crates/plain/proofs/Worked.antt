@@ -2,7 +2,7 @@
 use Prim.Native.Nat.{ℕ}
 use mathlib.Core.Path.{_≡_, refl}
 use mathlib.Core.Bool.{true, false}
-use mathlib.Core.List.{[], _∷_, flatMap, map}
+use mathlib.Core.List.{List, [], _∷_, flatMap, map}
 use lib.IntN.{negsuc}
 use Rattle.integers.specs.Integer.{abs}
 use Rattle.integers.specs.Lists.{allBelow, joinBelow}
@@ -17,6 +17,10 @@ use Rattle.certificate.specs.Residual.{nullPart, subtractedPart, nullForms, sub
 use Rattle.register.proofs.Example.{exampleRegister}
 use Rattle.certificate.proofs.Commands.{command}
 use Rattle.scheme.proofs.Example.{builtScheme}
+use Rattle.wire.specs.Number.{bytesOf}
+use Rattle.certificate.specs.Encoding.{encodeScale, encodeMultiplier}
+use Rattle.plain.specs.Encoding.{encodeWith, encodePlain}
+use Rattle.plain.specs.Answer.{ownBytes}
 use Rattle.plain.specs.Plain.{halfRowSum, linearLeft, unlessZero, cancelling, subtractedConstant, plain}
 
 -- the certificate with T = −6 and both `31` at m
@@ -37,3 +41,20 @@ w7 = refl
 pub w7-carries : map (λ m. carries (coefficient exampleRegister) exampleRegister builtScheme (with31 m)) (3 ∷ 2 ∷ []) ≡ true ∷ false ∷ []
 unfolding carries allBelow rowHolds R shifted reformulated nullForms subtractedForms nullPart subtractedPart ruleOf byKey flatMap times entry g joinBelow term sumBelow sumOver offDiagonal except abs
 w7-carries = refl
+
+-- the bytes of such a certificate, with m below 256
+abbrev pub w7Bytes : ℕ → List ℕ
+w7Bytes m =
+    0x30 ∷ 1 ∷ 0 ∷ 0 ∷ 0 ∷ 0xFA ∷ 0xFF ∷ 0xFF ∷ 0xFF ∷ 0xFF ∷ 0xFF ∷ 0xFF ∷ 0xFF
+    ∷ 0x31 ∷ 2 ∷ m ∷ 0 ∷ 0 ∷ 0 ∷ 0 ∷ 0 ∷ 0 ∷ 0
+    ∷ 0x31 ∷ 3 ∷ m ∷ 0 ∷ 0 ∷ 0 ∷ 0 ∷ 0 ∷ 0 ∷ 0
+    ∷ 0x39 ∷ 0 ∷ 6 ∷ 0 ∷ 0 ∷ 0 ∷ 0 ∷ 0 ∷ 0 ∷ 0
+    ∷ 0x39 ∷ 1 ∷ 4 ∷ 0 ∷ 0 ∷ 0 ∷ 0 ∷ 0 ∷ 0 ∷ 0
+    ∷ 0x39 ∷ 2 ∷ 3 ∷ 0 ∷ 0 ∷ 0 ∷ 0 ∷ 0 ∷ 0 ∷ 0
+    ∷ 0x39 ∷ 3 ∷ 3 ∷ 0 ∷ 0 ∷ 0 ∷ 0 ∷ 0 ∷ 0 ∷ 0
+    ∷ 0x3F ∷ []
+
+-- those of ours
+pub w7-bytes : ownBytes exampleRegister builtScheme ≡ w7Bytes 3
+unfolding encodePlain encodeWith encodeScale encodeMultiplier flatMap bytesOf
+w7-bytes = rw w7

@@ -20,3 +20,4 @@ pub mod Answers
 pub mod Whole
 pub mod Worked
 pub mod Table
+pub mod Opened

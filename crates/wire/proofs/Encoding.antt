@@ -158,7 +158,7 @@ module _ {S : Type 0} (P : Part S) where
 
 -- A whole run of bytes.
 
-byItself-accepted : {S : Type 0} (s : List ℕ) (r : Reading S) (end : S) (e : ℕ) → byItself s r ≡ accepted end e → (r ≡ accepted end e) × (length s ≤ e)
+pub byItself-accepted : {S : Type 0} (s : List ℕ) (r : Reading S) (end : S) (e : ℕ) → byItself s r ≡ accepted end e → (r ≡ accepted end e) × (length s ≤ e)
 unfolding byItself
 byItself-accepted s (refused n at) end e q = let z : _≡_ {A = ℕ} 0 1 = cc in absurd (omega arith)
 byItself-accepted {S} s (accepted read at) end e q = by (ltb at (length s)) refl q

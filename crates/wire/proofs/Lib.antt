@@ -1,5 +1,6 @@
 -- The laws of numbers in bytes, of checks, and of reading a part, that the proofs share and that callers cite.
 pub mod Number
+pub mod Written
 pub mod Sign
 pub mod Checks
 pub mod Part

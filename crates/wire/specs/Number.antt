@@ -33,3 +33,7 @@ bytesOf (suc k) n = n % 256 ∷ bytesOf k (n / 256)
 -- s with the k bytes of a number at a position
 unfoldable pub putAt : ℕ → List ℕ → ℕ → ℕ → List ℕ
 putAt k s at n = sets s at (bytesOf k n)
+
+-- s with bytes at a position
+unfoldable pub written : List ℕ → ℕ → List ℕ → List ℕ
+written s at bytes = sets s at bytes

@@ -1,2 +1,3 @@
+pub mod Own
 pub mod Jobs
 pub mod Table

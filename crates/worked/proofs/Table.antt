@@ -1,9 +1,10 @@
 -- The paper's worked set, proved of the definitions, as one table.
-use Prim.Native.Nat.{ℕ}
+use Prim.Native.Nat.{ℕ, _≤_}
 use mathlib.Core.Path.{_≡_}
-use mathlib.Core.Bool.{true, false}
 use mathlib.Core.List.{List, [], _∷_, _++_, map}
-use lib.IntN.{pos, negsuc}
+use lib.IntN.{ℤ, pos, negsuc}
+use lib.ListN.{length}
+use Rattle.forms.specs.Table.{tableNumbers}
 use Rattle.register.specs.Register.{coefficient}
 use Rattle.register.proofs.Example.{registerBytes, exampleRegister}
 use Rattle.scheme.specs.Variables.{E}
@@ -17,12 +18,15 @@ use Rattle.builder.specs.Answer.{bytesBuffer, builtBuffer}
 use Rattle.builder.proofs.Worked as Builder
 use Rattle.penalty.specs.Weights.{weight}
 use Rattle.penalty.proofs.Worked as Penalty
-use Rattle.certificate.specs.Residual.{bound, carries}
+use Rattle.certificate.specs.Residual.{bound}
+use Rattle.certificate.specs.Check.{refusedAnswer, checkAnswer}
 use Rattle.certificate.proofs.Worked as Certificate
 use Rattle.plain.specs.Plain.{plain}
+use Rattle.plain.specs.Answer.{ownBytes}
 use Rattle.plain.proofs.Worked as Plain
 use Rattle.job.specs.Outcome.{outcome}
 use Rattle.job.specs.Listing.{listing}
+use Rattle.worked.proofs.Own.{w7-checked}
 use Rattle.worked.proofs.Jobs.{front, back, lines, jobs}
 
 pub record Worked : Type 0 where
@@ -42,7 +46,9 @@ pub record Worked : Type 0 where
   pub w6 : weight (coefficient exampleRegister) exampleRegister builtScheme 3 ≡ pos 5
   -- W7: on W3 our certificate has T = −6; with both `31` at 2 in place of 3 it is refused 9
   pub w7 : plain (coefficient exampleRegister) exampleRegister builtScheme ≡ Plain.with31 3
-  pub w7-refused : map (λ m. carries (coefficient exampleRegister) exampleRegister builtScheme (Plain.with31 m)) (3 ∷ 2 ∷ []) ≡ true ∷ false ∷ []
+  pub w7-bytes : ownBytes exampleRegister builtScheme ≡ Plain.w7Bytes 3
+  pub w7-checked : (lent : List ℤ) → tableNumbers ≤ length lent → map (λ m. checkAnswer registerBytes Builder.w3Bytes (Plain.w7Bytes m) lent) (3 ∷ 2 ∷ [])
+      ≡ record { number = 0; part = 0; position = 0; bound = negsuc 5 } ∷ refusedAnswer 9 3 73 ∷ []
   -- W8: T/s of −7/2, 7/2, −1/3 give −3, 4, 0
   pub w8 : map bound (Certificate.ratio (negsuc 6) 2 ∷ Certificate.ratio (pos 7) 2 ∷ Certificate.ratio (negsuc 0) 3 ∷ []) ≡ negsuc 2 ∷ pos 4 ∷ pos 0 ∷ []
   -- W9: the example is accepted, and with T = 1 refused: `R 9 107`; one more byte: `R 12 113`
@@ -63,7 +69,8 @@ worked = record {
   w5 = Penalty.w5;
   w6 = Penalty.w6;
   w7 = Plain.w7;
-  w7-refused = Plain.w7-carries;
+  w7-bytes = Plain.w7-bytes;
+  w7-checked = w7-checked;
   w8 = Certificate.w8;
   w9 = jobs;
 }

@@ -1,0 +1,67 @@
+-- For calls that open parts 1 and 2: what the answers of the register and of the scheme by themselves say of their bytes.
+use mathlib.Core.Path.{_≡_, refl, sym, _∙_, ap, ap₂}
+use mathlib.Core.List.{List}
+use Prim.Native.Nat.{ℕ}
+use lib.ListN.{length}
+use Rattle.wire.specs.Part.{Reading, refused, accepted}
+use Rattle.wire.specs.Rows.{Progress}
+use Rattle.wire.proofs.Part.{NumberedReading, readPart-numbered, byItself-numbered}
+use Rattle.wire.proofs.Encoding.{byItself-end}
+use Rattle.register.specs.declared.Register.{Register}
+use Rattle.register.specs.declared.RegisterAnswer.{RegisterAnswer}
+use Rattle.register.specs.Format.{registerPart, registerInJob, registerByItself}
+use Rattle.register.specs.Answer.{registerAnswer}
+use Rattle.register.specs.Valid as R
+use Rattle.register.proofs.Commands as C
+use Rattle.register.proofs.Opened as O
+use Rattle.scheme.specs.declared.Scheme.{Scheme}
+use Rattle.scheme.specs.declared.SchemeAnswer.{SchemeAnswer}
+use Rattle.scheme.specs.Format.{schemePart, schemeInJob, schemeByItself}
+use Rattle.scheme.specs.Answer.{partAnswer, answerAfter, schemeAnswer}
+use Rattle.scheme.specs.Valid.{Valid}
+use Rattle.scheme.proofs.Commands.{reached}
+use Rattle.scheme.proofs.Accept.{valid-accepted}
+
+-- an accepted scheme of an accepted register
+pub record Opened (t s : List ℕ) (reg : Register) (sch : Scheme) : Type 0 where
+  pub register-reads : registerByItself t ≡ accepted (C.reached 0x1F reg) (length t)
+  pub scheme-reads : schemeByItself reg s ≡ accepted (reached 0x2F sch) (length s)
+  pub register-valid : R.Valid reg
+  pub scheme-valid : Valid reg sch
+
+-- the part that is refused, with the answer's number and position
+pub data Refused (t s : List ℕ) (a : SchemeAnswer) : Type 0 where
+  in-register : registerByItself t ≡ refused (a .number) (a .position) → a .part ≡ 1 → Refused t s a
+  in-scheme : (p : Progress Register) (end : ℕ) → registerByItself t ≡ accepted p end → schemeByItself (p .gave) s ≡ refused (a .number) (a .position) → a .part ≡ 2 → Refused t s a
+
+module _ (t s : List ℕ) (a : SchemeAnswer) (e : a ≡ schemeAnswer t s) where
+  pub opened-refused : (a .number ≡ 0 → ⊥) → Refused t s a
+  opened-refused h = go (registerByItself t) refl e
+    where
+      second : (p : Progress Register) (end : ℕ) → registerByItself t ≡ accepted p end → (y : Reading (Progress Scheme)) → schemeByItself (p .gave) s ≡ y → a ≡ partAnswer y → Refused t s a
+      second p end x (refused n at) y f = in-scheme p end x (y ∙ sym (ap₂ refused (ap (λ r. r .number) f) (ap (λ r. r .position) f))) (ap (λ r. r .part) f)
+      second p end x (accepted q end′) y f = absurd (h (ap (λ r. r .number) f))
+
+      go : (x : Reading (Progress Register)) → registerByItself t ≡ x → a ≡ answerAfter x s → Refused t s a
+      go (refused n at) x f = in-register (x ∙ sym (ap₂ refused (ap (λ r. r .number) f) (ap (λ r. r .position) f))) (ap (λ r. r .part) f)
+      go (accepted p end) x f = second p end x (schemeByItself (p .gave) s) refl f
+
+  pub opened : (first : RegisterAnswer) → first ≡ registerAnswer (registerByItself t) → a .number ≡ 0 → Opened t s (first .register) (a .scheme)
+  unfolding registerByItself registerInJob schemeByItself schemeInJob
+  opened first d h = go (registerByItself t) d e (byItself-numbered t (registerInJob t) (readPart-numbered registerPart t))
+    where
+      both : O.Opened t (first .register) → (y : Reading (Progress Scheme)) → schemeByItself (first .register) s ≡ y → a ≡ partAnswer y → NumberedReading y → Opened t s (first .register) (a .scheme)
+      both o (refused n at) y f z = absurd (z (sym (ap (λ r. r .number) f) ∙ h))
+      both o (accepted q end) y f z =
+          let c : a .scheme ≡ q .gave = ap (λ r. r .scheme) f in
+          let (inJob, whole) = byItself-end (schemePart (first .register)) s q end y in
+          let (v, l) = valid-accepted (first .register) (o .valid) s q end inJob in
+          record { register-reads = o .reads; scheme-reads = y ∙ ap₂ accepted (rw (c, ← l)) whole; register-valid = o .valid; scheme-valid = rw c v }
+
+      go : (x : Reading (Progress Register)) → first ≡ registerAnswer x → a ≡ answerAfter x s → NumberedReading x → Opened t s (first .register) (a .scheme)
+      go (refused n at) x f z = absurd (z (sym (ap (λ r. r .number) f) ∙ h))
+      go (accepted p end) x f z =
+          let r : p .gave ≡ first .register = sym (ap (λ r. r .register) x) in
+          both (O.opened t first d (ap (λ r. r .number) x)) (schemeByItself (first .register) s) refl
+          (f ∙ ap (λ k. partAnswer (schemeByItself k s)) r)
+          (byItself-numbered s (schemeInJob (first .register) s) (readPart-numbered (schemePart (first .register)) s))

@@ -1,0 +1,132 @@
+-- Demand 3 holds of our calls.
+use Prim.Native.Nat.{ℕ, _≤_}
+use mathlib.Core.Path.{_≡_, refl, sym, _∙_, ap}
+use mathlib.Core.List.{List}
+use lib.IntN.{ℤ, pos}
+use lib.ListN.{length, take}
+use lib.Signed.{_≤ℤ_}
+use Rattle.integers.proofs.Order.{≤ℤ-antisym}
+use Rattle.wire.specs.Number.{Bytes}
+use Rattle.wire.specs.Part.{Reading, refused, accepted}
+use Rattle.wire.specs.Rows.{Progress}
+use Rattle.wire.proofs.Part.{NumberedReading, byItself-numbered}
+use Rattle.forms.specs.Table.{tableNumbers}
+use Rattle.register.specs.declared.Register.{Register}
+use Rattle.register.specs.Register.{coefficient}
+use Rattle.register.specs.Format.{registerByItself}
+use Rattle.register.specs.Answer.{registerAnswer}
+use Rattle.register.proofs.Accept as R
+use Rattle.scheme.specs.declared.Scheme.{Scheme}
+use Rattle.scheme.specs.Filling.{Filling}
+use Rattle.scheme.specs.Answer.{schemeAnswer}
+use Rattle.scheme.proofs.Opened.{Opened, opened}
+use Rattle.scheme.proofs.Accept as S
+use Rattle.penalty.specs.Answer.{penaltyTable}
+use Rattle.penalty.specs.Demand.{Holds}
+use Rattle.penalty.specs.Least.{Least}
+use Rattle.penalty.proofs.Demand.{made-holds}
+use Rattle.certificate.specs.Certificate.{Certificate}
+use Rattle.certificate.specs.Format.{certificateByItself}
+use Rattle.certificate.specs.Residual.{bound}
+use Rattle.certificate.specs.Check.{afterCertificate, checkAnswer}
+use Rattle.certificate.proofs.Accept.{whole-valid, whole-encodes, encoding-accepted}
+use Rattle.certificate.proofs.Answers.{accepted-both, long, job-numbered}
+use Rattle.certificate.proofs.Bound.{plan-bound}
+use Rattle.certificate.proofs.SecondOrder.{second-order}
+use Rattle.plain.specs.Answer.{plainAnswer, plainBuffer}
+use Rattle.plain.proofs.ReadBack.{plain-encodes, handed-back, own-accepted}
+use Rattle.soundness.specs.Calls.{penaltyCall, checkCall, plainCall}
+use Rattle.soundness.specs.Demand3.{registerOf, coefficients, schemeOf, Accepted, Plan, cost, carriedCost, valueRead, EqualLeast, Certified, secondOrderOf, ownLength, AsWritten, Demand3}
+
+-- a function has one least value
+least-one : {A : Type 0} (f : A → ℤ) (m m′ : ℤ) → Least f m → Least f m′ → m ≡ m′
+least-one f m m′ a b =
+    ≤ℤ-antisym m m′ (rw (← (b .reached)) (a .lowest (b .witness))) (rw (← (a .reached)) (b .lowest (a .witness)))
+
+-- an answer of no refusal comes from a certificate that is accepted
+record Reads (c : ℕ → ℤ) (reg : Register) (sch : Scheme) (s : List ℕ) : Type 0 where
+  read : Progress Certificate
+  end : ℕ
+  reads : certificateByItself c reg sch s ≡ accepted read end
+
+module _ (t s : List ℕ) (reg : Register) (sch : Scheme) (o : Opened t s reg sch) (lent : List ℤ) (l : tableNumbers ≤ length lent) (k : List ℕ) where
+  answer-is : checkAnswer t s k lent ≡ afterCertificate (certificateByItself (coefficient reg) reg sch k)
+  answer-is =
+      sym (long t s k lent _ _ l refl refl .answers) ∙ accepted-both t s _ _ _ _ (o .register-reads) (o .scheme-reads) .answers k
+
+  reads-accepted : checkAnswer t s k lent .number ≡ 0 → Reads (coefficient reg) reg sch k
+  unfolding certificateByItself
+  reads-accepted z =
+      go (certificateByItself (coefficient reg) reg sch k) refl (byItself-numbered k _ (job-numbered (coefficient reg) reg sch k)) (ap (λ a. a .number) (sym answer-is) ∙ z)
+    where
+      go : (x : Reading (Progress Certificate)) → certificateByItself (coefficient reg) reg sch k ≡ x → NumberedReading x → afterCertificate x .number ≡ 0 → Reads (coefficient reg) reg sch k
+      go (refused n at) e d z = absurd (d z)
+      go (accepted p end) e d z = record { read = p; end = end; reads = e }
+
+  -- and its bound is that of the certificate
+  bound-read : (p : Progress Certificate) (end : ℕ) → certificateByItself (coefficient reg) reg sch k ≡ accepted p end → (checkAnswer t s k lent .number ≡ 0) × (checkAnswer t s k lent .bound ≡ bound (p .gave))
+  bound-read p end e = let a = answer-is ∙ ap afterCertificate e in (ap (λ a. a .number) a, ap (λ a. a .bound) a)
+
+-- ---- the demand, of accepted parts 1 and 2 and a table long enough
+
+module _ (t s : List ℕ) (z : Accepted t s) (lent : List ℤ) (l : tableNumbers ≤ length lent) where
+  o : Opened t s (registerOf t) (schemeOf t s)
+  o = opened t s (schemeAnswer t s) refl (registerAnswer (registerByItself t)) refl z
+
+  holds : Holds (registerOf t) (schemeOf t s) lent (penaltyTable t s lent)
+  holds = made-holds t s lent l _ _ _ _ (o .register-reads) (o .scheme-reads)
+
+  -- (a)
+  least : EqualLeast (valueRead t s (penaltyTable t s lent)) (cost t)
+  least = let m = holds .least in record { least = m .least; of-first = m .overFillings; of-second = m .overPlans }
+
+  -- (b)
+  minimisers : (m : ℤ) → Least (valueRead t s (penaltyTable t s lent)) m → (z : Filling) → valueRead t s (penaltyTable t s lent) z ≡ m → carriedCost t z ≡ m
+  minimisers m h z e =
+      let one = least-one (valueRead t s (penaltyTable t s lent)) m (holds .least .least) h (holds .least .overFillings) in
+      holds .least .minimisers z (e ∙ one) ∙ sym one
+
+  -- (c)
+  bounds : (certificate : List ℕ) → checkAnswer t s certificate lent .number ≡ 0 → (plan : Plan t) → checkAnswer t s certificate lent .bound ≤ℤ cost t plan
+  bounds certificate e plan =
+      let k = reads-accepted t s _ _ o lent l certificate e in
+      let valid = whole-valid _ _ _ certificate (k .read) (k .end) (k .reads) in
+      rw (bound-read t s _ _ o lent l certificate (k .read) (k .end) (k .reads) .1)
+      (plan-bound (coefficients t) (registerOf t) (schemeOf t s) (k .read .gave) (o .scheme-valid) valid (plan .fed))
+
+  -- (d)
+  second-order-part : (certificate : List ℕ) (k : Certified t s certificate) (x : ℕ → ℤ) → pos 0 ≤ℤ secondOrderOf t s (k .cert) x
+  second-order-part certificate k = second-order (coefficients t) (registerOf t) (schemeOf t s) (k .cert) (k .conditions .carried)
+
+  -- (e)
+  own-checked : (buffer : List ℕ) → ownLength ≤ length buffer → checkAnswer t s (take (plainAnswer t s buffer .count) (plainBuffer t s buffer)) lent .number ≡ 0
+  own-checked buffer m =
+      ap (λ k. checkAnswer t s k lent .number) (handed-back t s _ _ o buffer m .1) ∙ ap (λ a. a .number) (own-accepted t s _ _ o lent l)
+
+  as-written : Bytes t → Bytes s → AsWritten penaltyCall checkCall plainCall t s lent
+  as-written b b′ = record {
+    register-conditions = o .register-valid;
+    register-bytes = R.accepted-iff t (registerOf t) b .0 (o .register-reads) .1;
+    scheme-conditions = o .scheme-valid;
+    scheme-bytes = S.accepted-iff (registerOf t) (o .register-valid) s (schemeOf t s) .0 (o .scheme-reads) .1;
+    penalty-form = holds .reads;
+    certificates = λ certificate b e.
+        let k = reads-accepted t s _ _ o lent l certificate e in
+        record { cert = k .read .gave; bytes = whole-encodes _ _ _ certificate (k .read) (k .end) (k .reads) b; conditions = whole-valid _ _ _ certificate (k .read) (k .end) (k .reads) };
+    certified = λ certificate k.
+        bound-read t s _ _ o lent l certificate _ _
+        (encoding-accepted (registerOf t) (o .register-valid) (schemeOf t s) (o .scheme-valid) (coefficients t) (k .cert) certificate (k .conditions) (k .bytes));
+    own-certificate = λ buffer m. rw (handed-back t s _ _ o buffer m .1) (plain-encodes (coefficients t) (registerOf t) (schemeOf t s));
+  }
+
+-- demand 3
+pub demand3 : Demand3 penaltyCall checkCall plainCall
+unfolding Demand3
+demand3 t s b b′ z lent l = record {
+  least = least t s z lent l;
+  minimisers = minimisers t s z lent l;
+  bounds = bounds t s z lent l;
+  second-order = second-order-part t s z lent l;
+  own-accepted = own-checked t s z lent l;
+  as-written = as-written t s z lent l b b′;
+}
