@@ -39,3 +39,4 @@ pub mod Filled
 pub mod Checking
 pub mod Answers
 pub mod Demand
+pub mod Prefix

@@ -3,6 +3,7 @@ use crate::builds;
 use crate::checks;
 use crate::costs;
 use crate::penalties;
+use crate::plains;
 use crate::registers;
 use crate::schemes;
 use libc::STDOUT_FILENO;
@@ -16,6 +17,7 @@ pub enum Group {
     Cost,
     Penalty,
     Check,
+    Plain,
 }
 
 // How far a file was read, the cases so far, and how many of them differ.
@@ -34,6 +36,7 @@ fn agrees(group: Group, line: &[u8]) -> bool {
         Group::Cost => costs::agrees(line),
         Group::Penalty => penalties::agrees(line),
         Group::Check => checks::agrees(line),
+        Group::Plain => plains::agrees(line),
     }
 }
 

@@ -5,6 +5,7 @@ mod checks;
 mod costs;
 mod files;
 mod penalties;
+mod plains;
 mod registers;
 mod schemes;
 mod tables;
@@ -18,4 +19,5 @@ fn main() {
     files::run(Group::Cost, b"cost", b"cost.txt");
     files::run(Group::Penalty, b"penalty", b"penalty.txt");
     files::run(Group::Check, b"check", b"check.txt");
+    files::run(Group::Plain, b"plain", b"plain.txt");
 }

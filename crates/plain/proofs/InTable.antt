@@ -31,7 +31,7 @@ use Rattle.scheme.specs.Scheme.{variables, side}
 use Rattle.scheme.specs.Function.{g}
 use Rattle.plain.specs.Plain.{halfRowSum, linearLeft, unlessZero, cancelling, subtractedConstant, plain}
 use Rattle.plain.specs.Encoding.{encodeWith, encodePlain}
-use Rattle.plain.specs.InTable.{Small, entryIn, productsIn, halfIn, leftIn, subtractedIn, commandsIn, encodeIn}
+use Rattle.plain.specs.InTable.{maxEntry, Small, entryIn, productsIn, halfIn, leftIn, subtractedIn, commandsIn, encodeIn}
 use Rattle.plain.proofs.Coefficients.{rowSum-entry, linearLeft-entry}
 use Rattle.plain.proofs.Sizes.{negPart-small}
 
@@ -56,15 +56,15 @@ module _ (n : ℕ) (t : List ℤ) (ok : Small n t) where
         let narrow : suc n ≤ 65 = omega (arith, ok .few) in
         rw add-one (omega (arith, place-inside (suc n) i j (omega arith) (omega arith), mul-le-mul narrow narrow))
 
-  pub entry-low : (i j : ℕ) → i ≤ n → j ≤ n → natAbs (entryIn n t i j) ≤ 2_512_000_000
+  pub entry-low : (i j : ℕ) → i ≤ n → j ≤ n → natAbs (entryIn n t i j) ≤ maxEntry
   entry-low i j k l = ok .low .low (i * suc n + j) (place-inside (suc n) i j (omega arith) (omega arith))
 
   module _ (i : ℕ) (l : i < n) where
-    pub row-small : (j : ℕ) → j ≤ n → natAbs (rowTo n t i j) ≤ 2_512_000_000 * j
+    pub row-small : (j : ℕ) → j ≤ n → natAbs (rowTo n t i j) ≤ maxEntry * j
     unfolding except abs
     row-small j h =
-        natAbs-sum j 2_512_000_000 (except i (λ k. abs (productsIn n t i k)))
-        (λ k m. cond-cases (λ x. natAbs x ≤ 2_512_000_000) (eqb k i) (pos 0) (abs (productsIn n t i k)) (λ _. omega arith) (λ _. entry-low (place i) (place k) (omega arith) (omega arith)))
+        natAbs-sum j maxEntry (except i (λ k. abs (productsIn n t i k)))
+        (λ k m. cond-cases (λ x. natAbs x ≤ maxEntry) (eqb k i) (pos 0) (abs (productsIn n t i k)) (λ _. omega arith) (λ _. entry-low (place i) (place k) (omega arith) (omega arith)))
 
     pub half-small : halfIn n t i ≤ 80_384_000_000
     unfolding halfIn offDiagonal

@@ -9,14 +9,19 @@ use Rattle.integers.specs.Sum.{sumBelow}
 use Rattle.integers.specs.Quadratic.{offDiagonal}
 use Rattle.forms.specs.Form.{place}
 use Rattle.forms.specs.Store.{Bounded}
+use Rattle.scheme.specs.Sets.{maxVariables}
 use Rattle.certificate.specs.Certificate.{Multiplier}
 use Rattle.plain.specs.Plain.{unlessZero, cancelling}
 use Rattle.plain.specs.Encoding.{encodeWith}
 
+-- an entry of the table of g is at most twice |base cost| and the sum of all |coefficients|
+abbrev pub maxEntry : ℕ
+maxEntry = 2_512_000_000
+
 -- at most 64 variables, and numbers as small as those of g
 pub record Small (n : ℕ) (t : List ℤ) : Type 0 where
-  pub few : n ≤ 64
-  pub low : Bounded (suc n) 2_512_000_000 t
+  pub few : n ≤ maxVariables
+  pub low : Bounded (suc n) maxEntry t
 
 abbrev pub entryIn : ℕ → List ℤ → ℕ → ℕ → ℤ
 entryIn n t i j = getD t (i * suc n + j) (pos 0)
@@ -39,22 +44,22 @@ subtractedIn n t = sumBelow n (λ i. pos (negPart (leftIn n t i)))
 
 -- `31` of variable i, and `38` or `39`
 
-abbrev pub squareIn : ℕ → List ℤ → ℕ → List Multiplier
-squareIn n t i = unlessZero 0x31 i (halfIn n t i)
+abbrev pub diagonalIn : ℕ → List ℤ → ℕ → List Multiplier
+diagonalIn n t i = unlessZero 0x31 i (halfIn n t i)
 
 abbrev pub linearIn : ℕ → List ℤ → ℕ → List Multiplier
 linearIn n t i = cancelling i (leftIn n t i)
 
 -- all `31`, and then all `38` and `39`
 
-abbrev pub squaresIn : ℕ → List ℤ → List Multiplier
-squaresIn n t = joinBelow n (squareIn n t)
+abbrev pub diagonalsIn : ℕ → List ℤ → List Multiplier
+diagonalsIn n t = joinBelow n (diagonalIn n t)
 
 abbrev pub linearsIn : ℕ → List ℤ → List Multiplier
 linearsIn n t = joinBelow n (linearIn n t)
 
 abbrev pub commandsIn : ℕ → List ℤ → List Multiplier
-commandsIn n t = squaresIn n t ++ linearsIn n t
+commandsIn n t = diagonalsIn n t ++ linearsIn n t
 
 -- the bytes of the certificate
 unfoldable pub encodeIn : ℕ → ℤ → List ℤ → List ℕ

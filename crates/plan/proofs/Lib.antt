@@ -3,3 +3,4 @@ pub mod Command
 pub mod Accept
 pub mod Answers
 pub mod Bounds
+pub mod Prefix

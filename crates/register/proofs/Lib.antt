@@ -13,3 +13,4 @@ pub mod Encoding
 pub mod Accept
 pub mod Lowest
 pub mod Opened
+pub mod Prefix

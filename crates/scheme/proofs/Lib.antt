@@ -21,3 +21,4 @@ pub mod Whole
 pub mod Worked
 pub mod Table
 pub mod Opened
+pub mod Prefix

@@ -6,3 +6,4 @@ pub mod Checks
 pub mod Part
 pub mod Encoding
 pub mod Leads
+pub mod Prefix

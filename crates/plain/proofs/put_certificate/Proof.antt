@@ -1,0 +1,112 @@
+-- `plain::put_certificate` meets its contract. The first command, `31` for each variable, `38` or `39` for each, and `3F`.
+use Prim.Native.Nat.{_≤_}
+use mathlib.Core.Path.{_≡_, _∙_, ap, ap₂}
+use native.Mathlib.Omega.{arith}
+use lib.IntN.{ℤ, pos, natAbs, _-ℤ_}
+use lib.ListN.{length-append}
+use mir.Facts.{toZ-ofZ}
+use mir.Syntax.{w64}
+use mir.Val.{toZ, ofZ}
+use borrow.Author.Needs.{needs}
+use Rattle.integers.proofs.Lists.{All-join}
+use Rattle.integers.proofs.Machine.{fits-signed, read-signed, read-unsigned}
+use Rattle.integers.proofs.Order.{natAbs-sub}
+use Rattle.wire.specs.Number.{written}
+use Rattle.certificate.specs.Encoding.{encodeScale}
+use Rattle.plain.specs.InTable.{subtractedIn, diagonalsIn, linearsIn, encodeIn}
+use Rattle.plain.proofs.InTable.{total-small}
+use Rattle.plain.proofs.Encoded.{Ten, ten-unlessZero, ten-cancelling}
+use Rattle.plain.proofs.Writing.{whole}
+use Rattle.plain.proofs.put_certificate.Statement.{statement}
+use Rattle.plain.proofs.put_certificate.Tie as tie
+
+subtracted-requires : tie.Need-subtracted-requires
+subtracted-requires c κs = search needs
+
+-- the target
+module _ (c : tie.After-subtracted) where
+  abbrev start : tie.Start
+  start = c .before .before .before
+
+  abbrev taken : ℤ
+  taken = subtractedIn (start .args .n) (start .args .table .now)
+
+  abbrev target : ℤ
+  target = start .args .base -ℤ taken
+
+  taken-small : natAbs taken ≤ 5_305_344_000_000
+  taken-small = omega (arith, total-small _ _ (start .pre .0))
+
+  difference : toZ w64 (ofZ w64 (start .args .base)) -ℤ toZ w64 (c .subtracted .result) ≡ target
+  difference =
+      ap₂ _-ℤ_ (toZ-ofZ (start .fits .base))
+      (read-unsigned w64 (c .subtracted .result) (omega (arith, ap natAbs (c .subtracted .ensures), taken-small)) ∙ c .subtracted .ensures)
+
+  target-small : natAbs target ≤ 10_000_000_000_000
+  target-small = omega (arith, natAbs-sub (start .args .base) taken, taken-small, start .pre .1 .0)
+
+cast-put-scale : tie.Need-cast-put-scale
+cast-put-scale c = fits-signed w64 (pos (c .subtracted .result)) (omega (arith, ap natAbs (c .subtracted .ensures), taken-small c))
+
+sub-put-scale : tie.Need-sub-put-scale
+sub-put-scale c = rw (difference c) (fits-signed w64 (target c) (omega (arith, target-small c)))
+
+put-scale-requires : tie.Need-put-scale-requires
+put-scale-requires c κs = search needs
+
+put-diagonals-requires : tie.Need-put-diagonals-requires
+put-diagonals-requires c κs =
+    let s = c .before .before .before .before .before .before .before in
+    let t = s .args .table .now in
+    (s .pre .0, omega (arith, length-append (diagonalsIn (s .args .n) t) (linearsIn (s .args .n) t), s .pre .1 .1))
+
+put-linears-requires : tie.Need-put-linears-requires
+put-linears-requires c κs =
+    let s = c .before .before .before .before .before .before .before .before .before .before .before in
+    let t = s .args .table .now in
+    (s .pre .0, omega (arith, length-append (diagonalsIn (s .args .n) t) (linearsIn (s .args .n) t), c .before .before .before .put-diagonals .ensures .0, s .pre .1 .1))
+
+put-u8-requires : tie.Need-put-u8-requires
+put-u8-requires c κs =
+    let l = c .before .before .before in
+    let q = l .before .before .before .before in
+    let s = q .before .before .before .before .before .before .before .before in
+    let t = s .args .table .now in
+    omega (arith, length-append (diagonalsIn (s .args .n) t) (linearsIn (s .args .n) t), l .put-linears .ensures .0, q .put-diagonals .ensures .0, s .pre .1 .1)
+
+same-length : tie.Need-same-length
+same-length c = search needs
+
+returns : tie.Need-returns
+unfolding encodeIn
+returns c =
+    let p = c .before .before in
+    let l = p .before .before .before .before in
+    let q = l .before .before .before .before in
+    let k = q .before .before .before .before in
+    let d = k .before in
+    let a = start d .args in
+    whole (a .out .now) (target d) (diagonalsIn (a .n) (a .table .now)) (linearsIn (a .n) (a .table .now))
+    (All-join Ten (a .n) _ (λ i _. ten-unlessZero 0x31 i _))
+    (All-join Ten (a .n) _ (λ i _. ten-cancelling i _))
+    _ _ _ _ _ _
+    (k .put-scale .ensures ∙ ap (λ x. written (a .out .now) 0 (encodeScale 1 x)) (ap (λ x. toZ w64 (ofZ w64 x)) (difference d) ∙ read-signed w64 (target d) (omega (arith, target-small d))))
+    (q .put-diagonals .ensures .0)
+    (q .put-diagonals .ensures .1)
+    (l .put-linears .ensures .0)
+    (l .put-linears .ensures .1)
+    (p .put-u8 .ensures)
+
+pub put-certificate-spec : {M : Type 1} → statement M
+put-certificate-spec =
+    tie.close
+    (tie.spec
+    subtracted-requires
+    cast-put-scale
+    sub-put-scale
+    put-scale-requires
+    put-diagonals-requires
+    put-linears-requires
+    put-u8-requires
+    same-length
+    returns)

@@ -1,0 +1,62 @@
+-- The bytes that a register's reading can look at, and the bytes of an accepted one.
+use Prim.Native.Nat.{ℕ, _+_, _*_, _≤_}
+use native.Mathlib.Omega.{arith}
+use mathlib.Core.Path.{_≡_, refl}
+use mathlib.Core.List.{List}
+use lib.ListN.{take}
+use borrow.Author.Tests.{eqb-true}
+use Rattle.integers.proofs.Lists.{_▹_}
+use Rattle.wire.specs.Part.{accepted, total}
+use Rattle.wire.specs.Rows.{Progress}
+use Rattle.wire.proofs.Prefix.{Limited, Keeps, limited, read-prefix, end-within}
+use Rattle.register.specs.declared.Register.{Register}
+use Rattle.register.specs.Limits.{maxChoices, maxTerms}
+use Rattle.register.specs.Register.{fresh}
+use Rattle.register.specs.Format.{baseRow, choiceRow, termRow, endRow, registerPart, registerInJob}
+use Rattle.register.proofs.Passes.{choice-passes, term-passes}
+
+-- the position of a command, by what has been read
+record Reach (p : Progress Register) (at : ℕ) : Type 0 where
+  start : p .previous ≡ 0 → at ≡ 0
+  near : at ≤ 5 + 5 * p .gave .choices + 9 * p .gave .terms
+  choices : p .gave .choices ≤ maxChoices
+  terms : p .gave .terms ≤ maxTerms
+
+-- the last position of a command
+abbrev far : ℕ
+far = 5 + 5 * maxChoices + 9 * maxTerms
+
+limits : Limited registerPart Reach far 9 (far + 1)
+unfolding fresh total
+limits = limited fresh _ (omega arith) (record { start = λ e. refl; near = omega arith; choices = omega arith; terms = omega arith }) (λ p at r. omega arith) (base ▹ choice ▹ term ▹ last ▹ tt)
+  where
+    base : Keeps Reach 9 (far + 1) 0x10 baseRow
+    base = record {
+      small = omega arith;
+      moves = λ p at xs r e h. record { start = λ z. absurd (omega arith); near = omega (arith, r .start (eqb-true (p .previous) 0 e)); choices = r .choices; terms = r .terms };
+    }
+
+    choice : Keeps Reach 9 (far + 1) 0x11 choiceRow
+    choice = record {
+      small = omega arith;
+      moves = λ p at xs r e h. record { start = λ z. absurd (omega arith); near = omega (arith, r .near); choices = choice-passes _ _ _ _ _ h .few; terms = r .terms };
+    }
+
+    term : Keeps Reach 9 (far + 1) 0x12 termRow
+    term = record {
+      small = omega arith;
+      moves = λ p at xs r e h. record { start = λ z. absurd (omega arith); near = omega (arith, r .near); choices = r .choices; terms = term-passes _ _ _ _ _ h .few };
+    }
+
+    last : Keeps Reach 9 (far + 1) 0x1F endRow
+    last = record { small = omega arith; moves = λ p at xs r e h. omega (arith, r .near, r .choices, r .terms) }
+
+-- 5 + 5 · 32 + 9 · 256, and the 9 bytes of a 257th term
+pub register-prefix : (K : ℕ) (s : List ℕ) → 2_478 ≤ K → registerInJob (take K s) ≡ registerInJob s
+unfolding registerInJob
+register-prefix K s k = read-prefix registerPart limits K s (omega arith)
+
+-- 5 + 5 · 32 + 9 · 256, and `1F`
+pub register-end : (s : List ℕ) {p : Progress Register} {end : ℕ} → registerInJob s ≡ accepted p end → end ≤ 2_470
+unfolding registerInJob
+register-end s e = omega (arith, end-within registerPart limits s e)
