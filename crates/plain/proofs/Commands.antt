@@ -1,6 +1,7 @@
 -- The commands of our own certificate: at most two for each variable, and each allowed.
 use Prim.Native.Nat.{ℕ, zero, suc, _*_, _≤_, _<_}
-use mathlib.Core.Path.{refl}
+use mathlib.Core.Path.{_≡_, refl}
+use mathlib.Core.Bool.{Bool, true, false, cond}
 use mathlib.Core.List.{List, [], _∷_}
 use native.Mathlib.Omega.{arith}
 use lib.Dec.{eqb, lt→ltb}
@@ -24,14 +25,24 @@ unfolding joinBelow
 length-join zero b f h = omega arith
 length-join (suc n) b f h = omega (arith, length-append (joinBelow n f) (f n), length-join n b f h, h n)
 
-length-unlessZero : (kind i m : ℕ) → length (unlessZero kind i m) ≤ 1
-unfolding unlessZero
-length-unlessZero kind i m = cond-cases (λ l. length l ≤ 1) (eqb m 0) [] (command kind i m ∷ []) (λ _. omega arith) (λ _. omega arith)
+-- one, or none where the multiplier is 0
 
-length-cancelling : (i : ℕ) (x : ℤ) → length (cancelling i x) ≤ 1
+pub length-unlessZero : (kind i m : ℕ) → length (unlessZero kind i m) ≡ cond (eqb m 0) 0 1
+unfolding unlessZero
+length-unlessZero kind i m = go (eqb m 0)
+  where
+    go : (b : Bool) → length (cond b [] (command kind i m ∷ [])) ≡ cond b 0 1
+    go true = refl
+    go false = refl
+
+pub length-cancelling : (i : ℕ) (x : ℤ) → length (cancelling i x) ≡ cond (eqb (natAbs x) 0) 0 1
 unfolding cancelling
-length-cancelling i (pos m) = length-unlessZero 0x38 i m
-length-cancelling i (negsuc m) = length-unlessZero 0x39 i (suc m)
+length-cancelling i (pos m) = length-unlessZero _ i m
+length-cancelling i (negsuc m) = length-unlessZero _ i (suc m)
+
+pub one-at-most : (b : Bool) → cond b 0 1 ≤ 1
+one-at-most true = omega arith
+one-at-most false = omega arith
 
 -- at most two commands for each variable
 pub plain-count : (c : ℕ → ℤ) (r : Register) (s : Scheme) → length (plain c r s .multipliers) ≤ 2 * variables (r .choices) s
@@ -43,8 +54,8 @@ plain-count c r s =
     omega (
       arith,
       length-append first second,
-      length-join N 1 (λ i. unlessZero 0x31 i (halfRowSum c r s i)) (λ i. length-unlessZero 0x31 i (halfRowSum c r s i)),
-      length-join N 1 (λ i. cancelling i (linearLeft c r s i)) (λ i. length-cancelling i (linearLeft c r s i)),
+      length-join N 1 (λ i. unlessZero 0x31 i (halfRowSum c r s i)) (λ i. rw (length-unlessZero 0x31 i (halfRowSum c r s i)) (one-at-most (eqb (halfRowSum c r s i) 0))),
+      length-join N 1 (λ i. cancelling i (linearLeft c r s i)) (λ i. rw (length-cancelling i (linearLeft c r s i)) (one-at-most (eqb (natAbs (linearLeft c r s i)) 0))),
     )
 
 -- ---- they are allowed

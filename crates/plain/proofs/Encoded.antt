@@ -2,10 +2,9 @@
 use Prim.Native.Nat.{ℕ, suc, _+_, _*_, _≤_}
 use native.Mathlib.Omega.{arith}
 use mathlib.Core.Path.{_≡_, refl}
-use mathlib.Core.Bool.{Bool, true, false, cond}
 use mathlib.Core.List.{List, [], _∷_, _++_, append-nil, append-assoc, flatMap}
 use lib.Dec.{eqb}
-use lib.IntN.{ℤ, pos, negsuc, natAbs}
+use lib.IntN.{ℤ, pos, negsuc}
 use lib.ListN.{length, length-append}
 use borrow.Author.Tests.{ne-eqb}
 use Rattle.integers.specs.Lists.{All, joinBelow}
@@ -46,8 +45,8 @@ ten-unlessZero kind i m = cond-cases (All Ten) (eqb m 0) [] (command kind i m �
 
 pub ten-cancelling : (i : ℕ) (x : ℤ) → All Ten (cancelling i x)
 unfolding cancelling
-ten-cancelling i (pos m) = ten-unlessZero 0x38 i m
-ten-cancelling i (negsuc m) = ten-unlessZero 0x39 i (suc m)
+ten-cancelling i (pos m) = ten-unlessZero _ i m
+ten-cancelling i (negsuc m) = ten-unlessZero _ i (suc m)
 
 pub length-multipliers : (ts : List Multiplier) → All Ten ts → length (encodeMultipliers ts) ≡ 10 * length ts
 unfolding flatMap
@@ -78,23 +77,6 @@ module _ (kind i : ℕ) where
   pub unlessZero-one : (m : ℕ) → (m ≡ 0 → ⊥) → unlessZero kind i m ≡ command kind i m ∷ []
   unfolding unlessZero
   unlessZero-one m d = rw (ne-eqb m 0 d)
-
-  pub length-unlessZero : (m : ℕ) → length (unlessZero kind i m) ≡ cond (eqb m 0) 0 1
-  unfolding unlessZero
-  length-unlessZero m = go (eqb m 0)
-    where
-      go : (b : Bool) → length (cond b [] (command kind i m ∷ [])) ≡ cond b 0 1
-      go true = refl
-      go false = refl
-
-pub length-cancelling : (i : ℕ) (x : ℤ) → length (cancelling i x) ≡ cond (eqb (natAbs x) 0) 0 1
-unfolding cancelling
-length-cancelling i (pos m) = length-unlessZero 0x38 i m
-length-cancelling i (negsuc m) = length-unlessZero 0x39 i (suc m)
-
-pub one-at-most : (b : Bool) → cond b 0 1 ≤ 1
-one-at-most true = omega arith
-one-at-most false = omega arith
 
 -- ---- the whole certificate
 

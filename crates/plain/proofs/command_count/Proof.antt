@@ -11,7 +11,7 @@ use mir.Facts.{toZ-ofZ}
 use borrow.Author.Needs.{needs}
 use Rattle.integers.specs.Lists.{joinBelow}
 use Rattle.plain.specs.InTable.{diagonalIn, linearIn, diagonalsIn, linearsIn}
-use Rattle.plain.proofs.Encoded.{length-unlessZero, length-cancelling, one-at-most}
+use Rattle.plain.proofs.Commands.{length-unlessZero, length-cancelling, one-at-most}
 use Rattle.plain.proofs.command_count.Statement.{statement}
 use Rattle.plain.proofs.command_count.Tie as tie
 
