@@ -2,7 +2,7 @@
 use mathlib.Core.Path.{_≡_}
 use mathlib.Core.Logic.{⊎-elim}
 use Prim.Native.Nat.{ℕ, suc, _+_, _*_, _-_, _/_, _%_, _≤_, _<_}
-use native.Mathlib.Nat.{div-add-mod', mod-lt, div-le-self, div-mul-le-self, mul-le-mul-right}
+use native.Mathlib.Nat.{div-add-mod', mod-lt, div-le-self, div-mul-le-self, div-lt-iff-lt-mul, mul-le-mul-left, mul-le-mul-right}
 use native.Mathlib.Omega.{arith}
 use lib.IntN.{ℤ, pos, negsuc, negℤ, _+ℤ_, _-ℤ_, _*ℤ_, natAbs}
 use lib.Signed.{_≤ℤ_, _<ℤ_, clashℤ, quotZ}
@@ -82,3 +82,11 @@ natAbs-quotZ (negsuc a) s = rw natAbs-neg (div-le-self (suc a) s)
 pub natAbs-quotZ-* : (t : ℤ) (s : ℕ) → natAbs (quotZ t (pos s) *ℤ pos s) ≤ natAbs t
 natAbs-quotZ-* (pos a) s = div-mul-le-self a s
 natAbs-quotZ-* (negsuc a) s = rw (natAbs-*, natAbs-neg) (div-mul-le-self (suc a) s)
+
+-- it is no larger than what is divided
+pub natAbs-ceilDiv : (t : ℤ) (s : ℕ) → 1 ≤ s → natAbs (ceilDiv t s) ≤ natAbs t
+unfolding ceilDiv
+natAbs-ceilDiv (pos t) s l =
+    let below : (t + (s - 1)) / s < suc t = div-lt-iff-lt-mul {x = t + (s - 1)} {y = suc t} l .1 (omega (arith, mul-le-mul-left t l)) in
+    omega arith
+natAbs-ceilDiv (negsuc t) s l = rw natAbs-neg (div-le-self (suc t) s)

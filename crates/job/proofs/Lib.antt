@@ -1,1 +1,7 @@
+-- What the job's call answers; which jobs are accepted; how long a job can be.
+pub mod Positions
+pub mod Bounds
+pub mod Answers
+pub mod Call
+pub mod Accept
 pub mod Prefix

@@ -1,4 +1,4 @@
--- The four parts of a job after each other, positions from the job's start.
+-- The four parts of a job after each other, positions from the job's start, and the table after a job.
 use Prim.Native.Nat.{ℕ, _+_}
 use mathlib.Core.Bool.{cond}
 use mathlib.Core.List.{List}
@@ -11,12 +11,11 @@ use Rattle.register.specs.declared.Register.{Register}
 use Rattle.register.specs.Register.{coefficient}
 use Rattle.register.specs.Format.{registerInJob}
 use Rattle.scheme.specs.declared.Scheme.{Scheme}
-use Rattle.scheme.specs.Scheme.{side}
 use Rattle.scheme.specs.Format.{schemeInJob}
-use Rattle.forms.specs.Table.{withTable}
 use Rattle.certificate.specs.Certificate.{Certificate}
-use Rattle.certificate.specs.Residual.{R, bound}
+use Rattle.certificate.specs.Residual.{bound}
 use Rattle.certificate.specs.Format.{commandsInJob, certificateInJob}
+use Rattle.certificate.specs.Check.{withResidual}
 use Rattle.plan.specs.Plan.{cost}
 use Rattle.plan.specs.Format.{planInJob}
 
@@ -37,16 +36,24 @@ unfoldable pub follow : {S : Type 0} → ℕ → ℕ → Reading S → (S → �
 follow part from (refused number at) rest = refuses number part (from + at)
 follow part from (accepted read end) rest = rest read (from + end)
 
-unfoldable pub outcome : List ℕ → Outcome
-outcome s =
-    follow 1 0 (registerInJob s) λ one to2.
-    let reg = one .gave in
-    follow 2 to2 (schemeInJob reg (drop to2 s)) λ two to3.
-    let sch = two .gave in
-    follow 3 to3 (certificateInJob (coefficient reg) reg sch (drop to3 s)) λ three to4.
-    follow 4 to4 (planInJob reg (drop to4 s)) λ four end.
+-- the parts of a job s, the last first, each from the position where it starts
+
+-- the plan, where the job ends: bytes after it are refused 12
+abbrev pub fromPlan : List ℕ → Register → Scheme → Certificate → ℕ → Outcome
+fromPlan s reg sch cert from =
+    follow 4 from (planInJob reg (drop from s)) λ four end.
     cond (ltb end (length s)) (refuses 12 4 end)
-    (accepts (record { register = reg; scheme = sch; certificate = three .gave; plan = four .gave }))
+    (accepts (record { register = reg; scheme = sch; certificate = cert; plan = four .gave }))
+
+abbrev pub fromCertificate : List ℕ → Register → Scheme → ℕ → Outcome
+fromCertificate s reg sch from =
+    follow 3 from (certificateInJob (coefficient reg) reg sch (drop from s)) λ three end. fromPlan s reg sch (three .gave) end
+
+abbrev pub fromScheme : List ℕ → Register → ℕ → Outcome
+fromScheme s reg from = follow 2 from (schemeInJob reg (drop from s)) λ two end. fromCertificate s reg (two .gave) end
+
+unfoldable pub outcome : List ℕ → Outcome
+outcome s = follow 1 0 (registerInJob s) λ one end. fromScheme s (one .gave) end
 
 -- the bound, the cost of the plan, and the gap
 
@@ -60,19 +67,21 @@ costOf p = cost (coefficient (p .register)) (p .register) (p .plan)
 abbrev pub gapOf : Parts → ℤ
 gapOf p = costOf p -ℤ boundOf p
 
--- the table after a certificate: R where `3F` is reached without 1–8, also after 9, 12 or a refused plan, and else as it was
-abbrev pub afterCommands : Register → Scheme → Reading (Progress Certificate) → List ℤ → List ℤ
-afterCommands reg sch (refused number at) lent = lent
-afterCommands reg sch (accepted p end) lent = withTable (side (reg .choices) sch) (R (coefficient reg) reg sch (p .gave)) lent
+-- the table after a job: R where `3F` is reached without 1–8, also after 9, 12 or a refused plan, and else as it was
 
-abbrev pub afterScheme : Register → List ℕ → Reading (Progress Scheme) → List ℤ → List ℤ
-afterScheme reg s (refused number at) lent = lent
-afterScheme reg s (accepted p end) lent = afterCommands reg (p .gave) (commandsInJob reg (p .gave) (drop end s)) lent
+abbrev pub tableFromCertificate : List ℕ → Register → Scheme → ℕ → List ℤ → List ℤ
+tableFromCertificate s reg sch from lent = withResidual reg sch (commandsInJob reg sch (drop from s)) lent
 
-abbrev pub afterRegister : List ℕ → Reading (Progress Register) → List ℤ → List ℤ
-afterRegister s (refused number at) lent = lent
-afterRegister s (accepted p end) lent = afterScheme (p .gave) (drop end s) (schemeInJob (p .gave) (drop end s)) lent
+abbrev pub tableAfterScheme : List ℕ → Register → ℕ → Reading (Progress Scheme) → List ℤ → List ℤ
+tableAfterScheme s reg from (refused number at) lent = lent
+tableAfterScheme s reg from (accepted p end) lent = tableFromCertificate s reg (p .gave) (from + end) lent
 
--- the table after a job
+abbrev pub tableFromScheme : List ℕ → Register → ℕ → List ℤ → List ℤ
+tableFromScheme s reg from lent = tableAfterScheme s reg from (schemeInJob reg (drop from s)) lent
+
+abbrev pub tableAfterRegister : List ℕ → Reading (Progress Register) → List ℤ → List ℤ
+tableAfterRegister s (refused number at) lent = lent
+tableAfterRegister s (accepted p end) lent = tableFromScheme s (p .gave) end lent
+
 unfoldable pub tableAfter : List ℕ → List ℤ → List ℤ
-tableAfter s lent = afterRegister s (registerInJob s) lent
+tableAfter s lent = tableAfterRegister s (registerInJob s) lent

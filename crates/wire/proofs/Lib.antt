@@ -5,5 +5,6 @@ pub mod Sign
 pub mod Checks
 pub mod Part
 pub mod Encoding
+pub mod Fronts
 pub mod Leads
 pub mod Prefix

@@ -1,0 +1,58 @@
+-- What a part's reader answers of a part that starts in the middle of a job: where its position lies, and what it says of the
+-- reading.
+use Prim.Native.Nat.{ℕ, _-_, _≤_}
+use mathlib.Core.Path.{_≡_, refl}
+use mathlib.Core.Bool.{Bool, true, false, cond}
+use mathlib.Core.List.{List}
+use native.Mathlib.Omega.{arith}
+use lib.IntN.{ℤ}
+use lib.ListN.{length}
+use Rattle.wire.specs.Part.{Part, Reading, refused, accepted, readPart}
+use Rattle.wire.specs.Rows.{Progress}
+use Rattle.wire.proofs.Part.{NumberedReading, readFrom-end, readFrom-position}
+use Rattle.register.specs.declared.Register.{Register}
+use Rattle.scheme.specs.declared.Scheme.{Scheme}
+use Rattle.certificate.specs.Certificate.{Certificate}
+use Rattle.certificate.specs.Residual.{carries}
+use Rattle.certificate.specs.Format.{certificatePart, commandsInJob, judged, certificateInJob}
+
+-- a reader's number and position, by what reading leads to
+
+abbrev pub numberOf : {S : Type 0} → Reading S → ℕ
+numberOf (refused number at) = number
+numberOf (accepted read end) = 0
+
+abbrev pub positionOf : {S : Type 0} → Reading S → ℕ
+positionOf (refused number at) = at
+positionOf (accepted read end) = end
+
+-- a refusal, or what was read
+pub is-refused : {S : Type 0} (x : Reading S) → (numberOf x ≡ 0 → ⊥) → x ≡ refused (numberOf x) (positionOf x)
+is-refused (refused number at) h = refl
+is-refused (accepted read end) h = absurd (h refl)
+
+pub is-accepted : {S : Type 0} (x : Reading S) → NumberedReading x → numberOf x ≡ 0 → (read : S) × (x ≡ accepted read (positionOf x))
+is-accepted (refused number at) d h = absurd (d h)
+is-accepted (accepted read end) d h = (read, refl)
+
+-- the position is within the bytes, or just past them
+
+pub part-within : {S : Type 0} (P : Part S) (s : List ℕ) → positionOf (readPart P s) ≤ length s
+unfolding readPart
+part-within {S} P s = go (readPart P s) refl
+  where
+    go : (x : Reading S) → readPart P s ≡ x → positionOf x ≤ length s
+    go (refused number at) e = readFrom-position P s (P .start) 0 (omega arith) e .1
+    go (accepted read end) e = readFrom-end P s (P .start) 0 e .1
+
+pub certificate-within : (c : ℕ → ℤ) (reg : Register) (sch : Scheme) (s : List ℕ) → positionOf (certificateInJob c reg sch s) ≤ length s
+unfolding certificateInJob commandsInJob judged
+certificate-within c reg sch s = go (commandsInJob reg sch s) (part-within (certificatePart reg sch) s)
+  where
+    by : (p : Progress Certificate) (end : ℕ) (b : Bool) → end ≤ length s → positionOf {S = Progress Certificate} (cond b (accepted p end) (refused 9 (end - 1))) ≤ length s
+    by p end true l = l
+    by p end false l = omega arith
+
+    go : (x : Reading (Progress Certificate)) → positionOf x ≤ length s → positionOf (judged c reg sch x) ≤ length s
+    go (refused number at) l = l
+    go (accepted p end) l = by p end (carries c reg sch (p .gave)) l
