@@ -2,6 +2,7 @@
 use crate::builds;
 use crate::checks;
 use crate::costs;
+use crate::jobs;
 use crate::penalties;
 use crate::plains;
 use crate::registers;
@@ -18,6 +19,7 @@ pub enum Group {
     Penalty,
     Check,
     Plain,
+    Job,
 }
 
 // How far a file was read, the cases so far, and how many of them differ.
@@ -37,6 +39,7 @@ fn agrees(group: Group, line: &[u8]) -> bool {
         Group::Penalty => penalties::agrees(line),
         Group::Check => checks::agrees(line),
         Group::Plain => plains::agrees(line),
+        Group::Job => jobs::agrees(line),
     }
 }
 

@@ -4,6 +4,7 @@ mod builds;
 mod checks;
 mod costs;
 mod files;
+mod jobs;
 mod penalties;
 mod plains;
 mod registers;
@@ -20,4 +21,5 @@ fn main() {
     files::run(Group::Penalty, b"penalty", b"penalty.txt");
     files::run(Group::Check, b"check", b"check.txt");
     files::run(Group::Plain, b"plain", b"plain.txt");
+    files::run(Group::Job, b"job", b"job.txt");
 }
