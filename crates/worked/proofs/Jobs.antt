@@ -1,7 +1,13 @@
 -- The example, 113 bytes, as a job: it is accepted, with T = 1 refused, and one byte more is refused.
-use mathlib.Core.Path.{_≡_, refl}
+use mathlib.Core.Path.{_≡_, refl, _∙_, ap}
 use mathlib.Core.List.{List, [], _∷_, _++_, map, flatMap}
-use Prim.Native.Nat.{ℕ}
+use Prim.Native.Nat.{ℕ, _≤_}
+use lib.IntN.{ℤ, pos}
+use lib.ListN.{length}
+use borrow.Author.Tests.{le-ltb}
+use Rattle.forms.specs.Table.{tableNumbers}
+use Rattle.certificate.specs.Certificate.{Certificate}
+use Rattle.certificate.proofs.Commands.{command}
 use Rattle.integers.specs.Integer.{abs}
 use Rattle.integers.specs.Lists.{joinBelow, allBelow, comesBefore}
 use Rattle.integers.specs.Sum.{sumBelow, sumOver, except}
@@ -11,7 +17,7 @@ use Rattle.sets.specs.Sets.{isMember, isSubset, isProperSubset}
 use Rattle.forms.specs.Form.{times, entry}
 use Rattle.wire.specs.Number.{natAt, little}
 use Rattle.wire.specs.Checks.{refusal, commandChecks}
-use Rattle.wire.specs.Part.{operandsAt, total, checksAt, afterAt, command, step, run, readFrom, readPart}
+use Rattle.wire.specs.Part.{operandsAt, total, checksAt, afterAt, step, run, readFrom, readPart}
 use Rattle.wire.specs.Part as P
 use Rattle.wire.specs.Rows.{rowOf}
 use Rattle.wire.specs.Text.{digitsTo, digits, decimal, line}
@@ -28,10 +34,13 @@ use Rattle.plan.specs.Format.{planChecks, planInJob}
 use Rattle.certificate.specs.Rules.{byKey, arity, ruleOf}
 use Rattle.certificate.specs.Residual.{nullPart, subtractedPart, nullForms, subtractedForms, reformulated, shifted, R, rowHolds, carries, bound}
 use Rattle.certificate.specs.Format.{scaleChecks, outOfRange, multiplierChecks, squareChecks, commandsInJob, judged, certificateInJob}
-use Rattle.register.proofs.Example.{registerBytes}
-use Rattle.scheme.proofs.Example.{schemeBytes}
-use Rattle.job.specs.Outcome.{follow, outcome}
-use Rattle.job.specs.Listing.{choiceLines, fedLines, boundLine, listing}
+use Rattle.register.proofs.Example.{registerBytes, exampleRegister}
+use Rattle.scheme.proofs.Example.{schemeBytes, exampleScheme}
+use Rattle.job.specs.Outcome.{Parts, refuses, accepts, follow, outcome}
+use Rattle.job.specs.declared.Tally.{Tally}
+use Rattle.job.specs.Tally.{withAccepted}
+use Rattle.job.specs.Answer.{refusedAnswer, afterJob, jobAnswer}
+use Rattle.listing.specs.Listing.{choiceLines, fedLines, acceptedLines, listing}
 
 -- parts 1 and 2
 abbrev pub front : List ℕ
@@ -54,11 +63,39 @@ lines =
     ∷ 0x46 ∷ 0x20 ∷ 0x34 ∷ 0x20 ∷ 0x37 ∷ 0x32 ∷ 0x30 ∷ 0x0A
     ∷ 0x42 ∷ 0x20 ∷ 0x30 ∷ 0x20 ∷ 0x30 ∷ 0x20 ∷ 0x30 ∷ 0x0A ∷ []
 
--- with T = 0 the lines; with T = 1 `R 9 107`; with one more byte `R 12 113`
-pub jobs : map (λ s. listing (outcome s)) ((front ++ back 0) ∷ (front ++ back 1) ∷ (front ++ (back 0 ++ (0 ∷ []))) ∷ [])
+-- the example's certificate
+abbrev exampleCertificate : Certificate
+exampleCertificate = record { scale = 1; target = pos 0; multipliers = command 0x39 0 6 ∷ command 0x39 1 4 ∷ command 0x38 4 5 ∷ []; squares = [] }
+
+abbrev exampleParts : Parts
+exampleParts = record { register = exampleRegister; scheme = exampleScheme; certificate = exampleCertificate; plan = 3 }
+
+-- with T = 0, with T = 1, and with one more byte
+abbrev pub examples : List (List ℕ)
+examples = (front ++ back 0) ∷ (front ++ back 1) ∷ (front ++ (back 0 ++ (0 ∷ []))) ∷ []
+
+outcomes : map outcome examples ≡ accepts exampleParts ∷ refuses 9 3 107 ∷ refuses 12 4 113 ∷ []
+unfolding outcome follow flatMap joinBelow allBelow comesBefore abs sumBelow sumOver except offDiagonal isMember isSubset isProperSubset times entry natAt little refusal commandChecks operandsAt total checksAt afterAt P.command step P.follow run readFrom readPart rowOf Reg.fresh baseChecks choiceChecks termChecks RegFormat.endChecks registerInJob Sch.fresh upTo upward E term g isNew productChecks splitChecks SchFormat.endChecks schemeInJob planChecks planInJob byKey arity ruleOf nullPart subtractedPart nullForms subtractedForms reformulated shifted R rowHolds carries scaleChecks outOfRange multiplierChecks squareChecks commandsInJob judged certificateInJob
+outcomes = refl
+
+map-map : {A B C : Type 0} (f : B → C) (g : A → B) (xs : List A) → map (λ x. f (g x)) xs ≡ map f (map g xs)
+map-map f g [] = refl
+map-map f g (x ∷ xs) = ap (λ l. f (g x) ∷ l) (map-map f g xs)
+
+-- what the call answers
+pub answers : (lent : List ℤ) (tally : Tally) → tableNumbers ≤ length lent → map (λ s. jobAnswer s lent tally) examples
+    ≡ record { number = 0; part = 0; position = 0; bound = pos 0; cost = pos 0; gap = pos 0; tally = withAccepted tally }
+    ∷ refusedAnswer 9 3 107 tally
+    ∷ refusedAnswer 12 4 113 tally
+    ∷ []
+unfolding jobAnswer bound ceilDiv cost sumBelow isSubset
+answers lent tally l = rw (le-ltb (length lent) tableNumbers l) (map-map (λ o. afterJob o tally) outcome examples ∙ ap (map (λ o. afterJob o tally)) outcomes)
+
+-- the lines; `R 9 107`; `R 12 113`
+pub jobs : map (λ s. listing (outcome s)) examples
     ≡ lines
     ∷ (0x52 ∷ 0x20 ∷ 0x39 ∷ 0x20 ∷ 0x31 ∷ 0x30 ∷ 0x37 ∷ 0x0A ∷ [])
     ∷ (0x52 ∷ 0x20 ∷ 0x31 ∷ 0x32 ∷ 0x20 ∷ 0x31 ∷ 0x31 ∷ 0x33 ∷ 0x0A ∷ [])
     ∷ []
-unfolding outcome follow listing choiceLines fedLines boundLine line decimal digits digitsTo flatMap joinBelow allBelow comesBefore abs sumBelow sumOver except offDiagonal ceilDiv isMember isSubset isProperSubset times entry natAt little refusal commandChecks operandsAt total checksAt afterAt command step P.follow run readFrom readPart rowOf Reg.fresh baseChecks choiceChecks termChecks RegFormat.endChecks registerInJob Sch.fresh upTo upward E term g isNew productChecks splitChecks SchFormat.endChecks schemeInJob cost planChecks planInJob byKey arity ruleOf nullPart subtractedPart nullForms subtractedForms reformulated shifted R rowHolds carries bound scaleChecks outOfRange multiplierChecks squareChecks commandsInJob judged certificateInJob
-jobs = refl
+unfolding listing acceptedLines choiceLines fedLines line decimal digits digitsTo flatMap joinBelow isMember isSubset bound ceilDiv cost sumBelow
+jobs = map-map listing outcome examples ∙ ap (map listing) outcomes

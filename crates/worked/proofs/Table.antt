@@ -25,9 +25,13 @@ use Rattle.plain.specs.Plain.{plain}
 use Rattle.plain.specs.Answer.{ownBytes}
 use Rattle.plain.proofs.Worked as Plain
 use Rattle.job.specs.Outcome.{outcome}
-use Rattle.job.specs.Listing.{listing}
+use Rattle.job.specs.declared.Tally.{Tally}
+use Rattle.job.specs.Tally.{withAccepted}
+use Rattle.job.specs.Answer.{jobAnswer}
+use Rattle.job.specs.Answer as Job
+use Rattle.listing.specs.Listing.{listing}
 use Rattle.worked.proofs.Own.{w7-checked}
-use Rattle.worked.proofs.Jobs.{front, back, lines, jobs}
+use Rattle.worked.proofs.Jobs.{front, back, lines, answers, jobs}
 
 pub record Worked : Type 0 where
   -- W1: sets of 3 and 4 are masks 3 and 7
@@ -51,8 +55,14 @@ pub record Worked : Type 0 where
       ≡ record { number = 0; part = 0; position = 0; bound = negsuc 5 } ∷ refusedAnswer 9 3 73 ∷ []
   -- W8: T/s of −7/2, 7/2, −1/3 give −3, 4, 0
   pub w8 : map bound (Certificate.ratio (negsuc 6) 2 ∷ Certificate.ratio (pos 7) 2 ∷ Certificate.ratio (negsuc 0) 3 ∷ []) ≡ negsuc 2 ∷ pos 4 ∷ pos 0 ∷ []
-  -- W9: the example is accepted, and with T = 1 refused: `R 9 107`; one more byte: `R 12 113`
-  pub w9 : map (λ s. listing (outcome s)) ((front ++ back 0) ∷ (front ++ back 1) ∷ (front ++ (back 0 ++ (0 ∷ []))) ∷ [])
+  -- W9: the example is accepted, with bound 0, cost 0, gap 0, and with T = 1 refused 9 at 107; one more byte is refused 12
+  pub w9 : (lent : List ℤ) (tally : Tally) → tableNumbers ≤ length lent → map (λ s. jobAnswer s lent tally) ((front ++ back 0) ∷ (front ++ back 1) ∷ (front ++ (back 0 ++ (0 ∷ []))) ∷ [])
+      ≡ record { number = 0; part = 0; position = 0; bound = pos 0; cost = pos 0; gap = pos 0; tally = withAccepted tally }
+      ∷ Job.refusedAnswer 9 3 107 tally
+      ∷ Job.refusedAnswer 12 4 113 tally
+      ∷ []
+  -- and their lines
+  pub w9-lines : map (λ s. listing (outcome s)) ((front ++ back 0) ∷ (front ++ back 1) ∷ (front ++ (back 0 ++ (0 ∷ []))) ∷ [])
       ≡ lines
       ∷ (0x52 ∷ 0x20 ∷ 0x39 ∷ 0x20 ∷ 0x31 ∷ 0x30 ∷ 0x37 ∷ 0x0A ∷ [])
       ∷ (0x52 ∷ 0x20 ∷ 0x31 ∷ 0x32 ∷ 0x20 ∷ 0x31 ∷ 0x31 ∷ 0x33 ∷ 0x0A ∷ [])
@@ -72,5 +82,6 @@ worked = record {
   w7-bytes = Plain.w7-bytes;
   w7-checked = w7-checked;
   w8 = Certificate.w8;
-  w9 = jobs;
+  w9 = answers;
+  w9-lines = jobs;
 }

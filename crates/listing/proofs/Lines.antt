@@ -1,0 +1,218 @@
+-- Equal `T` and `F` lines stand for the same choices, the same ones fed.
+use Prim.Native.Nat.{ℕ, zero, suc, _+_, _*_, _<_}
+use native.Mathlib.Nat.{mul-one}
+use native.Mathlib.Omega.{arith}
+use mathlib.Core.Path.{_≡_, refl, sym, ap, ap₂, _∙_, subst}
+use mathlib.Core.Logic.{_↔_, ⊎-elim}
+use mathlib.Core.Bool.{Bool, true, false, cond, true≢false}
+use mathlib.Core.List.{List, [], _∷_, _++_}
+use lib.Dec.{ltb}
+use lib.IntN.{ℤ, pos, natAbs}
+use lib.ListN.{length, getD, drop}
+use borrow.Author.Tests.{ltb-true, ltb-false}
+use Rattle.integers.specs.Lists.{All, joinBelow}
+use Rattle.integers.proofs.Lists.{flag, All-join}
+use Rattle.integers.proofs.Join.{join-cong, length-join, getD-join}
+use Rattle.integers.proofs.Entries.{below-or-last}
+use Rattle.sets.specs.Sets.{isMember}
+use Rattle.text.proofs.Unique.{texts, texts-append, texts-join, texts-one, texts-none, texts-determine}
+use Rattle.register.specs.declared.Register.{Register}
+use Rattle.register.specs.Register.{tank, minute}
+use Rattle.register.specs.Valid.{Valid}
+use Rattle.job.specs.Outcome.{Parts, accepts, outcome}
+use Rattle.listing.specs.Listing.{choiceLine, choiceLines, fedLine, fedLines, planLines}
+use Rattle.listing.specs.Same.{SamePlan}
+use Rattle.listing.proofs.Outcome.{accepted-valid}
+
+-- ---- a line as its letter and its fields
+
+abbrev Line : Type 0
+Line = ℕ × List ℤ
+
+abbrev none : Line
+none = (0, [])
+
+head-line : {x y : Line} {xs ys : List Line} → _≡_ {A = List Line} (x ∷ xs) (y ∷ ys) → x ≡ y
+head-line e = ap (λ l. getD l 0 none) e
+
+tail-line : {x y : Line} {xs ys : List Line} → _≡_ {A = List Line} (x ∷ xs) (y ∷ ys) → xs ≡ ys
+tail-line e = ap (λ l. drop 1 l) e
+
+abbrev choice : Register → ℕ → Line
+choice r i = (0x54, pos i ∷ pos (tank r i) ∷ pos (minute r i) ∷ [])
+
+abbrev feed : Register → ℕ → Line
+feed r i = (0x46, pos (tank r i) ∷ pos (minute r i) ∷ [])
+
+abbrev choices : Register → List Line
+choices r = joinBelow (r .choices) (λ i. choice r i ∷ [])
+
+abbrev feeds : Register → ℕ → List Line
+feeds r plan = joinBelow (r .choices) (λ i. cond (isMember i plan) (feed r i ∷ []) [])
+
+choice-lines : (r : Register) → texts (choices r) ≡ choiceLines r
+unfolding choiceLines
+choice-lines r = texts-join (r .choices) (λ i. choice r i ∷ []) ∙ join-cong (r .choices) _ _ (λ i l. texts-one 0x54 (pos i ∷ pos (tank r i) ∷ pos (minute r i) ∷ []))
+
+fed-lines : (r : Register) (plan : ℕ) → texts (feeds r plan) ≡ fedLines r plan
+unfolding fedLines
+fed-lines r plan = texts-join (r .choices) (λ i. cond (isMember i plan) (feed r i ∷ []) []) ∙ join-cong (r .choices) _ _ (λ i l. one (isMember i plan) (tank r i) (minute r i))
+  where
+    one : (b : Bool) (t m : ℕ) → texts (cond b ((0x46, pos t ∷ pos m ∷ []) ∷ []) []) ≡ cond b (fedLine t m) []
+    one true t m = texts-one 0x46 (pos t ∷ pos m ∷ [])
+    one false t m = texts-none
+
+plan-lines : (r : Register) (plan : ℕ) → texts (choices r ++ feeds r plan) ≡ planLines r plan
+plan-lines r plan = texts-append (choices r) (feeds r plan) ∙ ap₂ _++_ (choice-lines r) (fed-lines r plan)
+
+-- ---- `T` and `F` lines are told apart by their letters
+
+abbrev Has : ℕ → Line → Type 0
+Has letter l = l .0 ≡ letter
+
+apart : (a a′ b b′ : List Line) → All (Has 0x54) a → All (Has 0x54) a′ → All (Has 0x46) b → All (Has 0x46) b′ → a ++ b ≡ a′ ++ b′ → (a ≡ a′) × (b ≡ b′)
+apart [] [] b b′ h h′ k k′ e = (refl, e)
+apart [] (y ∷ a′) [] b′ h h′ k k′ e = absurd (omega (arith, ap length e))
+apart [] (y ∷ a′) (x ∷ b) b′ h h′ k k′ e = absurd (omega (arith, ap (λ l. l .0) (head-line e), h′ .0, k .0))
+apart (x ∷ a) [] b [] h h′ k k′ e = absurd (omega (arith, ap length e))
+apart (x ∷ a) [] b (y ∷ b′) h h′ k k′ e = absurd (omega (arith, ap (λ l. l .0) (head-line e), h .0, k′ .0))
+apart (x ∷ a) (y ∷ a′) b b′ h h′ k k′ e =
+    let (f, g) = apart a a′ b b′ (h .1) (h′ .1) k k′ (tail-line e) in
+    (ap₂ _∷_ (head-line e) f, g)
+
+choices-have : (r : Register) → All (Has 0x54) (choices r)
+choices-have r = All-join (Has 0x54) (r .choices) _ (λ i l. (refl, tt))
+
+feeds-have : (r : Register) (plan : ℕ) → All (Has 0x46) (feeds r plan)
+feeds-have r plan = All-join (Has 0x46) (r .choices) _ (λ i l. one (isMember i plan) (feed r i) refl)
+  where
+    one : (b : Bool) (x : Line) → Has 0x46 x → All (Has 0x46) (cond b (x ∷ []) [])
+    one true x h = (h, tt)
+    one false x h = tt
+
+-- ---- the choices of equal `T` lines
+
+module _ (r r′ : Register) (e : choices r ≡ choices r′) where
+  count : r .choices ≡ r′ .choices
+  count =
+      sym (mul-one (r .choices)) ∙ sym (length-join (r .choices) 1 (λ i. choice r i ∷ []) (λ i. refl))
+      ∙ ap length e
+      ∙ length-join (r′ .choices) 1 (λ i. choice r′ i ∷ []) (λ i. refl) ∙ mul-one (r′ .choices)
+
+  each : (i : ℕ) → i < r .choices → choice r i ≡ choice r′ i
+  each i l =
+      sym (getD-join (r .choices) 1 (λ i. choice r i ∷ []) (λ i. refl) i 0 none l (omega arith))
+      ∙ ap (λ x. getD x (i * 1 + 0) none) e
+      ∙ getD-join (r′ .choices) 1 (λ i. choice r′ i ∷ []) (λ i. refl) i 0 none (omega (arith, count)) (omega arith)
+
+-- ---- different choices are at different places of the order by tank, then minute
+
+module _ (r : Register) (v : Valid r) where
+  abbrev place : ℕ → ℕ
+  place i = tank r i * 1440 + minute r i
+
+  next : (i : ℕ) → suc i < r .choices → place i < place (suc i)
+  next i l =
+      ⊎-elim
+      (λ (h : tank r i < tank r (suc i)). omega (arith, v .within .choices i (omega arith) .minute-within))
+      (λ h. omega (arith, h .0, h .1))
+      (v .within .choices-rise i l)
+
+  rises : (j i : ℕ) → i < j → j < r .choices → place i < place j
+  rises zero i l h = absurd (omega arith)
+  rises (suc j) i l h =
+      ⊎-elim
+      (λ (k : i < j). omega (arith, rises j i k (omega arith), next j h))
+      (λ (k : i ≡ j). rw k (next j h))
+      (below-or-last i j l)
+
+  one-choice : (i j : ℕ) → i < r .choices → j < r .choices → tank r i ≡ tank r j → minute r i ≡ minute r j → i ≡ j
+  one-choice i j l h t m =
+      flag (ltb i j)
+      (λ a. absurd (omega (arith, rises j i (ltb-true i j a) h)))
+      (λ a. flag (ltb j i)
+      (λ b. absurd (omega (arith, rises i j (ltb-true j i b) l)))
+      (λ b. omega (arith, ltb-false i j a, ltb-false j i b)))
+
+-- ---- the fed choices of equal `F` lines
+
+-- what holds of all lists one after the other holds of each
+all-at : (P : Line → Type 0) (n : ℕ) (f : ℕ → List Line) → All P (joinBelow n f) → (i : ℕ) → i < n → All P (f i)
+unfolding joinBelow
+all-at P zero f h i l = absurd (omega arith)
+all-at P (suc n) f h i l =
+    ⊎-elim
+    (λ (k : i < n). all-at P n f (both (joinBelow n f) h .0) i k)
+    (λ (k : i ≡ n). subst (λ j. All P (f j)) (sym k) (both (joinBelow n f) h .1))
+    (below-or-last i n l)
+  where
+    both : (a : List Line) → All P (a ++ f n) → All P a × All P (f n)
+    both [] h = (tt, h)
+    both (x ∷ a) h = let (u, w) = both a (h .1) in ((h .0, u), w)
+
+field-is : {a b : Line} (k : ℕ) → a ≡ b → natAbs (getD (a .1) k (pos 0)) ≡ natAbs (getD (b .1) k (pos 0))
+field-is k e = ap (λ (l : Line). natAbs (getD (l .1) k (pos 0))) e
+
+module _ (r r′ : Register) (v : Valid r′) (n : r .choices ≡ r′ .choices)
+    (t : (i : ℕ) → i < r .choices → tank r i ≡ tank r′ i) (m : (i : ℕ) → i < r .choices → minute r i ≡ minute r′ i) (plan plan′ : ℕ) (e : feeds r plan ≡ feeds r′ plan′) where
+  still-fed : (i : ℕ) → i < r .choices → isMember i plan ≡ true → isMember i plan′ ≡ true
+  still-fed i l fed = flag (isMember i plan′) (λ h. h) (λ h. absurd (clash h))
+    where
+      Other : Line → Type 0
+      Other x = x ≡ feed r i → ⊥
+
+      one : isMember i plan′ ≡ false → (j : ℕ) → j < r′ .choices → (b : Bool) → isMember j plan′ ≡ b → All Other (cond b (feed r′ j ∷ []) [])
+      one h j k false q = tt
+      one h j k true q = (
+        (λ d.
+            let i-is : j ≡ i = one-choice r′ v j i k (omega (arith, n)) (field-is 0 d ∙ t i l) (field-is 1 d ∙ m i l) in
+            true≢false (sym q ∙ ap (λ x. isMember x plan′) i-is ∙ h)),
+        tt,
+      )
+
+      clash : isMember i plan′ ≡ false → ⊥
+      clash h =
+          let there : All Other (feeds r plan) = subst (All Other) (sym e) (All-join Other (r′ .choices) _ (λ j k. one h j k (isMember j plan′) refl)) in
+          let here : All Other (cond true (feed r i ∷ []) []) = subst (λ b. All Other (cond b (feed r i ∷ []) [])) fed (all-at Other (r .choices) _ there i l) in
+          here .0 refl
+
+module _ (r r′ : Register) (v : Valid r) (v′ : Valid r′) (plan plan′ : ℕ) where
+  same-plan : planLines r plan ≡ planLines r′ plan′ → SamePlan r plan r′ plan′
+  same-plan e =
+      let lines = texts-determine (choices r ++ feeds r plan) (choices r′ ++ feeds r′ plan′) (plan-lines r plan ∙ e ∙ sym (plan-lines r′ plan′)) in
+      let (c, f) = apart (choices r) (choices r′) (feeds r plan) (feeds r′ plan′) (choices-have r) (choices-have r′) (feeds-have r plan) (feeds-have r′ plan′) lines in
+      let n = count r r′ c in
+      let t : (i : ℕ) → i < r .choices → tank r i ≡ tank r′ i = λ i l. field-is 1 (each r r′ c i l) in
+      let m : (i : ℕ) → i < r .choices → minute r i ≡ minute r′ i = λ i l. field-is 2 (each r r′ c i l) in
+      record {
+        choices = n;
+        tanks = t;
+        minutes = m;
+        fed = λ i l. equal (isMember i plan) (isMember i plan′) (still-fed r r′ v′ n t m plan plan′ f i l)
+            (still-fed r′ r v (sym n) (λ j k. sym (t j (omega (arith, n)))) (λ j k. sym (m j (omega (arith, n)))) plan′ plan (sym f) i (omega (arith, n)));
+      }
+    where
+      equal : (a b : Bool) → (a ≡ true → b ≡ true) → (b ≡ true → a ≡ true) → a ≡ b
+      equal true b f g = sym (f refl)
+      equal false true f g = g refl
+      equal false false f g = refl
+
+  same-lines : SamePlan r plan r′ plan′ → planLines r plan ≡ planLines r′ plan′
+  unfolding choiceLines fedLines
+  same-lines s = ap₂ _++_
+      (join-cong (r .choices) _ _ (λ i l. ap₂ (choiceLine i) (s .tanks i l) (s .minutes i l)) ∙ ap (λ n. joinBelow n (λ i. choiceLine i (tank r′ i) (minute r′ i))) (s .choices))
+      (join-cong (r .choices) _ _ (λ i l. ap₂ (λ b x. cond b x []) (s .fed i l) (ap₂ fedLine (s .tanks i l) (s .minutes i l)))
+      ∙ ap (λ n. joinBelow n (λ i. cond (isMember i plan′) (fedLine (tank r′ i) (minute r′ i)) [])) (s .choices))
+
+-- "Whoever wrote the scheme and the certificate, the same register and plan give the same lines": the `T` and `F` lines of two
+-- accepted jobs are equal just where both jobs have the same choices and feed the same ones.
+pub line-for-line : (s s′ : List ℕ) (p p′ : Parts) → outcome s ≡ accepts p → outcome s′ ≡ accepts p′ →
+    (planLines (p .register) (p .plan) ≡ planLines (p′ .register) (p′ .plan)) ↔ SamePlan (p .register) (p .plan) (p′ .register) (p′ .plan)
+line-for-line s s′ p p′ e e′ =
+    let r = p .register in
+    let r′ = p′ .register in
+    (same-plan r r′ (accepted-valid s p e) (accepted-valid s′ p′ e′) (p .plan) (p′ .plan), same-lines r r′ (accepted-valid s p e) (accepted-valid s′ p′ e′) (p .plan) (p′ .plan))
+
+-- in particular where parts 1 and 4 are the same
+pub same-parts : (p p′ : Parts) → p .register ≡ p′ .register → p .plan ≡ p′ .plan → planLines (p .register) (p .plan) ≡ planLines (p′ .register) (p′ .plan)
+same-parts p p′ e f = ap₂ planLines e f

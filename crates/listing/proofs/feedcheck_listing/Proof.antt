@@ -1,0 +1,57 @@
+-- `listing::feedcheck_listing` meets its contract. By the table's length, and by what reading the job gave.
+use mathlib.Core.Path.{sym, _∙_, ap, subst}
+use borrow.Author.Needs.{needs}
+use Rattle.register.specs.Valid.{Within}
+use Rattle.job.specs.declared.JobRead.{JobRead}
+use Rattle.job.specs.Outcome.{outcome}
+use Rattle.listing.specs.Answer.{linesOf}
+use Rattle.listing.proofs.Outcome.{outcome-sound, read-within, read-lines}
+use Rattle.listing.proofs.Answers.{short-table, long-table}
+use Rattle.listing.proofs.feedcheck_listing.Statement.{statement}
+use Rattle.listing.proofs.feedcheck_listing.Tie as tie
+
+refused-requires : tie.Need-refused-requires
+refused-requires c κs = search needs
+
+returns : tie.Need-returns
+returns c =
+    let t = c .before in
+    let a = t .before .before .before .args in
+    let w = short-table (a .job .now) (a .table .now) (a .buffer .now) (t .if1 .taken) in
+    (c .refused .ensures ∙ w .0, w .1)
+
+read-job-requires : tie.Need-read-job-requires
+read-job-requires c κs = search needs
+
+write-lines-requires : tie.Need-write-lines-requires
+write-lines-requires c κs =
+    let k = c .before .before in
+    let s = k .before .before .before .before .before in
+    subst (λ (r : JobRead). Within (r .register)) (sym (k .read-job .ensures .0)) (read-within (outcome (s .args .job .now)) (outcome-sound (s .args .job .now)))
+
+same-length : tie.Need-same-length
+same-length c = search needs
+
+same-length-2 : tie.Need-same-length-2
+same-length-2 c = search needs
+
+returns-2 : tie.Need-returns-2
+returns-2 c =
+    let w = c .before .before in
+    let k = w .before .before .before in
+    let e = k .before .before in
+    let a = e .before .before .before .args in
+    let job = a .job .now in
+    long-table job (a .table .now) (a .buffer .now) (e .if1 .left) (linesOf (k .read-job .result)) (ap linesOf (k .read-job .ensures .0) ∙ read-lines (outcome job) (outcome-sound job)) _ _ _ (k .read-job .ensures .1) (w .write-lines .ensures)
+
+pub feedcheck-listing-spec : {M : Type 1} → statement M
+feedcheck-listing-spec =
+    tie.close
+    (tie.spec
+    refused-requires
+    returns
+    read-job-requires
+    write-lines-requires
+    same-length
+    same-length-2
+    returns-2)

@@ -1,0 +1,47 @@
+-- What the listing call answers, and the table and the buffer after it.
+use Prim.Native.Nat.{ℕ}
+use mathlib.Core.Bool.{cond}
+use mathlib.Core.List.{List, _++_}
+use lib.Dec.{ltb, eqb}
+use lib.IntN.{ℤ}
+use lib.ListN.{length, drop}
+use Rattle.forms.specs.Table.{tableNumbers}
+use Rattle.job.specs.declared.JobRead.{JobRead}
+use Rattle.job.specs.Outcome.{outcome, tableAfter}
+use Rattle.listing.specs.declared.ListingAnswer.{ListingAnswer}
+use Rattle.listing.specs.Listing.{acceptedLines, refusalLine, listing}
+
+-- its only refusal is 11; part and position 0
+abbrev pub refusedAnswer : ListingAnswer
+refusedAnswer = record { number = 11; part = 0; position = 0; count = 0 }
+
+abbrev pub writtenAnswer : ℕ → ListingAnswer
+writtenAnswer count = record { number = 0; part = 0; position = 0; count = count }
+
+-- bytes to be written into a lent buffer: a buffer below them is refused 11 and unchanged, and else begins with them, its rest
+-- unchanged
+
+unfoldable pub bytesAnswer : List ℕ → List ℕ → ListingAnswer
+bytesAnswer bytes lent = cond (ltb (length lent) (length bytes)) refusedAnswer (writtenAnswer (length bytes))
+
+unfoldable pub bytesBuffer : List ℕ → List ℕ → List ℕ
+bytesBuffer bytes lent = cond (ltb (length lent) (length bytes)) lent (bytes ++ drop (length bytes) lent)
+
+-- of the job's bytes, the lent table and the lent buffer: a table below 4,225 numbers is found before all else, a short buffer
+-- after all else
+
+unfoldable pub listingAnswer : List ℕ → List ℤ → List ℕ → ListingAnswer
+listingAnswer job table buffer = cond (ltb (length table) tableNumbers) refusedAnswer (bytesAnswer (listing (outcome job)) buffer)
+
+unfoldable pub listingTable : List ℕ → List ℤ → List ℤ
+listingTable job table = cond (ltb (length table) tableNumbers) table (tableAfter job table)
+
+unfoldable pub listingBuffer : List ℕ → List ℤ → List ℕ → List ℕ
+listingBuffer job table buffer = cond (ltb (length table) tableNumbers) buffer (bytesBuffer (listing (outcome job)) buffer)
+
+-- the lines of what reading a job gave
+unfoldable pub linesOf : JobRead → List ℕ
+linesOf read =
+    cond (eqb (read .number) 0)
+    (acceptedLines (read .register) (read .plan) (read .bound) (read .cost) (read .gap))
+    (refusalLine (read .number) (read .position))

@@ -1,0 +1,4 @@
+-- The lines of a job, the listing call's answer, table and buffer, and what equal lines stand for.
+pub mod Listing
+pub mod Answer
+pub mod Same

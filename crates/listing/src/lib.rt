@@ -1,0 +1,186 @@
+// The lines of a job, written into a lent buffer.
+use forms::WorkingTable;
+use job::JobRead;
+use job::read_job;
+use register::Register;
+ghost use mathlib.Core.Path.{_≡_};
+ghost use mathlib.Core.Bool.{cond};
+ghost use mathlib.Core.List.{[], _++_};
+ghost use Prim.Native.Nat.{_+_, _≤_};
+ghost use lib.ListN.{length, take, drop};
+ghost use Rattle.register.specs.Limits.{maxChoices};
+ghost use Rattle.register.specs.Valid.{Within};
+ghost use Rattle.text.specs.Fields.{written};
+ghost use Rattle.listing.specs.Listing.{choiceLine, choiceLines, fedLine, fedLines, acceptedLines};
+ghost use Rattle.listing.specs.Answer.{linesOf, refusedAnswer, bytesAnswer, bytesBuffer, listingAnswer, listingTable, listingBuffer};
+
+// The answer of the call: 11, or zeros and how many bytes were written.
+#[repr(C)]
+pub struct ListingAnswer {
+    pub number: u8,
+    pub part: u8,
+    pub position: usize,
+    pub count: usize,
+}
+
+impl ListingAnswer {
+    // No listing has more bytes.
+    const BYTES: usize = 4096;
+
+    fn refused() -> ListingAnswer
+        ensures { λ r. ⌜ r ≡ refusedAnswer ⌝ }
+    {
+        ListingAnswer {
+            number: 11,
+            part: 0,
+            position: 0,
+            count: 0,
+        }
+    }
+}
+
+// Writes the `T` line of a choice. Returns the position after it.
+fn put_choice_line(out: &mut [u8], at: usize, choice: usize, tank: u16, minute: u16) -> usize
+    requires { ⌜ choice ≤ maxChoices ⌝ }
+    requires { ⌜ at + length (choiceLine choice tank minute) ≤ length (now out) ⌝ }
+    ensures { λ r. ⌜ r ≡ at + length (choiceLine choice tank minute) ⌝ }
+    ensures { λ _. ⌜ now (out .exit) ≡ written (now (out .entry)) at (choiceLine choice tank minute) ⌝ }
+{
+    text::put_triple(out, at, 0x54, choice as i64, tank as i64, minute as i64)
+}
+
+// Writes the `T` line of each choice. Returns the position after them.
+fn put_choice_lines(register: Register, out: &mut [u8], start: usize) -> usize
+    requires { ⌜ register .choices ≤ maxChoices ⌝ }
+    requires { ⌜ start + length (choiceLines register) ≤ length (now out) ⌝ }
+    ensures { λ r. ⌜ r ≡ start + length (choiceLines register) ⌝ }
+    ensures { λ _. ⌜ now (out .exit) ≡ written (now (out .entry)) start (choiceLines register) ⌝ }
+{
+    let mut at = start;
+    let mut i = 0;
+    while i < register.choices {
+        at = put_choice_line(out, at, i, register.tanks[i], register.minutes[i]);
+        i += 1;
+    }
+    at
+}
+
+// Writes the `F` line of a choice that is fed, and else nothing. Returns the position after it.
+fn put_fed_line(out: &mut [u8], at: usize, fed: bool, tank: u16, minute: u16) -> usize
+    requires { ⌜ at + length (cond fed (fedLine tank minute) []) ≤ length (now out) ⌝ }
+    ensures { λ r. ⌜ r ≡ at + length (cond fed (fedLine tank minute) []) ⌝ }
+    ensures { λ _. ⌜ now (out .exit) ≡ written (now (out .entry)) at (cond fed (fedLine tank minute) []) ⌝ }
+{
+    if fed {
+        return text::put_pair(out, at, 0x46, tank as u64, minute as u64);
+    }
+    at
+}
+
+// Writes the `F` line of each fed choice. Returns the position after them.
+fn put_fed_lines(register: Register, plan: u32, out: &mut [u8], start: usize) -> usize
+    requires { ⌜ register .choices ≤ maxChoices ⌝ }
+    requires { ⌜ start + length (fedLines register plan) ≤ length (now out) ⌝ }
+    ensures { λ r. ⌜ r ≡ start + length (fedLines register plan) ⌝ }
+    ensures { λ _. ⌜ now (out .exit) ≡ written (now (out .entry)) start (fedLines register plan) ⌝ }
+{
+    let mut at = start;
+    let mut i = 0;
+    while i < register.choices {
+        let fed = (plan >> i) % 2 == 1;
+        at = put_fed_line(out, at, fed, register.tanks[i], register.minutes[i]);
+        i += 1;
+    }
+    at
+}
+
+// Writes the lines of an accepted job at the front. Returns their count of bytes.
+fn put_accepted(
+    register: Register,
+    plan: u32,
+    bound: i64,
+    cost: i64,
+    gap: i64,
+    out: &mut [u8],
+) -> usize
+    requires { ⌜ register .choices ≤ maxChoices ⌝ }
+    requires { ⌜ length (acceptedLines register plan bound cost gap) ≤ length (now out) ⌝ }
+    ensures { λ r. ⌜ r ≡ length (acceptedLines register plan bound cost gap) ⌝ }
+    ensures { λ _. ⌜ now (out .exit) ≡ written (now (out .entry)) 0 (acceptedLines register plan bound cost gap) ⌝ }
+{
+    let middle = put_choice_lines(register, out, 0);
+    let end = put_fed_lines(register, plan, out, middle);
+    text::put_triple(out, end, 0x42, bound, cost, gap)
+}
+
+// Copies the first bytes of one run to the front of another.
+fn copy_front(from: &[u8], count: usize, out: &mut [u8])
+    requires { ⌜ count ≤ length (now from) ⌝ }
+    requires { ⌜ count ≤ length (now out) ⌝ }
+    ensures { λ _. ⌜ now (out .exit) ≡ take count (now (from .entry)) ++ drop count (now (out .entry)) ⌝ }
+{
+    let mut i = 0;
+    while i < count {
+        out[i] = from[i];
+        i += 1;
+    }
+}
+
+// Writes the lines of what reading a job gave at the front. Returns their count of bytes.
+fn put_lines(read: JobRead, out: &mut [u8]) -> usize
+    requires { ⌜ read .register .choices ≤ maxChoices ⌝ }
+    requires { ⌜ length (linesOf read) ≤ length (now out) ⌝ }
+    ensures { λ r. ⌜ r ≡ length (linesOf read) ⌝ }
+    ensures { λ _. ⌜ now (out .exit) ≡ written (now (out .entry)) 0 (linesOf read) ⌝ }
+{
+    let number = read.number;
+    if number != 0 {
+        return text::put_pair(out, 0, 0x52, number as u64, read.position as u64);
+    }
+    put_accepted(
+        read.register,
+        read.plan,
+        read.bound,
+        read.cost,
+        read.gap,
+        out,
+    )
+}
+
+// Writes the lines into the lent buffer, if it is long enough. They are put together in an array of our own first.
+fn write_lines(read: JobRead, buffer: &mut [u8]) -> ListingAnswer
+    requires { ⌜ Within (read .register) ⌝ }
+    ensures { λ r. ⌜ r ≡ bytesAnswer (linesOf read) (now (buffer .entry)) ⌝ }
+    ensures { λ _. ⌜ now (buffer .exit) ≡ bytesBuffer (linesOf read) (now (buffer .entry)) ⌝ }
+{
+    let mut lines = [0u8; ListingAnswer::BYTES];
+    let count = put_lines(read, &mut lines);
+    if buffer.len() < count {
+        return ListingAnswer::refused();
+    }
+    copy_front(&lines, count, buffer);
+    ListingAnswer {
+        number: 0,
+        part: 0,
+        position: 0,
+        count: count,
+    }
+}
+
+// The listing of a job. The table is as after the job itself.
+#[no_mangle]
+pub extern "C" fn feedcheck_listing(
+    job: &[u8],
+    table: &mut [i64],
+    buffer: &mut [u8],
+) -> ListingAnswer
+    ensures { λ r. ⌜ r ≡ listingAnswer (now (job .entry)) (now (table .entry)) (now (buffer .entry)) ⌝ }
+    ensures { λ _. ⌜ now (table .exit) ≡ listingTable (now (job .entry)) (now (table .entry)) ⌝ }
+    ensures { λ _. ⌜ now (buffer .exit) ≡ listingBuffer (now (job .entry)) (now (table .entry)) (now (buffer .entry)) ⌝ }
+{
+    if table.len() < WorkingTable::NUMBERS {
+        return ListingAnswer::refused();
+    }
+    let read = read_job(job, table);
+    write_lines(read, buffer)
+}
