@@ -13,7 +13,7 @@ use Rattle.text.specs.Fields.{written}
 use Rattle.text.proofs.Written.{written-front}
 use Rattle.listing.specs.declared.ListingAnswer.{ListingAnswer}
 use Rattle.listing.specs.Listing.{listing}
-use Rattle.listing.specs.Answer.{refusedAnswer, writtenAnswer, bytesAnswer, bytesBuffer, listingAnswer, listingTable, listingBuffer}
+use Rattle.listing.specs.Answer.{listingRoom, refusedAnswer, writtenAnswer, bytesAnswer, bytesBuffer, listingAnswer, listingTable, listingBuffer}
 
 -- ---- bytes and a lent buffer
 
@@ -49,3 +49,12 @@ module _ (job : List ℕ) (table : List ℤ) (buffer : List ℕ) where
   long-table l bytes e a table′ buffer′ d w =
       let t = le-ltb (length table) tableNumbers l in
       (w .0 ∙ rw (t, e), (d ∙ rw t, w .1 ∙ rw (t, e)))
+
+  -- a buffer that has room for every listing
+  pub enough : tableNumbers ≤ length table → listingRoom ≤ length buffer → length (listing (outcome job)) ≤ listingRoom →
+      (listingAnswer job table buffer ≡ writtenAnswer (length (listing (outcome job)))) × (listingBuffer job table buffer ≡ listing (outcome job) ++ drop (length (listing (outcome job))) buffer)
+  unfolding listingAnswer listingBuffer bytesAnswer bytesBuffer
+  enough l m k =
+      let t = le-ltb (length table) tableNumbers l in
+      let r = le-ltb (length buffer) (length (listing (outcome job))) (omega arith) in
+      (rw (t, r), rw (t, r))

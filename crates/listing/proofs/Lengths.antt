@@ -23,7 +23,7 @@ use Rattle.text.proofs.Digits.{digits-short}
 use Rattle.text.proofs.Lines.{length-integer, length-two, length-three}
 use Rattle.job.specs.declared.JobRead.{JobRead}
 use Rattle.listing.specs.Listing.{choiceLines, fedLine, fedLines, boundLine, acceptedLines}
-use Rattle.listing.specs.Answer.{linesOf}
+use Rattle.listing.specs.Answer.{listingRoom, linesOf}
 
 module _ (r : Register) (plan : ℕ) (bound cost gap : ℤ) where
   pub accepted-is : acceptedLines r plan bound cost gap ≡ (choiceLines r ++ fedLines r plan) ++ boundLine bound cost gap
@@ -76,7 +76,7 @@ module _ (r : Register) (w : Within r) where
       one false t m h k = omega arith
 
 pub lines-short : (read : JobRead) → Within (read .register) → read .number < 2 ^ 8 → read .position < 2 ^ 64 →
-    SFits w64 (read .bound) → SFits w64 (read .cost) → SFits w64 (read .gap) → length (linesOf read) ≤ 4096
+    SFits w64 (read .bound) → SFits w64 (read .cost) → SFits w64 (read .gap) → length (linesOf read) ≤ listingRoom
 unfolding linesOf
 lines-short read w n p b c g =
     let r = read .register in

@@ -11,6 +11,10 @@ use Rattle.job.specs.Outcome.{outcome, tableAfter}
 use Rattle.listing.specs.declared.ListingAnswer.{ListingAnswer}
 use Rattle.listing.specs.Listing.{acceptedLines, refusalLine, listing}
 
+-- a buffer of so many bytes is enough for every listing: 32 lines `T`, 32 lines `F` and a line `B` of numbers of 64 bits
+abbrev pub listingRoom : ℕ
+listingRoom = 4_096
+
 -- its only refusal is 11; part and position 0
 abbrev pub refusedAnswer : ListingAnswer
 refusedAnswer = record { number = 11; part = 0; position = 0; count = 0 }

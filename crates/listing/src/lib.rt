@@ -8,11 +8,13 @@ ghost use mathlib.Core.Bool.{cond};
 ghost use mathlib.Core.List.{[], _++_};
 ghost use Prim.Native.Nat.{_+_, _≤_};
 ghost use lib.ListN.{length, take, drop};
+ghost use Rattle.forms.specs.Table.{tableNumbers};
+ghost use Rattle.job.specs.Outcome.{outcome};
 ghost use Rattle.register.specs.Limits.{maxChoices};
 ghost use Rattle.register.specs.Valid.{Within};
 ghost use Rattle.text.specs.Fields.{written};
-ghost use Rattle.listing.specs.Listing.{choiceLine, choiceLines, fedLine, fedLines, acceptedLines};
-ghost use Rattle.listing.specs.Answer.{linesOf, refusedAnswer, bytesAnswer, bytesBuffer, listingAnswer, listingTable, listingBuffer};
+ghost use Rattle.listing.specs.Listing.{choiceLine, choiceLines, fedLine, fedLines, acceptedLines, listing};
+ghost use Rattle.listing.specs.Answer.{listingRoom, linesOf, refusedAnswer, bytesAnswer, bytesBuffer, listingAnswer, listingTable, listingBuffer};
 
 // The answer of the call: 11, or zeros and how many bytes were written.
 #[repr(C)]
@@ -25,7 +27,7 @@ pub struct ListingAnswer {
 
 impl ListingAnswer {
     // No listing has more bytes.
-    const BYTES: usize = 4096;
+    pub const BYTES: usize = 4096;
 
     fn refused() -> ListingAnswer
         ensures { λ r. ⌜ r ≡ refusedAnswer ⌝ }
@@ -152,6 +154,7 @@ fn write_lines(read: JobRead, buffer: &mut [u8]) -> ListingAnswer
     requires { ⌜ Within (read .register) ⌝ }
     ensures { λ r. ⌜ r ≡ bytesAnswer (linesOf read) (now (buffer .entry)) ⌝ }
     ensures { λ _. ⌜ now (buffer .exit) ≡ bytesBuffer (linesOf read) (now (buffer .entry)) ⌝ }
+    ensures { λ _. ⌜ length (linesOf read) ≤ listingRoom ⌝ }
 {
     let mut lines = [0u8; ListingAnswer::BYTES];
     let count = put_lines(read, &mut lines);
@@ -177,6 +180,7 @@ pub extern "C" fn feedcheck_listing(
     ensures { λ r. ⌜ r ≡ listingAnswer (now (job .entry)) (now (table .entry)) (now (buffer .entry)) ⌝ }
     ensures { λ _. ⌜ now (table .exit) ≡ listingTable (now (job .entry)) (now (table .entry)) ⌝ }
     ensures { λ _. ⌜ now (buffer .exit) ≡ listingBuffer (now (job .entry)) (now (table .entry)) (now (buffer .entry)) ⌝ }
+    ensures { λ _. ⌜ (tableNumbers ≤ length (now (table .entry)) → length (listing (outcome (now (job .entry)))) ≤ listingRoom) ⌝ }
 {
     if table.len() < WorkingTable::NUMBERS {
         return ListingAnswer::refused();

@@ -4,14 +4,14 @@ use mathlib.Core.Path.{_∙_}
 use lib.ListN.{length, replicate}
 use Prim.Native.Nat.{_≤_}
 use borrow.Author.Needs.{needs}
-use Rattle.listing.specs.Answer.{linesOf}
+use Rattle.listing.specs.Answer.{listingRoom, linesOf}
 use Rattle.listing.proofs.Lengths.{lines-short}
 use Rattle.listing.proofs.Answers.{no-room, copied}
 use Rattle.listing.proofs.write_lines.Statement.{statement}
 use Rattle.listing.proofs.write_lines.Tie as tie
 
 -- the array has room
-room : (c : tie.Start) → length (linesOf (c .args .read)) ≤ 4096
+room : (c : tie.Start) → length (linesOf (c .args .read)) ≤ listingRoom
 room c =
     let fit = c .good .0 .1 .1 in
     let signed = fit .1 .1 .1 .1 .1 in
@@ -32,7 +32,7 @@ returns c =
     let p = t .before .before in
     let s = p .before .before .before in
     let w = no-room (linesOf (s .args .read)) (s .args .buffer .now) (p .put-lines .result) (p .put-lines .ensures .0) (t .if1 .taken) in
-    (c .refused .ensures ∙ w .0, w .1)
+    (c .refused .ensures ∙ w .0, (w .1, room s))
 
 slice-aggregate-copy-front : tie.Need-slice-aggregate-copy-front
 slice-aggregate-copy-front c = search needs
@@ -53,7 +53,8 @@ returns-2 c =
     let e = k .before .before .before in
     let p = e .before .before in
     let s = p .before .before .before in
-    copied (linesOf (s .args .read)) (s .args .buffer .now) (replicate 4096 0) (p .put-lines .result) _ _ (p .put-lines .ensures .0) (p .put-lines .ensures .1) (room s) (e .if1 .left) (k .copy-front .ensures)
+    let w = copied (linesOf (s .args .read)) (s .args .buffer .now) (replicate listingRoom 0) (p .put-lines .result) _ _ (p .put-lines .ensures .0) (p .put-lines .ensures .1) (room s) (e .if1 .left) (k .copy-front .ensures) in
+    (w .0, (w .1, room s))
 
 pub write-lines-spec : {M : Type 1} → statement M
 write-lines-spec =

@@ -1,0 +1,54 @@
+-- `console::lines_of` meets its contract. The text has room for every listing.
+use Prim.Native.Nat.{ℕ, _≤_}
+use native.Mathlib.Omega.{arith}
+use mathlib.Core.Path.{_≡_, sym, _∙_, ap}
+use mathlib.Core.List.{List, _++_}
+use lib.IntN.{ℤ, pos}
+use lib.ListN.{length, take, drop, replicate, length-append, length-replicate}
+use lib.Seq.{take-at}
+use borrow.Author.Needs.{needs}
+use Rattle.io.specs.Counts.{Counts}
+use Rattle.forms.specs.Table.{tableNumbers}
+use Rattle.job.specs.Outcome.{outcome}
+use Rattle.listing.specs.declared.ListingAnswer.{ListingAnswer}
+use Rattle.listing.specs.Listing.{listing}
+use Rattle.listing.specs.Answer.{listingRoom, listingAnswer, listingBuffer}
+use Rattle.listing.proofs.Answers.{enough}
+use Rattle.console.proofs.lines_of.Statement.{statement}
+use Rattle.console.proofs.lines_of.Tie as tie
+
+-- so many bytes at the front
+counts : (n : ℕ) (a rest out : List ℕ) → n ≡ length a → out ≡ a ++ rest → Counts n out
+counts n a rest out e d = rw d (omega (arith, e, length-append a rest), e ∙ ap length (sym (take-at a rest n (sym e))))
+
+-- the listing call's answer and buffer, where the table is long enough and the text has room
+answered : (job : List ℕ) (table : List ℤ) (text : List ℕ) (a : ListingAnswer) (out : List ℕ) → tableNumbers ≤ length table → listingRoom ≤ length text →
+    a ≡ listingAnswer job table text → out ≡ listingBuffer job table text → (tableNumbers ≤ length table → length (listing (outcome job)) ≤ listingRoom) →
+    (a .count ≡ length (listing (outcome job))) × ((out ≡ listing (outcome job) ++ drop (a .count) text) × Counts (a .count) out)
+answered job table text a out l m e d short =
+    let w = enough job table text l m (short l) in
+    let n : a .count ≡ length (listing (outcome job)) = ap (λ a. a .count) (e ∙ w .0) in
+    let o : out ≡ listing (outcome job) ++ drop (a .count) text = d ∙ w .1 ∙ ap (λ k. listing (outcome job) ++ drop k text) (sym n) in
+    (n, (o, counts (a .count) (listing (outcome job)) (drop (a .count) text) out n o))
+
+slice-aggregate-feedcheck-listing : tie.Need-slice-aggregate-feedcheck-listing
+slice-aggregate-feedcheck-listing c = search needs
+
+feedcheck-listing-requires : tie.Need-feedcheck-listing-requires
+feedcheck-listing-requires c κs = search needs
+
+same-length : tie.Need-same-length
+same-length c = search needs
+
+returns : tie.Need-returns
+returns c =
+    let k = c .before .before .before in
+    let s = k .before .before .before .before .before in
+    let e = k .feedcheck-listing .ensures in
+    answered (s .args .job .now) (replicate tableNumbers (pos 0)) (s .args .text .now) (k .feedcheck-listing .result) _
+    (omega (arith, length-replicate tableNumbers (pos 0))) (s .pre) (e .0) (e .1 .1 .0) (e .1 .1 .1)
+
+pub lines-of-spec : {M : Type 1} → statement M
+lines-of-spec =
+    tie.close
+    (tie.spec slice-aggregate-feedcheck-listing feedcheck-listing-requires same-length returns)
