@@ -3,6 +3,9 @@ use crate::builds;
 use crate::checks;
 use crate::costs;
 use crate::jobs;
+use crate::jobs_in_files;
+use crate::listings;
+use crate::outputs;
 use crate::penalties;
 use crate::plains;
 use crate::registers;
@@ -10,7 +13,7 @@ use crate::schemes;
 use libc::STDOUT_FILENO;
 use std::num::wrapping_add_u64;
 
-// The calls, each with a vector file of its own.
+// The calls, each with a vector file of its own, and what the program prints.
 pub enum Group {
     Register,
     Scheme,
@@ -20,6 +23,9 @@ pub enum Group {
     Check,
     Plain,
     Job,
+    Listing,
+    Output,
+    JobInFile,
 }
 
 // How far a file was read, the cases so far, and how many of them differ.
@@ -40,6 +46,9 @@ fn agrees(group: Group, line: &[u8]) -> bool {
         Group::Check => checks::agrees(line),
         Group::Plain => plains::agrees(line),
         Group::Job => jobs::agrees(line),
+        Group::Listing => listings::agrees(line),
+        Group::Output => outputs::agrees(line),
+        Group::JobInFile => jobs_in_files::agrees(line),
     }
 }
 

@@ -5,6 +5,9 @@ mod checks;
 mod costs;
 mod files;
 mod jobs;
+mod jobs_in_files;
+mod listings;
+mod outputs;
 mod penalties;
 mod plains;
 mod registers;
@@ -22,4 +25,8 @@ fn main() {
     files::run(Group::Check, b"check", b"check.txt");
     files::run(Group::Plain, b"plain", b"plain.txt");
     files::run(Group::Job, b"job", b"job.txt");
+    files::run(Group::Listing, b"listing", b"listing.txt");
+    files::run(Group::Output, b"feedcheck", b"feedcheck.txt");
+    files::run(Group::JobInFile, b"examples", b"examples.txt");
+    files::run(Group::JobInFile, b"suppliers", b"suppliers.txt");
 }
