@@ -1,0 +1,67 @@
+// The example of the scope through include/feedcheck.h, every call that is linked. Prints a line and exits 1 where an answer is
+// another than the scope's.
+#include <stdio.h>
+#include <string.h>
+
+#include "feedcheck.h"
+
+static const uint8_t JOB[113] = {
+    0x10, 0x0A, 0, 0, 0, 0x11, 4, 0, 0xE0, 1, 0x11, 4, 0, 0xD0, 2, 0x11, 7, 0, 0xE0, 1,
+    0x12, 1, 0, 0, 0, 0xFA, 0xFF, 0xFF, 0xFF, 0x12, 2, 0, 0, 0, 0xFC, 0xFF, 0xFF, 0xFF, 0x12, 7, 0, 0, 0, 5, 0, 0, 0, 0x1F,
+    0x21, 0, 1, 0x21, 2, 3, 0x22, 0, 0, 0x22, 1, 1, 0x22, 4, 4, 0x2F,
+    0x30, 1, 0, 0, 0, 0, 0, 0, 0, 0, 0, 0, 0, 0x39, 0, 6, 0, 0, 0, 0, 0, 0, 0, 0x39, 1, 4, 0, 0, 0, 0, 0, 0, 0,
+    0x38, 4, 5, 0, 0, 0, 0, 0, 0, 0, 0x3F, 0x40, 3, 0, 0, 0};
+
+enum { REGISTER = 48, SCHEME = 16, CERTIFICATE = 44, PLAN = 5 };
+
+static int failed;
+
+static void expect(const char *what, int holds) {
+    if (!holds) {
+        printf("header: %s is not as expected\n", what);
+        failed = 1;
+    }
+}
+
+int main(void) {
+    static int64_t table[FEEDCHECK_TABLE];
+    uint8_t buffer[FEEDCHECK_PLAIN];
+    const uint8_t *scheme = JOB + REGISTER, *certificate = scheme + SCHEME, *plan = certificate + CERTIFICATE;
+
+    FeedcheckRegisterAnswer a = feedcheck_register(JOB, REGISTER);
+    expect("register", a.number == 0 && a.reg.base == 10 && a.reg.choices == 3 && a.reg.terms == 3 && a.reg.tanks[2] == 7 &&
+                           a.reg.minutes[1] == 720 && a.reg.masks[2] == 7 && a.reg.coefficients[0] == -6);
+    FeedcheckSchemeAnswer b = feedcheck_scheme(JOB, REGISTER, scheme, SCHEME);
+    expect("scheme", b.number == 0 && b.scheme.products == 2 && b.scheme.splits == 3 && b.scheme.rights[1] == 3 &&
+                         b.scheme.split_lefts[2] == 4);
+    FeedcheckWritten w = feedcheck_build(JOB, REGISTER, buffer, sizeof buffer);
+    expect("build", w.number == 0 && w.count == 13 && buffer[12] == 0x2F);
+    w = feedcheck_build(JOB, REGISTER, buffer, 12);
+    expect("build, short buffer", w.number == 11 && w.part == 0 && w.position == 0 && w.count == 0);
+    FeedcheckCostAnswer c = feedcheck_cost(JOB, REGISTER, plan, PLAN);
+    expect("cost", c.number == 0 && c.cost == 0);
+    FeedcheckPenaltyAnswer p = feedcheck_penalty(JOB, REGISTER, scheme, SCHEME, table, FEEDCHECK_TABLE);
+    expect("penalty", p.number == 0 && table[0] == 20 && table[5] == 20);
+    FeedcheckCheckAnswer k = feedcheck_check(JOB, REGISTER, scheme, SCHEME, certificate, CERTIFICATE, table, FEEDCHECK_TABLE);
+    expect("check", k.number == 0 && k.bound == 0 && table[0] == 0);
+    k = feedcheck_check(JOB, REGISTER, scheme, SCHEME, certificate, CERTIFICATE - 1, table, FEEDCHECK_TABLE);
+    expect("check, cut", k.number == 2 && k.part == 3 && k.position == 43);
+#ifdef FEEDCHECK_HAS_PLAIN
+    w = feedcheck_plain(JOB, REGISTER, scheme, SCHEME, buffer, sizeof buffer);
+    expect("plain", w.number == 0 && w.count == CERTIFICATE && memcmp(buffer, certificate, CERTIFICATE) == 0);
+#endif
+#ifdef FEEDCHECK_HAS_JOB
+    FeedcheckTally tally = {4294967295u, 7};
+    FeedcheckJobAnswer j = feedcheck_job(JOB, sizeof JOB, table, FEEDCHECK_TABLE, tally);
+    expect("job", j.number == 0 && j.bound == 0 && j.cost == 0 && j.gap == 0 && j.tally.accepted == 4294967295u &&
+                      j.tally.refused == 7);
+#endif
+#ifdef FEEDCHECK_HAS_LISTING
+    static const char LINES[] = "T 0 4 480\nT 1 4 720\nT 2 7 480\nF 4 480\nF 4 720\nB 0 0 0\n";
+    w = feedcheck_listing(JOB, sizeof JOB, table, FEEDCHECK_TABLE, buffer, sizeof buffer);
+    expect("listing", w.number == 0 && w.count == strlen(LINES) && memcmp(buffer, LINES, w.count) == 0);
+#endif
+    if (!failed)
+        printf("header: the example is answered as the scope says\n");
+    return failed;
+}

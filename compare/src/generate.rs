@@ -1,0 +1,586 @@
+//! Generated inputs: parts that are right, then most of them damaged.
+
+use crate::random::Random;
+use reference::certificate::{self, Certificate, Multiplier, Square};
+use reference::register::{Choice, Register, Term, MAX_CHOICES, MAX_TERMS};
+use reference::scheme::{Scheme, MAX_PRODUCTS};
+use reference::{builder, plain};
+
+/// The bytes of the four parts, each by itself, and those of a job.
+#[derive(Clone, Default)]
+pub struct Input {
+    pub parts: [Vec<u8>; 4],
+    pub job: Vec<u8>,
+}
+
+/// The commands of the four parts before they are damaged, with the counts of choices and variables.
+#[derive(Clone)]
+pub struct Whole {
+    pub choices: usize,
+    pub variables: usize,
+    pub parts: [Vec<Vec<u8>>; 4],
+}
+
+/// How large an input is.
+#[derive(Clone, Copy, PartialEq, Eq)]
+pub enum Size {
+    Small,
+    Middle,
+    Full,
+}
+
+pub fn input(random: &mut Random, seeds: &[Whole]) -> Input {
+    let whole = if !seeds.is_empty() && random.chance(3) {
+        seeds[random.below(seeds.len())].clone()
+    } else {
+        let size = random.pick(&[
+            Size::Small,
+            Size::Small,
+            Size::Small,
+            Size::Small,
+            Size::Small,
+            Size::Middle,
+            Size::Middle,
+            Size::Full,
+        ]);
+        whole(random, size)
+    };
+    damaged(random, whole)
+}
+
+/// Four parts that are right, but that R may fall short.
+pub fn whole(random: &mut Random, size: Size) -> Whole {
+    let (register, scheme) =
+        if size != Size::Full && random.chance(40) { built(random, size) } else { products_first(random, size) };
+    let certificate = any_certificate(random, size, &register, &scheme);
+    let plan = random.next() as u32 & register.all();
+    Whole {
+        choices: register.choices.len(),
+        variables: scheme.variables(),
+        parts: [
+            register_commands(&register),
+            scheme_commands(&scheme),
+            certificate_commands(random, &certificate),
+            vec![plan_command(plan)],
+        ],
+    }
+}
+
+/// The commands of a job whose first three parts can be read, to be damaged; `None` for any other.
+pub fn seed(job: &[u8]) -> Option<Whole> {
+    let (register, at) = reference::register::read(job).ok()?;
+    let rest = &job[at..];
+    let (scheme, at) = reference::scheme::read(&register, rest).ok()?;
+    let rest = &rest[at..];
+    let (certificate, at) = certificate::read(&scheme, rest).ok()?;
+    let plan = rest[at..].to_vec();
+    let certificate = in_order(&certificate);
+    Some(Whole {
+        choices: register.choices.len(),
+        variables: scheme.variables(),
+        parts: [register_commands(&register), scheme_commands(&scheme), certificate, vec![plan]],
+    })
+}
+
+// Registers and schemes.
+
+fn choice_count(random: &mut Random, size: Size) -> usize {
+    match size {
+        Size::Small => 1 + random.below(6),
+        Size::Middle => 1 + random.below(MAX_CHOICES),
+        Size::Full => MAX_CHOICES,
+    }
+}
+
+fn choices(random: &mut Random, count: usize) -> Vec<Choice> {
+    let mut all: Vec<(u16, u16)> = Vec::new();
+    let one_tank = random.chance(20);
+    while all.len() < count {
+        let (any_tank, any_minute) = (1 + random.below(9_999) as u16, random.below(1_440) as u16);
+        let tank = if one_tank { 1 } else { random.pick(&[1, 2, 3, 9_998, 9_999, any_tank]) };
+        let minute = random.pick(&[0, 1, 1_438, 1_439, any_minute, any_minute]);
+        if !all.contains(&(tank, minute)) {
+            all.push((tank, minute));
+        }
+    }
+    all.sort();
+    all.into_iter().map(|(tank, minute)| Choice { tank, minute }).collect()
+}
+
+fn coefficient(random: &mut Random) -> i32 {
+    let (small, any) = (random.within(1, 9) as i32, random.within(1, 1_000_000) as i32);
+    random.pick(&[1, -1, 1_000_000, -1_000_000, small, -small, any, -any])
+}
+
+fn base(random: &mut Random) -> i32 {
+    let any = random.within(-1_000_000, 1_000_000) as i32;
+    random.pick(&[0, 10, -10, 1_000_000_000, -1_000_000_000, any])
+}
+
+/// A register of masks, each once, in any order.
+fn register_of(random: &mut Random, choice_count: usize, mut masks: Vec<u32>) -> Register {
+    masks.sort();
+    masks.dedup();
+    masks.truncate(MAX_TERMS);
+    let term = |mask, random: &mut Random| Term { mask, coefficient: coefficient(random), position: 0 };
+    Register {
+        base: base(random),
+        choices: choices(random, choice_count),
+        terms: masks.into_iter().map(|mask| term(mask, random)).collect(),
+    }
+}
+
+/// A register, and the scheme that the builder makes of it, or of so many of its terms that the builder can.
+fn built(random: &mut Random, size: Size) -> (Register, Scheme) {
+    let n = choice_count(random, size);
+    let all = ((1u64 << n) - 1) as u32;
+    let count = random.below(if size == Size::Small { 8 } else { 60 });
+    let sparse = random.chance(50);
+    let mut masks: Vec<u32> = (0..count)
+        .map(|_| random.next() as u32 & if sparse { random.next() as u32 & random.next() as u32 } else { u32::MAX } & all)
+        .filter(|&mask| mask != 0)
+        .collect();
+    loop {
+        let register = register_of(random, n, masks.clone());
+        match builder::build(&register) {
+            Ok(scheme) => return (register, scheme),
+            // Now and then a register that the builder refuses is kept, with a scheme of no splits.
+            Err(_) if random.chance(15) => return (register, Scheme::of_choices(n)),
+            Err(_) => {
+                masks.pop();
+            }
+        }
+    }
+}
+
+/// Products whose sets are new, then terms whose masks are unions of two variables' sets.
+pub fn products_first(random: &mut Random, size: Size) -> (Register, Scheme) {
+    let n = choice_count(random, size);
+    let mut scheme = Scheme::of_choices(n);
+    let wanted = match size {
+        Size::Small => random.below(5),
+        Size::Middle => random.below(MAX_PRODUCTS + 1),
+        Size::Full => MAX_PRODUCTS,
+    };
+    for _ in 0..20 * wanted {
+        if scheme.products.len() == wanted || scheme.variables() < 2 {
+            break;
+        }
+        let r = 1 + random.below(scheme.variables() - 1);
+        let l = random.below(r);
+        if !scheme.sets.contains(&scheme.union(l, r)) {
+            scheme.add_product(l, r);
+        }
+    }
+    let wanted = match size {
+        Size::Small => random.below(8),
+        Size::Middle => random.below(100),
+        Size::Full => MAX_TERMS,
+    };
+    let mut splits: Vec<(u32, usize, usize)> = Vec::new();
+    for _ in 0..4 * wanted {
+        if splits.len() == wanted {
+            break;
+        }
+        let r = random.below(scheme.variables());
+        let l = if random.chance(30) { r } else { random.below(r + 1) };
+        let mask = scheme.union(l, r);
+        if splits.iter().all(|split| split.0 != mask) {
+            splits.push((mask, l, r));
+        }
+    }
+    splits.sort();
+    let register = register_of(random, n, splits.iter().map(|split| split.0).collect());
+    scheme.splits = splits.into_iter().map(|(_, l, r)| (l, r)).collect();
+    (register, scheme)
+}
+
+// Certificates.
+
+fn any_certificate(random: &mut Random, size: Size, register: &Register, scheme: &Scheme) -> Certificate {
+    if scheme.splits.len() < register.terms.len() {
+        return Certificate { scale: 1, target: 0, multipliers: Vec::new(), squares: Vec::new(), end: 0 };
+    }
+    match random.below(10) {
+        0 => plain::certificate(register, scheme),
+        1 => {
+            let mut certificate = plain::certificate(register, scheme);
+            certificate.target += random.within(-2, 2);
+            certificate
+        }
+        2 => extreme(random, size, scheme),
+        3 => random_certificate(random, size, scheme, false),
+        _ => {
+            let mut certificate = random_certificate(random, size, scheme, true);
+            repair(register, scheme, &mut certificate);
+            match random.below(4) {
+                0 => certificate.target += random.within(1, 3),
+                1 => certificate.target = (certificate.target - random.within(0, 1_000_000_000)).max(-certificate::MAX_TARGET),
+                _ => {}
+            }
+            certificate
+        }
+    }
+}
+
+/// Multipliers and squares of all kinds, with some room left for `repair`.
+pub fn random_certificate(random: &mut Random, size: Size, scheme: &Scheme, room: bool) -> Certificate {
+    let n = scheme.variables();
+    let most = certificate::MAX_MULTIPLIERS - if room { n } else { 0 };
+    let (multipliers, squares) = match size {
+        Size::Small => (random.below(8), random.below(4)),
+        Size::Middle => (random.below(100), random.below(12)),
+        Size::Full => (most, certificate::MAX_SQUARES),
+    };
+    let reach = random.pick(&[1, 10, 1_000, 1_000_000, 1_000_000_000]);
+    let any = 1 + random.below(1_000_000) as u32;
+    let scale = random.pick(&[1, 1, 2, 3, 7, 1_000_000, any]);
+    Certificate {
+        scale,
+        target: random.within(-1_000, 1_000),
+        multipliers: (0..multipliers).map(|_| multiplier(random, scheme, reach)).collect(),
+        squares: (0..squares).map(|_| square(random, n, reach)).collect(),
+        end: 0,
+    }
+}
+
+/// A multiplier of any kind, that is right.
+fn multiplier(random: &mut Random, scheme: &Scheme, reach: i64) -> Multiplier {
+    let n = scheme.variables();
+    let sets = &scheme.sets;
+    let mut kind = random.within(0x31, 0x39) as u8;
+    let mut names = [random.below(n), 0, 0, 0];
+    match kind {
+        0x32 => match (0..20)
+            .map(|_| (random.below(n), random.below(n)))
+            .find(|&(i, j)| sets[j] & !sets[i] == 0 && sets[j] != sets[i])
+        {
+            Some((i, j)) => names = [i, j, 0, 0],
+            None => kind = 0x31,
+        },
+        0x33 if scheme.products.is_empty() => kind = 0x31,
+        0x33 => {
+            let i = scheme.choices + random.below(scheme.products.len());
+            let (mut j, mut k) = scheme.operands(i);
+            if random.chance(30) {
+                (j, k) = (j, i);
+            }
+            for _ in 0..10 {
+                let (a, b) = (random.below(n), random.below(n));
+                if a < b && scheme.union(a, b) == sets[i] {
+                    (j, k) = (a, b);
+                }
+            }
+            names = [i, j, k, 0];
+        }
+        0x34 if n < 2 => kind = 0x31,
+        0x34 => {
+            let j = 1 + random.below(n - 1);
+            let i = random.below(j);
+            let (mut k, mut l) = (i, j);
+            for _ in 0..30 {
+                let (a, b) = (random.below(n), random.below(n));
+                if a < b && scheme.union(a, b) == scheme.union(i, j) {
+                    (k, l) = (a, b);
+                }
+            }
+            names = [i, j, k, l];
+        }
+        0x35..=0x37 if scheme.products.is_empty() => kind = 0x38,
+        0x35..=0x37 => names[0] = scheme.choices + random.below(scheme.products.len()),
+        _ => {}
+    }
+    let m = if kind <= 0x34 { random.within(-reach, reach) } else { random.within(0, reach) };
+    Multiplier { kind, names, m }
+}
+
+fn square(random: &mut Random, variables: usize, reach: i64) -> Square {
+    let mut entries = [0; certificate::ENTRIES];
+    let most = reach.min(10_000);
+    let sparse = random.chance(50);
+    for entry in &mut entries[..variables + 1] {
+        if !sparse || random.chance(10) {
+            *entry = random.within(-most, most) as i16;
+        }
+    }
+    Square { weight: random.within(1, reach.min(1_000_000)) as u32, entries }
+}
+
+/// Adds `31` commands that make each row but row 0 dominant, then takes the largest target that row 0 carries.
+pub fn repair(register: &Register, scheme: &Scheme, certificate: &mut Certificate) {
+    let missing = |table: &reference::table::Table, i: usize| -> i64 {
+        (0..table.side).filter(|&j| j != i).map(|j| table.at(i, j).abs()).sum::<i64>() - table.at(i, i)
+    };
+    let table = certificate::residual(register, scheme, certificate);
+    for i in 0..scheme.variables() {
+        let m = missing(&table, i + 1);
+        if m > 0 {
+            // The diagonal rises by twice m, and the sum of the others by m at most.
+            certificate.multipliers.push(Multiplier { kind: 0x31, names: [i, 0, 0, 0], m: m.min(certificate::MAX_MULTIPLIER) });
+        }
+    }
+    let table = certificate::residual(register, scheme, certificate);
+    let lower = missing(&table, 0);
+    let target = certificate.target - (lower.div_euclid(2) + lower.rem_euclid(2));
+    certificate.target = target.clamp(-certificate::MAX_TARGET, certificate::MAX_TARGET);
+}
+
+/// Every number at its limit.
+fn extreme(random: &mut Random, size: Size, scheme: &Scheme) -> Certificate {
+    let mut certificate = random_certificate(random, size, scheme, false);
+    let one_kind = random.chance(50).then(|| certificate.multipliers.first().cloned()).flatten();
+    for multiplier in &mut certificate.multipliers {
+        if let Some(first) = &one_kind {
+            *multiplier = first.clone();
+        }
+        let signed = multiplier.kind <= 0x34 && one_kind.is_none() && random.chance(50);
+        multiplier.m = if signed { -certificate::MAX_MULTIPLIER } else { certificate::MAX_MULTIPLIER };
+    }
+    let alike = random.chance(50);
+    for square in &mut certificate.squares {
+        square.weight = certificate::MAX_WEIGHT;
+        for entry in &mut square.entries[..scheme.variables() + 1] {
+            *entry = if alike || random.chance(50) { 10_000 } else { -10_000 };
+        }
+    }
+    certificate.scale = certificate::MAX_SCALE;
+    certificate.target = random.pick(&[certificate::MAX_TARGET, -certificate::MAX_TARGET]);
+    certificate
+}
+
+// Commands.
+
+fn command(byte: u8, operands: &[&[u8]]) -> Vec<u8> {
+    let mut bytes = vec![byte];
+    for operand in operands {
+        bytes.extend_from_slice(operand);
+    }
+    bytes
+}
+
+pub fn register_commands(register: &Register) -> Vec<Vec<u8>> {
+    let mut commands = vec![command(0x10, &[&register.base.to_le_bytes()])];
+    for choice in &register.choices {
+        commands.push(command(0x11, &[&choice.tank.to_le_bytes(), &choice.minute.to_le_bytes()]));
+    }
+    for term in &register.terms {
+        commands.push(command(0x12, &[&term.mask.to_le_bytes(), &term.coefficient.to_le_bytes()]));
+    }
+    commands.push(vec![0x1F]);
+    commands
+}
+
+pub fn scheme_commands(scheme: &Scheme) -> Vec<Vec<u8>> {
+    let mut commands: Vec<Vec<u8>> = Vec::new();
+    commands.extend(scheme.products.iter().map(|&(l, r)| vec![0x21, l as u8, r as u8]));
+    commands.extend(scheme.splits.iter().map(|&(l, r)| vec![0x22, l as u8, r as u8]));
+    commands.push(vec![0x2F]);
+    commands
+}
+
+fn in_order(certificate: &Certificate) -> Vec<Vec<u8>> {
+    let mut commands = vec![command(0x30, &[&certificate.scale.to_le_bytes(), &certificate.target.to_le_bytes()])];
+    for multiplier in &certificate.multipliers {
+        let names: Vec<u8> = multiplier.names[..certificate::names_of(multiplier.kind)].iter().map(|&v| v as u8).collect();
+        commands.push(command(multiplier.kind, &[&names, &multiplier.m.to_le_bytes()]));
+    }
+    for square in &certificate.squares {
+        let entries: Vec<u8> = square.entries.iter().flat_map(|entry| entry.to_le_bytes()).collect();
+        commands.push(command(0x3A, &[&square.weight.to_le_bytes(), &entries]));
+    }
+    commands.push(vec![0x3F]);
+    commands
+}
+
+/// The commands of a certificate, those between the first and the last in any order.
+pub fn certificate_commands(random: &mut Random, certificate: &Certificate) -> Vec<Vec<u8>> {
+    let mut commands = in_order(certificate);
+    let last = commands.len() - 1;
+    if random.chance(70) {
+        random.shuffle(&mut commands[1..last]);
+    }
+    commands
+}
+
+fn plan_command(plan: u32) -> Vec<u8> {
+    command(0x40, &[&plan.to_le_bytes()])
+}
+
+/// The widths of a command's operands.
+fn widths(byte: u8) -> Vec<usize> {
+    match byte {
+        0x10 | 0x40 => vec![4],
+        0x11 => vec![2, 2],
+        0x12 => vec![4, 4],
+        0x21 | 0x22 => vec![1, 1],
+        0x30 => vec![4, 8],
+        0x31 | 0x35..=0x39 => vec![1, 8],
+        0x32 => vec![1, 1, 8],
+        0x33 => vec![1, 1, 1, 8],
+        0x34 => vec![1, 1, 1, 1, 8],
+        0x3A => [vec![4], vec![2; 65]].concat(),
+        _ => vec![],
+    }
+}
+
+const COMMANDS: [u8; 21] = [
+    0x10, 0x11, 0x12, 0x1F, 0x21, 0x22, 0x2F, 0x30, 0x31, 0x32, 0x33, 0x34, 0x35, 0x36, 0x37, 0x38, 0x39, 0x3A, 0x3F, 0x40, 0x00,
+];
+
+// Damage.
+
+fn damaged(random: &mut Random, mut whole: Whole) -> Input {
+    if random.chance(65) {
+        let part = random.pick(&[0, 0, 1, 1, 2, 2, 2, 3]);
+        for _ in 0..1 + random.below(3) {
+            damage_commands(random, &mut whole, part);
+        }
+    }
+    let mut input = Input::default();
+    for (bytes, commands) in input.parts.iter_mut().zip(&whole.parts) {
+        *bytes = commands.concat();
+    }
+    input.job = input.parts.concat();
+    if random.chance(20) {
+        let part = random.below(4);
+        damage_bytes(random, &mut input.parts[part]);
+        input.job = input.parts.concat();
+    }
+    if random.chance(15) {
+        damage_bytes(random, &mut input.job);
+    }
+    input
+}
+
+/// Changes the commands of a part in one way.
+fn damage_commands(random: &mut Random, whole: &mut Whole, part: usize) {
+    let (n, all) = (whole.choices, whole.variables);
+    let commands = &mut whole.parts[part];
+    if commands.is_empty() {
+        return;
+    }
+    let at = random.below(commands.len());
+    match random.below(14) {
+        // One operand, or two of the same command, set to a number at or past a limit.
+        0..=4 => {
+            notable_operand(random, &mut commands[at], n, all);
+            if random.chance(30) {
+                notable_operand(random, &mut commands[at], n, all);
+            }
+        }
+        5 => {
+            let again = commands[at].clone();
+            commands.insert(at, again);
+        }
+        6 => {
+            commands.remove(at);
+        }
+        7 => {
+            let other = random.below(commands.len());
+            commands.swap(at, other);
+        }
+        8 => {
+            let byte = random.pick(&COMMANDS);
+            let mut new = vec![byte];
+            for width in widths(byte) {
+                new.extend((0..width).map(|_| if random.chance(60) { random.below(all + 1) as u8 } else { 0 }));
+            }
+            commands.insert(at, new);
+        }
+        // The first two operand bytes exchanged, or the second pair of `34`.
+        9 if commands[at].len() > 4 && commands[at][0] == 0x34 && random.chance(50) => commands[at].swap(3, 4),
+        9 if commands[at].len() > 3 && commands[at][0] == 0x33 => commands[at].swap(2, 3),
+        9 if commands[at].len() > 2 => commands[at].swap(1, 2),
+        // A name changed to another variable's, or to the command's first; of a square, an entry about the last that is free.
+        10 if commands[at].len() > 2 => {
+            let names = widths(commands[at][0]).into_iter().take_while(|&width| width == 1).count();
+            let name = 1 + random.below(names.max(1));
+            if names > 0 && name < commands[at].len() {
+                commands[at][name] = if random.chance(30) { commands[at][1] } else { random.below(all) as u8 };
+            }
+            let entry = 5 + 2 * (all + random.below(3));
+            if commands[at][0] == 0x3A && entry < commands[at].len() {
+                commands[at][entry] = random.next() as u8;
+            }
+        }
+        // Copies of a command before the last, to come to a limit or past it.
+        11 => {
+            let again = commands[at].clone();
+            let copies = random.pick(&[1, 2, 33, 64, 65, 300]);
+            let end = commands.len() - 1;
+            let at = if random.chance(50) { at } else { end };
+            for _ in 0..copies {
+                commands.insert(at, again.clone());
+            }
+        }
+        // One more command of a kind, after the last of it: past the limit where the part is full.
+        12 | 13 => {
+            let mut kinds: Vec<u8> = commands.iter().map(|command| command[0]).collect();
+            kinds.sort();
+            kinds.dedup();
+            let kind = random.pick(&kinds);
+            let last = commands.iter().rposition(|command| command[0] == kind).unwrap();
+            let mut more = commands[last].clone();
+            match more[0] {
+                0x11 => more[3..5].copy_from_slice(&1_439u16.to_le_bytes()),
+                0x12 => more[1..5].copy_from_slice(&(((1u64 << n) - 1) as u32).to_le_bytes()),
+                0x21 => more[1..3].copy_from_slice(&[random.below(all) as u8, all as u8 - 1]),
+                _ => {}
+            }
+            if random.chance(60) {
+                notable_operand(random, &mut more, n, all);
+            }
+            commands.insert(last + 1, more);
+        }
+        _ => commands[at].push(random.next() as u8),
+    }
+}
+
+fn notable_operand(random: &mut Random, command: &mut [u8], n: usize, all: usize) {
+    let widths = widths(command[0]);
+    if widths.is_empty() {
+        return;
+    }
+    let which = random.below(widths.len());
+    let at: usize = 1 + widths[..which].iter().sum::<usize>();
+    let near = random.within(-1, 1);
+    let value = match widths[which] {
+        1 => random.pick(&[0, n as i64 - 1, n as i64, all as i64 - 1, all as i64, 63, 64, 255]),
+        2 => random.pick(&[0, 1, 9_999, 1_439, 10_000, -10_000, 32_767, -32_768]) + near,
+        4 => random.pick(&[0, 1, 1 << (n - 1), 1 << n, 1_000_000, -1_000_000, 1_000_000_000, -1_000_000_000, 1 << 31]) + near,
+        _ => {
+            let limit = random.pick(&[0, 1_000_000_000_000, 4_000_000_000_000_000, i64::MAX - 1]);
+            if random.chance(50) {
+                limit + near
+            } else {
+                near - limit
+            }
+        }
+    };
+    if let Some(operand) = command.get_mut(at..at + widths[which]) {
+        operand.copy_from_slice(&value.to_le_bytes()[..widths[which]]);
+    }
+}
+
+/// Changes a run of bytes in one way.
+fn damage_bytes(random: &mut Random, bytes: &mut Vec<u8>) {
+    let at = random.below(bytes.len() + 1);
+    match random.below(10) {
+        0 | 1 => bytes.truncate(at),
+        2 => bytes.truncate(bytes.len().saturating_sub(1 + random.below(12))),
+        3 | 4 if at < bytes.len() => bytes[at] ^= 1 << random.below(8),
+        5 if at < bytes.len() => bytes[at] = random.next() as u8,
+        6 => bytes.insert(at, if random.chance(50) { random.pick(&COMMANDS) } else { random.next() as u8 }),
+        7 if at < bytes.len() => {
+            bytes.remove(at);
+        }
+        8 => {
+            let count = random.below(20);
+            *bytes = (0..count).map(|_| if random.chance(50) { random.pick(&COMMANDS) } else { random.next() as u8 }).collect();
+        }
+        _ => {
+            let count = random.pick(&[1, 1, 2, 20, 30_000]);
+            bytes.extend((0..count).map(|_| if random.chance(50) { random.pick(&COMMANDS) } else { random.next() as u8 }));
+        }
+    }
+}

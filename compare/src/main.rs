@@ -1,0 +1,340 @@
+//! Compares the proved library with the reference on generated inputs: every field of every answer, every number of a lent table
+//! and every byte of a lent buffer, and what lies on either side of them.
+//!
+//!     compare [COUNT [SEED [FOLDER]]]
+//!
+//! FOLDER has jobs, `*.job`, of which a part of the inputs is made. Exit status 1: a difference, or a refusal number that the
+//! scope gives a call and that no input led to.
+
+use compare::generate::{input, seed, Input, Whole};
+use compare::random::Random;
+use feedcheck::raw;
+use reference::{Answer, Refusal};
+use std::collections::BTreeMap;
+
+const CALLS: [(&str, &[u8]); 9] = [
+    ("register", &[1, 2, 3, 4, 5, 7, 12]),
+    ("scheme", &[1, 2, 3, 4, 5, 6, 7, 8, 12]),
+    ("build", &[1, 2, 3, 4, 5, 7, 10, 11, 12]),
+    ("cost", &[1, 2, 3, 4, 5, 7, 12]),
+    ("penalty", &[1, 2, 3, 4, 5, 6, 7, 8, 11, 12]),
+    ("check", &[1, 2, 3, 4, 5, 6, 7, 8, 9, 11, 12]),
+    ("plain", &[1, 2, 3, 4, 5, 6, 7, 8, 11, 12]),
+    ("job", &[1, 2, 3, 4, 5, 6, 7, 8, 9, 11, 12]),
+    ("listing", &[11]),
+];
+
+/// Numbers or bytes on either side of what is lent.
+const BESIDE: usize = 16;
+
+struct Comparison {
+    random: Random,
+    inputs: u64,
+    differences: u64,
+    /// Per call, how often each number was answered.
+    numbers: BTreeMap<&'static str, [u64; 13]>,
+    /// For each part and command byte, how often the check or the cost refused it with each number.
+    commands: BTreeMap<(u8, Option<u8>), [u64; 13]>,
+    /// What lent tables and buffers hold at first.
+    fill: Vec<i64>,
+}
+
+/// A table or a buffer that is lent twice, once to each implementation, with something beside it.
+struct Lent<T> {
+    library: Vec<T>,
+    reference: Vec<T>,
+}
+
+impl<T: Copy + PartialEq> Lent<T> {
+    fn new(all: Vec<T>) -> Self {
+        Lent { library: all.clone(), reference: all }
+    }
+
+    fn both(&mut self) -> (&mut [T], &mut [T]) {
+        let end = self.library.len() - BESIDE;
+        (&mut self.library[BESIDE..end], &mut self.reference[BESIDE..end])
+    }
+
+    fn same(&self) -> bool {
+        self.library == self.reference
+    }
+}
+
+impl Comparison {
+    fn table(&mut self) -> Lent<i64> {
+        let length =
+            self.random.pick(&[4_225, 4_225, 4_225, 4_225, 4_225, 4_225, 4_225, 4_225, 4_225, 4_225, 4_226, 5_000, 4_224, 0]);
+        let length = if self.random.chance(1) { self.random.below(4_225) } else { length };
+        if self.random.chance(2) {
+            let last = self.fill.len();
+            let at = self.random.below(last);
+            self.fill[at] = self.random.next() as i64;
+        }
+        Lent::new(self.fill[..length + 2 * BESIDE].to_vec())
+    }
+
+    /// A buffer for `count` bytes: just long enough, longer, or too short.
+    fn buffer(&mut self, count: usize) -> Lent<u8> {
+        let length = match self.random.below(10) {
+            0..=2 => count,
+            3 | 4 => count + 1 + self.random.below(40),
+            5 | 6 => 2_000,
+            7 => count.saturating_sub(1),
+            8 => self.random.below(count + 1),
+            _ => 0,
+        };
+        Lent::new(self.fill[..length + 2 * BESIDE].iter().map(|&number| number as u8).collect())
+    }
+
+    /// Counts an answer, and tells a difference.
+    fn judge(&mut self, call: &'static str, number: u8, same: bool, input: &Input, answers: impl FnOnce() -> String) {
+        self.numbers.entry(call).or_default()[number as usize] += 1;
+        if same {
+            return;
+        }
+        self.differences += 1;
+        if self.differences <= 10 {
+            println!("difference in {call}, input {}: {}", self.inputs, answers());
+            for part in &input.parts {
+                println!("  part {}", hexadecimal(part));
+            }
+            println!("  job  {}", hexadecimal(&input.job));
+        }
+    }
+
+    fn count_command(&mut self, refusal: Refusal, bytes: &[u8]) {
+        let byte = bytes.get(refusal.position).copied().filter(|_| refusal.number != 12);
+        self.commands.entry((refusal.part, byte)).or_default()[refusal.number as usize] += 1;
+    }
+
+    fn compare(&mut self, input: &Input) {
+        self.inputs += 1;
+        let [part1, part2, part3, part4] = &input.parts;
+
+        let library = raw::register(part1);
+        let answer = register_answer(reference::register(part1));
+        self.judge("register", answer.number, library == answer, input, || format!("{library:?} {answer:?}"));
+
+        let library = raw::scheme(part1, part2);
+        let answer = scheme_answer(reference::scheme(part1, part2));
+        self.judge("scheme", answer.number, library == answer, input, || format!("{library:?} {answer:?}"));
+
+        let count = reference::build(part1, &mut [0; 2_000]).unwrap_or(865);
+        let mut buffer = self.buffer(count);
+        let (ours, theirs) = buffer.both();
+        let library = raw::build(part1, ours);
+        let answer = written(reference::build(part1, theirs));
+        let same = library == answer && buffer.same();
+        self.judge("build", answer.number, same, input, || format!("{library:?} {answer:?} buffers {}", buffer.same()));
+
+        let library = raw::cost(part1, part4);
+        let cost = reference::cost(part1, part4);
+        let (refusal, value) = split(cost, 0);
+        let answer = raw::CostAnswer { number: refusal.number, part: refusal.part, position: refusal.position, cost: value };
+        self.judge("cost", answer.number, library == answer, input, || format!("{library:?} {answer:?}"));
+        if refusal.part == 4 {
+            self.count_command(refusal, part4);
+        }
+
+        let mut table = self.table();
+        let (ours, theirs) = table.both();
+        let library = raw::penalty(part1, part2, ours);
+        let (refusal, ()) = split(reference::penalty(part1, part2, theirs), ());
+        let answer = raw::PenaltyAnswer { number: refusal.number, part: refusal.part, position: refusal.position };
+        let same = library == answer && table.same();
+        self.judge("penalty", answer.number, same, input, || format!("{library:?} {answer:?} tables {}", table.same()));
+
+        let mut table = self.table();
+        let (ours, theirs) = table.both();
+        let library = raw::check(part1, part2, part3, ours);
+        let (refusal, value) = split(reference::check(part1, part2, part3, theirs), 0);
+        let answer = raw::CheckAnswer { number: refusal.number, part: refusal.part, position: refusal.position, bound: value };
+        let same = library == answer && table.same();
+        self.judge("check", answer.number, same, input, || format!("{library:?} {answer:?} tables {}", table.same()));
+        if refusal.part != 0 {
+            self.count_command(refusal, &input.parts[refusal.part as usize - 1]);
+        }
+
+        #[cfg(feature = "plain")]
+        self.compare_plain(input);
+        #[cfg(feature = "job")]
+        self.compare_job(input);
+        #[cfg(feature = "listing")]
+        self.compare_listing(input);
+    }
+
+    #[cfg(feature = "plain")]
+    fn compare_plain(&mut self, input: &Input) {
+        let [part1, part2, ..] = &input.parts;
+        let count = reference::plain(part1, part2, &mut [0; 2_000]).unwrap_or(1_294);
+        let mut buffer = self.buffer(count);
+        let (ours, theirs) = buffer.both();
+        let library = raw::plain(part1, part2, ours);
+        let answer = written(reference::plain(part1, part2, theirs));
+        let same = library == answer && buffer.same();
+        self.judge("plain", answer.number, same, input, || format!("{library:?} {answer:?} buffers {}", buffer.same()));
+    }
+
+    #[cfg(feature = "job")]
+    fn compare_job(&mut self, input: &Input) {
+        let few = self.random.below(1_000) as u32;
+        let (accepted, refused) =
+            (self.random.pick(&[0, few, u32::MAX - 1, u32::MAX]), self.random.pick(&[0, few, u32::MAX - 1, u32::MAX]));
+        let mut table = self.table();
+        let (ours, theirs) = table.both();
+        let library = raw::job(&input.job, ours, raw::Tally { accepted, refused });
+        let (answer, tally) = reference::job(&input.job, theirs, reference::Tally { accepted, refused });
+        let (refusal, outcome) = split(answer, reference::Outcome::default());
+        let answer = raw::JobAnswer {
+            number: refusal.number,
+            part: refusal.part,
+            position: refusal.position,
+            bound: outcome.bound,
+            cost: outcome.cost,
+            gap: outcome.gap,
+            tally: raw::Tally { accepted: tally.accepted, refused: tally.refused },
+        };
+        let same = library == answer && table.same();
+        self.judge("job", answer.number, same, input, || format!("{library:?} {answer:?} tables {}", table.same()));
+    }
+
+    #[cfg(feature = "listing")]
+    fn compare_listing(&mut self, input: &Input) {
+        let count = reference::listing(&input.job, &mut [0; 4_225], &mut [0; 4_096]).unwrap_or(100);
+        let mut buffer = self.buffer(count);
+        let mut table = self.table();
+        let (our_bytes, their_bytes) = buffer.both();
+        let (ours, theirs) = table.both();
+        let library = raw::listing(&input.job, ours, our_bytes);
+        let answer = written(reference::listing(&input.job, theirs, their_bytes));
+        let same = library == answer && table.same() && buffer.same();
+        self.judge("listing", answer.number, same, input, || {
+            format!("{library:?} {answer:?} tables {} buffers {}", table.same(), buffer.same())
+        });
+    }
+
+    /// Prints the counts; how many of the scope's refusal numbers no input led to.
+    fn report(&self) -> usize {
+        let mut missing = 0;
+        println!("{} inputs, each to every call below; how often each number was answered (0: accepted)", self.inputs);
+        print!("{:10}", "");
+        (0..13).for_each(|number| print!("{number:>8}"));
+        println!();
+        for (call, expected) in CALLS {
+            let Some(numbers) = self.numbers.get(call) else {
+                println!("{call:10} not linked");
+                continue;
+            };
+            print!("{call:10}");
+            numbers.iter().for_each(|count| print!("{count:>8}"));
+            println!();
+            for &number in expected.iter().filter(|&&number| numbers[number as usize] == 0) {
+                println!("{call}: refusal {number} did not occur");
+                missing += 1;
+            }
+        }
+        println!("commands refused by the check, and those of part 4 by the cost (--: no byte there, or bytes after the end)");
+        for ((part, byte), numbers) in &self.commands {
+            let byte = byte.map_or("--".to_string(), |byte| format!("{byte:02X}"));
+            let known = *part as usize <= 4 && numbers[2..12].iter().any(|&count| count > 0) || byte == "--";
+            if known {
+                print!("part {part} {byte:2} ");
+                numbers.iter().for_each(|count| print!("{count:>8}"));
+                println!();
+            }
+        }
+        missing
+    }
+}
+
+fn hexadecimal(bytes: &[u8]) -> String {
+    bytes.iter().map(|byte| format!("{byte:02X}")).collect()
+}
+
+/// Number, part and position, zeros when the answer accepts, and its value, `zero` when it refuses.
+fn split<T>(answer: Answer<T>, zero: T) -> (Refusal, T) {
+    match answer {
+        Ok(value) => (Refusal::default(), value),
+        Err(refusal) => (refusal, zero),
+    }
+}
+
+fn written(answer: Answer<usize>) -> raw::Written {
+    let (refusal, count) = split(answer, 0);
+    raw::Written { number: refusal.number, part: refusal.part, position: refusal.position, count }
+}
+
+fn register_answer(answer: Answer<reference::register::Register>) -> raw::RegisterAnswer {
+    let mut record = raw::Register {
+        base: 0,
+        choices: 0,
+        terms: 0,
+        tanks: [0; 32],
+        minutes: [0; 32],
+        masks: [0; 256],
+        coefficients: [0; 256],
+    };
+    let refusal = answer.as_ref().err().copied().unwrap_or_default();
+    if let Ok(register) = answer {
+        record.base = register.base;
+        record.choices = register.choices.len();
+        record.terms = register.terms.len();
+        for (i, choice) in register.choices.iter().enumerate() {
+            record.tanks[i] = choice.tank;
+            record.minutes[i] = choice.minute;
+        }
+        for (t, term) in register.terms.iter().enumerate() {
+            record.masks[t] = term.mask;
+            record.coefficients[t] = term.coefficient;
+        }
+    }
+    raw::RegisterAnswer { number: refusal.number, part: refusal.part, position: refusal.position, register: record }
+}
+
+fn scheme_answer(answer: Answer<reference::scheme::Scheme>) -> raw::SchemeAnswer {
+    let mut record =
+        raw::Scheme { products: 0, splits: 0, lefts: [0; 32], rights: [0; 32], split_lefts: [0; 256], split_rights: [0; 256] };
+    let refusal = answer.as_ref().err().copied().unwrap_or_default();
+    if let Ok(scheme) = answer {
+        record.products = scheme.products.len();
+        record.splits = scheme.splits.len();
+        for (k, &(l, r)) in scheme.products.iter().enumerate() {
+            record.lefts[k] = l as u8;
+            record.rights[k] = r as u8;
+        }
+        for (t, &(l, r)) in scheme.splits.iter().enumerate() {
+            record.split_lefts[t] = l as u8;
+            record.split_rights[t] = r as u8;
+        }
+    }
+    raw::SchemeAnswer { number: refusal.number, part: refusal.part, position: refusal.position, scheme: record }
+}
+
+fn seeds(folder: Option<String>) -> Vec<Whole> {
+    let Some(entries) = folder.and_then(|folder| std::fs::read_dir(folder).ok()) else {
+        return Vec::new();
+    };
+    let mut paths: Vec<_> = entries.filter_map(|entry| Some(entry.ok()?.path())).collect();
+    paths.retain(|path| path.extension().is_some_and(|extension| extension == "job"));
+    paths.sort();
+    paths.iter().filter_map(|path| seed(&std::fs::read(path).ok()?)).collect()
+}
+
+fn main() {
+    let mut words = std::env::args().skip(1);
+    let mut number = |default| words.next().map_or(default, |word| word.parse().expect("a number"));
+    let (count, start) = (number(120_000), number(1));
+    let seeds = seeds(words.next());
+    println!("{} jobs as seeds", seeds.len());
+    let mut random = Random(start);
+    let fill = (0..5_000 + 2 * BESIDE).map(|_| random.next() as i64).collect();
+    let mut comparison =
+        Comparison { random, inputs: 0, differences: 0, numbers: BTreeMap::new(), commands: BTreeMap::new(), fill };
+    let mut random = Random(start ^ 0x5EED);
+    for _ in 0..count {
+        comparison.compare(&input(&mut random, &seeds));
+    }
+    let missing = comparison.report();
+    println!("{} differences", comparison.differences);
+    std::process::exit((missing > 0 || comparison.differences > 0) as i32);
+}

@@ -1,0 +1,131 @@
+/* The nine calls of the library. Every call is a pure function of the bytes that it is given: nothing is kept between calls.
+ *
+ * A run of bytes is a pointer and a length. A pointer is never null, also where the length is 0; a table is aligned as int64_t.
+ * A lent table or buffer overlaps nothing else that the call is given. A table has at least FEEDCHECK_TABLE numbers; a shorter
+ * one is refused 11 and left as it was, as is a buffer shorter than the bytes to be written.
+ *
+ * An answer's number is 0, or that of a refusal; then part and position say which command is refused, and every other field is 0
+ * (a job's tally is carried on all the same). The numbers are explained in docs/REFUSALS.md.
+ *
+ * Each call stands in a static library of its own, which `rt staticlib NAME` makes as target/staticlib/libNAME.a; the name is
+ * given beside each call. They can be linked together. */
+#ifndef FEEDCHECK_H
+#define FEEDCHECK_H
+
+#include <stddef.h>
+#include <stdint.h>
+
+#ifdef __cplusplus
+extern "C" {
+#endif
+
+enum {
+    FEEDCHECK_CHOICES = 32,
+    FEEDCHECK_TERMS = 256,
+    FEEDCHECK_PRODUCTS = 32,
+    FEEDCHECK_TABLE = 4225, /* numbers of a working table */
+    FEEDCHECK_JOB = 25306,  /* bytes of the longest job that is accepted */
+    FEEDCHECK_BUILT = 865,  /* bytes of the longest scheme: 32 products, 256 splits, the end */
+    FEEDCHECK_PLAIN = 1294  /* bytes that our own certificate never exceeds */
+};
+
+/* Entries past the counts are 0. */
+typedef struct {
+    int32_t base;
+    size_t choices, terms;
+    uint16_t tanks[FEEDCHECK_CHOICES], minutes[FEEDCHECK_CHOICES];
+    uint32_t masks[FEEDCHECK_TERMS];
+    int32_t coefficients[FEEDCHECK_TERMS];
+} FeedcheckRegister;
+
+/* Product number n + k has the operands lefts[k] and rights[k]; term t has the split split_lefts[t], split_rights[t]. */
+typedef struct {
+    size_t products, splits;
+    uint8_t lefts[FEEDCHECK_PRODUCTS], rights[FEEDCHECK_PRODUCTS];
+    uint8_t split_lefts[FEEDCHECK_TERMS], split_rights[FEEDCHECK_TERMS];
+} FeedcheckScheme;
+
+/* How many jobs were accepted and refused; each count stays at 4,294,967,295. */
+typedef struct {
+    uint32_t accepted, refused;
+} FeedcheckTally;
+
+typedef struct {
+    uint8_t number, part;
+    size_t position;
+    FeedcheckRegister reg;
+} FeedcheckRegisterAnswer;
+
+typedef struct {
+    uint8_t number, part;
+    size_t position;
+    FeedcheckScheme scheme;
+} FeedcheckSchemeAnswer;
+
+/* count: the bytes that were written to the front of the buffer. */
+typedef struct {
+    uint8_t number, part;
+    size_t position;
+    size_t count;
+} FeedcheckWritten;
+
+typedef struct {
+    uint8_t number, part;
+    size_t position;
+    int64_t cost;
+} FeedcheckCostAnswer;
+
+typedef struct {
+    uint8_t number, part;
+    size_t position;
+} FeedcheckPenaltyAnswer;
+
+typedef struct {
+    uint8_t number, part;
+    size_t position;
+    int64_t bound;
+} FeedcheckCheckAnswer;
+
+typedef struct {
+    uint8_t number, part;
+    size_t position;
+    int64_t bound, cost, gap;
+    FeedcheckTally tally;
+} FeedcheckJobAnswer;
+
+/* Reads a register (part 1). libregister.a */
+FeedcheckRegisterAnswer feedcheck_register(const uint8_t *reg, size_t reg_length);
+
+/* Reads a scheme (part 2) of a register. libscheme.a */
+FeedcheckSchemeAnswer feedcheck_scheme(const uint8_t *reg, size_t reg_length, const uint8_t *scheme, size_t scheme_length);
+
+/* Builds a scheme of a register and writes its bytes. libbuilder.a */
+FeedcheckWritten feedcheck_build(const uint8_t *reg, size_t reg_length, uint8_t *buffer, size_t buffer_length);
+
+/* The cost of a plan (part 4). libplan.a */
+FeedcheckCostAnswer feedcheck_cost(const uint8_t *reg, size_t reg_length, const uint8_t *plan, size_t plan_length);
+
+/* Leaves the table of the penalty form in the table. libpenalty.a */
+FeedcheckPenaltyAnswer feedcheck_penalty(const uint8_t *reg, size_t reg_length, const uint8_t *scheme, size_t scheme_length,
+                                         int64_t *table, size_t table_length);
+
+/* Checks a certificate (part 3) and leaves R in the table once the certificate's end is reached. libcertificate.a */
+FeedcheckCheckAnswer feedcheck_check(const uint8_t *reg, size_t reg_length, const uint8_t *scheme, size_t scheme_length,
+                                     const uint8_t *certificate, size_t certificate_length, int64_t *table, size_t table_length);
+
+/* Writes the certificate of our own for a register and a scheme. libplain.a */
+FeedcheckWritten feedcheck_plain(const uint8_t *reg, size_t reg_length, const uint8_t *scheme, size_t scheme_length,
+                                 uint8_t *buffer, size_t buffer_length);
+
+/* A whole job: the bound, the plan's cost, the gap, and the tally carried on. libjob.a */
+FeedcheckJobAnswer feedcheck_job(const uint8_t *job, size_t job_length, int64_t *table, size_t table_length, FeedcheckTally tally);
+
+/* Writes the lines of a job; a refused job has one line, and is no refusal of this call. liblisting.a */
+FeedcheckWritten feedcheck_listing(const uint8_t *job, size_t job_length, int64_t *table, size_t table_length, uint8_t *buffer,
+                                   size_t buffer_length);
+
+#ifdef __cplusplus
+}
+#endif
+
+#endif

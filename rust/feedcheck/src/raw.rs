@@ -1,0 +1,227 @@
+//! The calls with their answers as they stand in `include/feedcheck.h`: every field, for accepted and refused input alike.
+//!
+//! A Rust slice's pointer is never null and is aligned, and a lent slice overlaps nothing else, which is all that the calls ask.
+
+/// The record of a register. Entries past the counts are 0.
+#[derive(Clone, Copy, Debug, PartialEq, Eq)]
+#[repr(C)]
+pub struct Register {
+    pub base: i32,
+    pub choices: usize,
+    pub terms: usize,
+    pub tanks: [u16; 32],
+    pub minutes: [u16; 32],
+    pub masks: [u32; 256],
+    pub coefficients: [i32; 256],
+}
+
+/// The record of a scheme. Entries past the counts are 0.
+#[derive(Clone, Copy, Debug, PartialEq, Eq)]
+#[repr(C)]
+pub struct Scheme {
+    pub products: usize,
+    pub splits: usize,
+    pub lefts: [u8; 32],
+    pub rights: [u8; 32],
+    pub split_lefts: [u8; 256],
+    pub split_rights: [u8; 256],
+}
+
+#[cfg(feature = "job")]
+#[derive(Clone, Copy, Debug, Default, PartialEq, Eq)]
+#[repr(C)]
+pub struct Tally {
+    pub accepted: u32,
+    pub refused: u32,
+}
+
+#[derive(Clone, Copy, Debug, PartialEq, Eq)]
+#[repr(C)]
+pub struct RegisterAnswer {
+    pub number: u8,
+    pub part: u8,
+    pub position: usize,
+    pub register: Register,
+}
+
+#[derive(Clone, Copy, Debug, PartialEq, Eq)]
+#[repr(C)]
+pub struct SchemeAnswer {
+    pub number: u8,
+    pub part: u8,
+    pub position: usize,
+    pub scheme: Scheme,
+}
+
+/// The answer of the calls that write bytes.
+#[derive(Clone, Copy, Debug, PartialEq, Eq)]
+#[repr(C)]
+pub struct Written {
+    pub number: u8,
+    pub part: u8,
+    pub position: usize,
+    pub count: usize,
+}
+
+#[derive(Clone, Copy, Debug, PartialEq, Eq)]
+#[repr(C)]
+pub struct CostAnswer {
+    pub number: u8,
+    pub part: u8,
+    pub position: usize,
+    pub cost: i64,
+}
+
+#[derive(Clone, Copy, Debug, PartialEq, Eq)]
+#[repr(C)]
+pub struct PenaltyAnswer {
+    pub number: u8,
+    pub part: u8,
+    pub position: usize,
+}
+
+#[derive(Clone, Copy, Debug, PartialEq, Eq)]
+#[repr(C)]
+pub struct CheckAnswer {
+    pub number: u8,
+    pub part: u8,
+    pub position: usize,
+    pub bound: i64,
+}
+
+#[cfg(feature = "job")]
+#[derive(Clone, Copy, Debug, PartialEq, Eq)]
+#[repr(C)]
+pub struct JobAnswer {
+    pub number: u8,
+    pub part: u8,
+    pub position: usize,
+    pub bound: i64,
+    pub cost: i64,
+    pub gap: i64,
+    pub tally: Tally,
+}
+
+mod linked {
+    use super::*;
+
+    extern "C" {
+        pub fn feedcheck_register(register: *const u8, register_length: usize) -> RegisterAnswer;
+        pub fn feedcheck_scheme(
+            register: *const u8,
+            register_length: usize,
+            scheme: *const u8,
+            scheme_length: usize,
+        ) -> SchemeAnswer;
+        pub fn feedcheck_build(register: *const u8, register_length: usize, buffer: *mut u8, buffer_length: usize) -> Written;
+        pub fn feedcheck_cost(register: *const u8, register_length: usize, plan: *const u8, plan_length: usize) -> CostAnswer;
+        pub fn feedcheck_penalty(
+            register: *const u8,
+            register_length: usize,
+            scheme: *const u8,
+            scheme_length: usize,
+            table: *mut i64,
+            table_length: usize,
+        ) -> PenaltyAnswer;
+        pub fn feedcheck_check(
+            register: *const u8,
+            register_length: usize,
+            scheme: *const u8,
+            scheme_length: usize,
+            certificate: *const u8,
+            certificate_length: usize,
+            table: *mut i64,
+            table_length: usize,
+        ) -> CheckAnswer;
+        #[cfg(feature = "plain")]
+        pub fn feedcheck_plain(
+            register: *const u8,
+            register_length: usize,
+            scheme: *const u8,
+            scheme_length: usize,
+            buffer: *mut u8,
+            buffer_length: usize,
+        ) -> Written;
+        #[cfg(feature = "job")]
+        pub fn feedcheck_job(job: *const u8, job_length: usize, table: *mut i64, table_length: usize, tally: Tally) -> JobAnswer;
+        #[cfg(feature = "listing")]
+        pub fn feedcheck_listing(
+            job: *const u8,
+            job_length: usize,
+            table: *mut i64,
+            table_length: usize,
+            buffer: *mut u8,
+            buffer_length: usize,
+        ) -> Written;
+    }
+}
+
+pub fn register(register: &[u8]) -> RegisterAnswer {
+    unsafe { linked::feedcheck_register(register.as_ptr(), register.len()) }
+}
+
+pub fn scheme(register: &[u8], scheme: &[u8]) -> SchemeAnswer {
+    unsafe { linked::feedcheck_scheme(register.as_ptr(), register.len(), scheme.as_ptr(), scheme.len()) }
+}
+
+pub fn build(register: &[u8], buffer: &mut [u8]) -> Written {
+    unsafe { linked::feedcheck_build(register.as_ptr(), register.len(), buffer.as_mut_ptr(), buffer.len()) }
+}
+
+pub fn cost(register: &[u8], plan: &[u8]) -> CostAnswer {
+    unsafe { linked::feedcheck_cost(register.as_ptr(), register.len(), plan.as_ptr(), plan.len()) }
+}
+
+pub fn penalty(register: &[u8], scheme: &[u8], table: &mut [i64]) -> PenaltyAnswer {
+    unsafe {
+        linked::feedcheck_penalty(
+            register.as_ptr(),
+            register.len(),
+            scheme.as_ptr(),
+            scheme.len(),
+            table.as_mut_ptr(),
+            table.len(),
+        )
+    }
+}
+
+pub fn check(register: &[u8], scheme: &[u8], certificate: &[u8], table: &mut [i64]) -> CheckAnswer {
+    unsafe {
+        linked::feedcheck_check(
+            register.as_ptr(),
+            register.len(),
+            scheme.as_ptr(),
+            scheme.len(),
+            certificate.as_ptr(),
+            certificate.len(),
+            table.as_mut_ptr(),
+            table.len(),
+        )
+    }
+}
+
+#[cfg(feature = "plain")]
+pub fn plain(register: &[u8], scheme: &[u8], buffer: &mut [u8]) -> Written {
+    unsafe {
+        linked::feedcheck_plain(
+            register.as_ptr(),
+            register.len(),
+            scheme.as_ptr(),
+            scheme.len(),
+            buffer.as_mut_ptr(),
+            buffer.len(),
+        )
+    }
+}
+
+#[cfg(feature = "job")]
+pub fn job(job: &[u8], table: &mut [i64], tally: Tally) -> JobAnswer {
+    unsafe { linked::feedcheck_job(job.as_ptr(), job.len(), table.as_mut_ptr(), table.len(), tally) }
+}
+
+#[cfg(feature = "listing")]
+pub fn listing(job: &[u8], table: &mut [i64], buffer: &mut [u8]) -> Written {
+    unsafe {
+        linked::feedcheck_listing(job.as_ptr(), job.len(), table.as_mut_ptr(), table.len(), buffer.as_mut_ptr(), buffer.len())
+    }
+}
