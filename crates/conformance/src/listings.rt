@@ -24,5 +24,11 @@ pub fn agrees(line: &[u8]) -> bool {
     let n = lent.count;
     let second = buffers::length(lent.next, line, &buffer);
     let m = second.count;
-    answers(second.next, line, &job[..a], &mut table[..n], &mut buffer[..m])
+    answers(
+        second.next,
+        line,
+        &job[..a],
+        &mut table[..n],
+        &mut buffer[..m],
+    )
 }

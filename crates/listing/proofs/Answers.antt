@@ -9,8 +9,8 @@ use lib.Seq.{take-at}
 use borrow.Author.Tests.{lt-ltb, le-ltb}
 use Rattle.forms.specs.Table.{tableNumbers}
 use Rattle.job.specs.Outcome.{outcome, tableAfter}
-use Rattle.text.specs.Fields.{written}
-use Rattle.text.proofs.Written.{written-front}
+use Rattle.wire.specs.Number.{written}
+use Rattle.wire.proofs.Written.{written-front}
 use Rattle.listing.specs.declared.ListingAnswer.{ListingAnswer}
 use Rattle.listing.specs.Listing.{listing}
 use Rattle.listing.specs.Answer.{listingRoom, refusedAnswer, writtenAnswer, bytesAnswer, bytesBuffer, listingAnswer, listingTable, listingBuffer}

@@ -5,10 +5,11 @@ use native.Mathlib.Omega.{arith}
 use mathlib.Core.Path.{_≡_, refl, sym, ap, ap₂, _∙_, subst}
 use mathlib.Core.Logic.{_↔_, ⊎-elim}
 use mathlib.Core.Bool.{Bool, true, false, cond, true≢false}
-use mathlib.Core.List.{List, [], _∷_, _++_}
+use mathlib.Core.List.{List, [], _∷_, _++_, append-nil}
 use lib.Dec.{ltb}
 use lib.IntN.{ℤ, pos, natAbs}
 use lib.ListN.{length, getD, drop}
+use lib.Pow.{pow-mono}
 use borrow.Author.Tests.{ltb-true, ltb-false}
 use Rattle.integers.specs.Lists.{All, joinBelow}
 use Rattle.integers.proofs.Lists.{flag, All-join}
@@ -19,6 +20,13 @@ use Rattle.text.proofs.Unique.{texts, texts-append, texts-join, texts-one, text
 use Rattle.register.specs.declared.Register.{Register}
 use Rattle.register.specs.Register.{tank, minute}
 use Rattle.register.specs.Valid.{Valid}
+use Rattle.register.specs.Encoding.{encodeRegister}
+use Rattle.register.proofs.Accept.{encode-determines}
+use Rattle.plan.specs.Encoding.{encodePlan}
+use Rattle.wire.specs.Number.{Bytes, bytesOf, natAt}
+use Rattle.wire.proofs.Number.{natAt-front}
+use Rattle.job.specs.Valid.{Valid as JobValid}
+use Rattle.job.proofs.Accept.{accepted-iff}
 use Rattle.job.specs.Outcome.{Parts, accepts, outcome}
 use Rattle.listing.specs.Listing.{choiceLine, choiceLines, fedLine, fedLines, planLines}
 use Rattle.listing.specs.Same.{SamePlan}
@@ -216,3 +224,19 @@ line-for-line s s′ p p′ e e′ =
 -- in particular where parts 1 and 4 are the same
 pub same-parts : (p p′ : Parts) → p .register ≡ p′ .register → p .plan ≡ p′ .plan → planLines (p .register) (p .plan) ≡ planLines (p′ .register) (p′ .plan)
 same-parts p p′ e f = ap₂ planLines e f
+
+-- two accepted jobs with the same bytes of part 1 and the same bytes of part 4
+pub same-bytes : (s s′ : List ℕ) (p p′ : Parts) → Bytes s → Bytes s′ → outcome s ≡ accepts p → outcome s′ ≡ accepts p′ →
+    encodeRegister (p .register) ≡ encodeRegister (p′ .register) → encodePlan (p .plan) ≡ encodePlan (p′ .plan) →
+    planLines (p .register) (p .plan) ≡ planLines (p′ .register) (p′ .plan)
+unfolding encodePlan
+same-bytes s s′ p p′ b b′ e e′ one four =
+    let v = accepted-iff s p b .0 e .0 in
+    let v′ = accepted-iff s′ p′ b′ .0 e′ .0 in
+    same-parts p p′ (encode-determines (p .register) (p′ .register) (v .register) (v′ .register) one)
+    (sym (plan-of p v) ∙ ap (λ t. natAt 4 t 1) four ∙ plan-of p′ v′)
+  where
+    plan-of : (p : Parts) → JobValid p → natAt 4 (encodePlan (p .plan)) 1 ≡ p .plan
+    plan-of p v =
+        natAt-front 4 (0x40 ∷ bytesOf 4 (p .plan)) 1 (p .plan) [] (sym (append-nil (bytesOf 4 (p .plan))))
+        (omega (arith, v .plan, pow-mono (v .register .within .choices-within)))

@@ -12,7 +12,7 @@ ghost use Rattle.forms.specs.Table.{tableNumbers};
 ghost use Rattle.job.specs.Outcome.{outcome};
 ghost use Rattle.register.specs.Limits.{maxChoices};
 ghost use Rattle.register.specs.Valid.{Within};
-ghost use Rattle.text.specs.Fields.{written};
+ghost use Rattle.wire.specs.Number.{written};
 ghost use Rattle.listing.specs.Listing.{choiceLine, choiceLines, fedLine, fedLines, acceptedLines, listing};
 ghost use Rattle.listing.specs.Answer.{listingRoom, linesOf, refusedAnswer, bytesAnswer, bytesBuffer, listingAnswer, listingTable, listingBuffer};
 

@@ -1,35 +1,16 @@
 -- Bytes written into a buffer, one after the other.
 use Prim.Native.Nat.{ℕ, zero, suc, _+_, _≤_, _<_}
-use native.Mathlib.Nat.{zero-add, add-zero, add-assoc}
+use native.Mathlib.Nat.{add-zero, add-assoc}
 use native.Mathlib.Numerals.{add-one}
 use native.Mathlib.Omega.{arith}
-use mathlib.Core.Path.{_≡_, refl, sym, ap, _∙_}
+use mathlib.Core.Path.{_≡_, sym, ap, _∙_}
 use mathlib.Core.Logic.{⊎-elim}
 use mathlib.Core.List.{List, [], _++_}
-use lib.ListN.{length, drop, length-append}
-use lib.Seq.{sets-eq, length-sets}
+use lib.ListN.{length, length-append}
 use Rattle.integers.specs.Lists.{joinBelow}
 use Rattle.integers.proofs.Entries.{below-or-last}
-use Rattle.wire.proofs.Number.{sets-append}
-use Rattle.text.specs.Fields.{written}
-
-pub written-none : (s : List ℕ) (at : ℕ) → written s at [] ≡ s
-unfolding written
-written-none s at = refl
-
-pub length-written : (s : List ℕ) (at : ℕ) (a : List ℕ) → length (written s at a) ≡ length s
-unfolding written
-length-written s at a = length-sets s at a
-
--- bytes and others after them
-pub written-append : (s : List ℕ) (at : ℕ) (a b : List ℕ) → written (written s at a) (at + length a) b ≡ written s at (a ++ b)
-unfolding written
-written-append s at a b = sym (sets-append s at a b)
-
--- at the front
-pub written-front : (s a : List ℕ) → length a ≤ length s → written s 0 a ≡ a ++ drop (length a) s
-unfolding written
-written-front s a h = sets-eq a s 0 (rw zero-add h) ∙ rw zero-add
+use Rattle.wire.specs.Number.{written}
+use Rattle.wire.proofs.Written.{written-none, length-written, written-append}
 
 -- what a writer ensures: the position after its bytes, and the buffer
 abbrev pub Wrote : List ℕ → ℕ → List ℕ → ℕ → List ℕ → Type 0

@@ -1,8 +1,7 @@
--- A field of a line, with the space before it; what stands before a number's digits; bytes written into a buffer.
+-- A field of a line, with the space before it; what stands before a number's digits.
 use Prim.Native.Nat.{ℕ}
 use mathlib.Core.List.{List, [], _∷_}
 use lib.IntN.{ℤ, pos, negsuc}
-use lib.Seq.{sets}
 use Rattle.wire.specs.Text.{decimal}
 
 -- one space, and the number in decimal
@@ -13,7 +12,3 @@ field z = 0x20 ∷ decimal z
 unfoldable pub sign : ℤ → List ℕ
 sign (pos n) = []
 sign (negsuc n) = 0x2D ∷ []
-
--- s with bytes at a position
-unfoldable pub written : List ℕ → ℕ → List ℕ → List ℕ
-written s at bytes = sets s at bytes

@@ -5,7 +5,8 @@ ghost use Prim.Native.Nat.{_+_, _≤_};
 ghost use lib.ListN.{length};
 ghost use lib.IntN.{pos};
 ghost use Rattle.wire.specs.Text.{digits, line};
-ghost use Rattle.text.specs.Fields.{field, sign, written};
+ghost use Rattle.wire.specs.Number.{written};
+ghost use Rattle.text.specs.Fields.{field, sign};
 
 fn put_byte(out: &mut [u8], at: usize, byte: u8) -> usize
     requires { ⌜ at + 1 ≤ length (now out) ⌝ }

@@ -8,7 +8,8 @@ use borrow.Author.Needs.{needs}
 use Rattle.integers.specs.Lists.{joinBelow}
 use Rattle.register.specs.declared.Register.{Register}
 use Rattle.register.specs.Register.{tank, minute}
-use Rattle.text.proofs.Written.{Wrote, begins, turn, room, same, length-written}
+use Rattle.wire.proofs.Written.{length-written}
+use Rattle.text.proofs.Written.{Wrote, begins, turn, room, same}
 use Rattle.listing.specs.Listing.{choiceLine, choiceLines}
 use Rattle.listing.proofs.put_choice_lines.Statement.{statement}
 use Rattle.listing.proofs.put_choice_lines.Tie as tie

@@ -9,7 +9,7 @@ use mir.Val.{SFits, toZ, ofZ}
 use borrow.Author.Needs.{needs}
 use borrow.Author.Tests.{eq-eqb, ne-eqb}
 use Rattle.job.specs.declared.JobRead.{JobRead}
-use Rattle.text.specs.Fields.{written}
+use Rattle.wire.specs.Number.{written}
 use Rattle.text.proofs.Written.{same}
 use Rattle.listing.specs.Listing.{acceptedLines, refusalLine}
 use Rattle.listing.specs.Answer.{linesOf}

@@ -1,6 +1,6 @@
 -- `text::put_byte` meets its contract. One store.
 use borrow.Author.Needs.{needs}
-use Rattle.text.specs.Fields.{written}
+use Rattle.wire.specs.Number.{written}
 use Rattle.text.proofs.put_byte.Statement.{statement}
 use Rattle.text.proofs.put_byte.Tie as tie
 
