@@ -44,7 +44,7 @@ use Rattle.job.specs.Outcome.{Parts, Outcome, refuses, accepts, follow, 
 use Rattle.job.specs.declared.Tally.{Tally}
 use Rattle.job.specs.Answer.{refusedAnswer, acceptedAnswer, afterJob, jobAnswer}
 use Rattle.job.specs.Valid.{Valid, Encodes}
-use Rattle.job.proofs.Call.{NumberedOutcome, outcome-numbered}
+use Rattle.job.proofs.Sound.{Sound, outcome-sound}
 use Rattle.wire.proofs.Fronts.{front-whole, whole-front, behind, empty, bytes-left}
 
 -- ---- from the outcome to the parts
@@ -228,11 +228,11 @@ module _ (s : List ℕ) (b : Bytes s) (lent : List ℤ) (tally : Tally) where
   unfolding jobAnswer
   accepted-answer h = by (ltb (length lent) tableNumbers) h
     where
-      go : (x : Outcome) → outcome s ≡ x → NumberedOutcome x → afterJob x tally .number ≡ 0 → (p : Parts) × ((afterJob x tally ≡ acceptedAnswer p tally) × (Valid p × Encodes p s))
+      go : (x : Outcome) → outcome s ≡ x → Sound x → afterJob x tally .number ≡ 0 → (p : Parts) × ((afterJob x tally ≡ acceptedAnswer p tally) × (Valid p × Encodes p s))
       go (refuses n part at) e d h = absurd (d h)
       go (accepts p) e d h = (p, (refl, job-from s p b e))
 
       by : (t : Bool) → cond t (refusedAnswer 11 0 0 tally) (afterJob (outcome s) tally) .number ≡ 0 →
           (p : Parts) × ((cond t (refusedAnswer 11 0 0 tally) (afterJob (outcome s) tally) ≡ acceptedAnswer p tally) × (Valid p × Encodes p s))
       by true h = absurd (omega arith)
-      by false h = go (outcome s) refl (outcome-numbered s) h
+      by false h = go (outcome s) refl (outcome-sound s) h

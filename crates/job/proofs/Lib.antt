@@ -2,6 +2,7 @@
 pub mod Positions
 pub mod Bounds
 pub mod Answers
+pub mod Sound
 pub mod Call
 pub mod Accept
 pub mod Prefix

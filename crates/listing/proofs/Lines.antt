@@ -30,7 +30,7 @@ use Rattle.job.proofs.Accept.{accepted-iff}
 use Rattle.job.specs.Outcome.{Parts, accepts, outcome}
 use Rattle.listing.specs.Listing.{choiceLine, choiceLines, fedLine, fedLines, planLines}
 use Rattle.listing.specs.Same.{SamePlan}
-use Rattle.listing.proofs.Outcome.{accepted-valid}
+use Rattle.job.proofs.Sound.{accepted-valid}
 
 -- ---- a line as its letter and its fields
 

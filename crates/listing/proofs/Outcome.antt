@@ -1,68 +1,13 @@
--- What a job's outcome says: a refusal has a number that is not 0, and an accepted job a valid register.
-use Prim.Native.Nat.{ℕ, _+_}
-use native.Mathlib.Omega.{arith}
+-- What the reader of a job gives, by the job's outcome.
 use mathlib.Core.Path.{_≡_, refl}
-use mathlib.Core.Bool.{Bool, true, false, cond}
-use mathlib.Core.List.{List}
-use lib.Dec.{ltb}
-use lib.ListN.{length, drop}
 use borrow.Author.Tests.{ne-eqb}
-use Rattle.wire.specs.Part.{Reading, refused, accepted}
-use Rattle.wire.proofs.Part.{NumberedReading, readPart-numbered}
-use Rattle.register.specs.declared.Register.{Register}
-use Rattle.register.specs.Register.{coefficient}
-use Rattle.register.specs.Format.{registerPart, registerInJob}
-use Rattle.register.specs.Valid.{Valid, Within}
-use Rattle.register.proofs.Accept.{valid-accepted}
+use Rattle.register.specs.Valid.{Within}
 use Rattle.register.proofs.Within.{fresh-within}
-use Rattle.scheme.specs.declared.Scheme.{Scheme}
-use Rattle.scheme.specs.Format.{schemePart, schemeInJob}
-use Rattle.certificate.specs.Certificate.{Certificate}
-use Rattle.certificate.specs.Format.{certificateInJob}
-use Rattle.certificate.proofs.Answers.{job-numbered}
-use Rattle.plan.specs.Format.{planPart, planInJob}
-use Rattle.job.specs.Outcome.{Parts, Outcome, refuses, accepts, follow, fromPlan, fromCertificate, fromScheme, outcome}
+use Rattle.job.specs.Outcome.{Outcome, refuses, accepts, outcome}
 use Rattle.job.specs.Answer.{jobRead}
+use Rattle.job.proofs.Sound.{Sound}
 use Rattle.listing.specs.Listing.{listing}
 use Rattle.listing.specs.Answer.{linesOf}
-
-abbrev pub Sound : Outcome → Type 0
-Sound (refuses number part at) = number ≡ 0 → ⊥
-Sound (accepts p) = Valid (p .register)
-
--- a part's reading, and then what follows it
-follows : {S : Type 0} (part from : ℕ) (x : Reading S) (rest : S → ℕ → Outcome) → NumberedReading x →
-    ((read : S) (end : ℕ) → x ≡ accepted read end → Sound (rest read (from + end))) → Sound (follow part from x rest)
-unfolding follow
-follows part from (refused number at) rest d h = d
-follows part from (accepted read end) rest d h = h read end refl
-
-module _ (s : List ℕ) (reg : Register) (v : Valid reg) where
-  from-plan : (sch : Scheme) (cert : Certificate) (from : ℕ) → Sound (fromPlan s reg sch cert from)
-  unfolding planInJob
-  from-plan sch cert from = follows 4 from (planInJob reg (drop from s)) _ (readPart-numbered (planPart reg) (drop from s)) λ read end e.
-      last (ltb (from + end) (length s)) (from + end) (record { register = reg; scheme = sch; certificate = cert; plan = read .gave }) v
-    where
-      last : (b : Bool) (end : ℕ) (p : Parts) → Valid (p .register) → Sound (cond b (refuses 12 4 end) (accepts p))
-      last true end p h = λ e. absurd (omega arith)
-      last false end p h = h
-
-  from-certificate : (sch : Scheme) (from : ℕ) → Sound (fromCertificate s reg sch from)
-  from-certificate sch from =
-      follows 3 from (certificateInJob (coefficient reg) reg sch (drop from s)) _ (job-numbered (coefficient reg) reg sch (drop from s)) λ read end e. from-plan sch (read .gave) (from + end)
-
-  from-scheme : (from : ℕ) → Sound (fromScheme s reg from)
-  unfolding schemeInJob
-  from-scheme from = follows 2 from (schemeInJob reg (drop from s)) _ (readPart-numbered (schemePart reg) (drop from s)) λ read end e. from-certificate (read .gave) (from + end)
-
-pub outcome-sound : (s : List ℕ) → Sound (outcome s)
-unfolding outcome registerInJob
-outcome-sound s = follows 1 0 (registerInJob s) _ (readPart-numbered registerPart s) λ read end e. from-scheme s (read .gave) (valid-accepted s read end e .0) (0 + end)
-
-pub accepted-valid : (s : List ℕ) (p : Parts) → outcome s ≡ accepts p → Valid (p .register)
-accepted-valid s p e = rw e at (outcome-sound s)
-
--- ---- what the reader of a job gives
 
 pub read-within : (o : Outcome) → Sound o → Within (jobRead o .register)
 read-within (refuses number part at) h = fresh-within

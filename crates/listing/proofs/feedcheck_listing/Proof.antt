@@ -9,7 +9,8 @@ use Rattle.register.specs.Valid.{Within}
 use Rattle.job.specs.declared.JobRead.{JobRead}
 use Rattle.job.specs.Outcome.{outcome}
 use Rattle.listing.specs.Answer.{listingRoom, linesOf}
-use Rattle.listing.proofs.Outcome.{outcome-sound, read-within, read-lines}
+use Rattle.job.proofs.Sound.{outcome-sound}
+use Rattle.listing.proofs.Outcome.{read-within, read-lines}
 use Rattle.listing.proofs.Answers.{short-table, long-table}
 use Rattle.listing.proofs.feedcheck_listing.Statement.{statement}
 use Rattle.listing.proofs.feedcheck_listing.Tie as tie
