@@ -57,6 +57,10 @@ module _ (reg : Register) (sch : Scheme) where
     pub within-accepted : Within reg sch (p .gave) × (p .previous ≡ 0x3F)
     within-accepted = let h = ended s p end e in (h .within, h .previous)
 
+    -- `3F` stands one byte before the end
+    pub end-stands : getD s (end - 1) 0 ≡ 0x3F
+    end-stands = ended s p end e .last
+
     -- the end is within the bytes
     pub end-within : end ≤ length s
     unfolding commandsInJob readPart
