@@ -6,7 +6,7 @@ use mathlib.Core.Path.{_≡_, refl, _∙_, ap}
 use mathlib.Core.Logic.{_↔_}
 use mathlib.Core.Bool.{Bool, true, false, cond}
 use mathlib.Core.List.{List, [], _∷_, _++_, append-nil}
-use lib.Dec.{T, ltb}
+use lib.Dec.{T}
 use lib.IntN.{ℤ}
 use lib.ListN.{length, getD, drop}
 use lib.Seq.{drop-length}

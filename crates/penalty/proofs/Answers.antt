@@ -1,6 +1,6 @@
 -- The answer of the penalty call and its table, from the answers of the register and of the scheme by themselves.
 use Prim.Native.Nat.{ℕ, _≤_, _<_}
-use mathlib.Core.Path.{_≡_}
+use mathlib.Core.Path.{_≡_, refl}
 use mathlib.Core.List.{List}
 use lib.IntN.{ℤ}
 use lib.ListN.{length}
@@ -35,4 +35,4 @@ module _ (t s : List ℕ) (lent : List ℤ) (l : tableNumbers ≤ length lent) w
   unfolding penaltyAnswer penaltyTable
   parts-accepted reg sch o =
       let f = le-ltb (length lent) tableNumbers l in
-      record { answers = rw (f, o .register-reads, o .scheme-reads); holds = rw (f, o .register-reads, o .scheme-reads) }
+      record { answers = rw (f, o .register-reads, o .scheme-reads) refl; holds = rw (f, o .register-reads, o .scheme-reads) refl }
