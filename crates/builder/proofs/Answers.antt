@@ -17,8 +17,9 @@ use Rattle.register.specs.Format.{registerPart, registerInJob, registerByItself
 use Rattle.register.specs.Answer.{registerAnswer}
 use Rattle.register.proofs.Accept.{valid-accepted}
 use Rattle.scheme.specs.declared.Scheme.{Scheme}
-use Rattle.builder.specs.Builder.{stopped, built, build, termPosition}
+use Rattle.builder.specs.Builder.{stopped, built, build}
 use Rattle.scheme.specs.Encoding.{encodeScheme}
+use Rattle.builder.proofs.Position.{term-position}
 use Rattle.builder.specs.Answer.{refusedAnswer, bytesAnswer, bytesBuffer, builtAnswer, builtBuffer, answerAfter, bufferAfter, buildAnswer, buildBuffer}
 
 module _ (s : List ℕ) where
@@ -64,8 +65,8 @@ module _ (s : List ℕ) where
       -- a product past the limit is needed
       pub build-full : (t position : ℕ) → stopped t ≡ build (read .register) → position ≡ 5 + 5 * read .register .choices + 9 * t →
           (refusedAnswer 10 1 position ≡ buildAnswer s buffer) × (buffer ≡ buildBuffer s buffer)
-      unfolding termPosition
-      build-full t position d p = (rw p (sym (taken .answer ∙ rw (← d))), sym (taken .rest ∙ rw (← d)))
+      build-full t position d p =
+          (ap (refusedAnswer 10 1) (p ∙ sym (term-position (read .register) t)) ∙ sym (taken .answer ∙ rw (← d)), sym (taken .rest ∙ rw (← d)))
 
       -- a scheme is built
       pub build-whole : (sch : Scheme) → built sch ≡ build (read .register) →

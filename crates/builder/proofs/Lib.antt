@@ -13,5 +13,6 @@ pub mod Bytes
 pub mod Holds
 pub mod Unions
 pub mod Validity
+pub mod Position
 pub mod Answers
 pub mod Call

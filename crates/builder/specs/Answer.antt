@@ -20,7 +20,7 @@ refusedAnswer number part at = record { number = number; part = part; position =
 abbrev pub acceptedAnswer : ℕ → BuildAnswer
 acceptedAnswer count = record { number = 0; part = 0; position = 0; count = count }
 
--- bytes in a buffer of this many: 11 where it is short
+-- bytes for a buffer of `room` bytes: 11 where it is short
 abbrev pub bytesAnswer : ℕ → List ℕ → BuildAnswer
 bytesAnswer room bytes = cond (ltb room (length bytes)) (refusedAnswer 11 0 0) (acceptedAnswer (length bytes))
 

@@ -1,13 +1,14 @@
 -- The builder follows 000 Algorithm 2.
-use Prim.Native.Nat.{ℕ, zero, suc, _+_, _*_, min, max}
+use Prim.Native.Nat.{ℕ, zero, suc, min, max}
 use mathlib.Core.Bool.{cond}
-use mathlib.Core.List.{List, [], _∷_}
+use mathlib.Core.List.{List, [], _∷_, _++_}
 use lib.Dec.{eqb, leb}
 use lib.ListN.{length}
 use Rattle.integers.specs.Lists.{joinBelow}
 use Rattle.sets.specs.Sets.{isMember}
 use Rattle.register.specs.declared.Register.{Register}
-use Rattle.register.specs.Register.{mask}
+use Rattle.register.specs.Register.{mask, coefficient}
+use Rattle.register.specs.Encoding.{encodeBase, encodeChoices, encodeTerm}
 use Rattle.scheme.specs.declared.Scheme.{Scheme}
 use Rattle.scheme.specs.Scheme.{maxProducts, variables, fresh, withProduct, withSplit}
 use Rattle.scheme.specs.Variables.{E}
@@ -96,6 +97,10 @@ buildFrom reg (suc k) t sch = follow (buildTerm (reg .choices) sch (mask reg t))
 unfoldable pub build : Register → Built
 build reg = buildFrom reg (reg .terms) 0 fresh
 
--- where the command of term t stands in part 1: after the base cost, the choices and the terms before it
+-- the bytes of part 1 before the command of term t: the base cost, the choices and the terms before it
+abbrev pub beforeTerm : Register → ℕ → List ℕ
+beforeTerm reg t = encodeBase (reg .base) ++ encodeChoices reg ++ joinBelow t (λ i. encodeTerm (mask reg i) (coefficient reg i))
+
+-- the term's position
 unfoldable pub termPosition : Register → ℕ → ℕ
-termPosition reg t = 5 + 5 * reg .choices + 9 * t
+termPosition reg t = length (beforeTerm reg t)

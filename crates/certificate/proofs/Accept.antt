@@ -6,7 +6,7 @@ use mathlib.Core.Path.{_≡_, refl, _∙_, ap}
 use mathlib.Core.Logic.{_↔_}
 use mathlib.Core.Bool.{Bool, true, false, cond}
 use mathlib.Core.List.{List, [], _∷_, _++_, append-nil}
-use lib.Dec.{T, ltb}
+use lib.Dec.{T}
 use lib.IntN.{ℤ}
 use lib.ListN.{length, getD, drop}
 use lib.Seq.{drop-length}
@@ -56,6 +56,10 @@ module _ (reg : Register) (sch : Scheme) where
   module _ (s : List ℕ) (p : Progress Certificate) (end : ℕ) (e : commandsInJob reg sch s ≡ accepted p end) where
     pub within-accepted : Within reg sch (p .gave) × (p .previous ≡ 0x3F)
     within-accepted = let h = ended s p end e in (h .within, h .previous)
+
+    -- `3F` stands one byte before the end
+    pub end-stands : getD s (end - 1) 0 ≡ 0x3F
+    end-stands = ended s p end e .last
 
     -- the end is within the bytes
     pub end-within : end ≤ length s

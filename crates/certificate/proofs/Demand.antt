@@ -1,17 +1,17 @@
--- What the check's answer says, over all bytes. Where it answers 0 the three parts are accepted, no plan of this register costs
--- less than the bound, the cost call's answers among them, and the second-order part is at least 0 at every list of whole numbers.
+-- What the check's answer says, over all bytes. Where it answers 0 the bytes are those of a register, a scheme and a certificate
+-- that keep 01's rules, no plan of this register costs less than the bound, the cost call's answers among them, and the
+-- second-order part is at least 0 at every list of whole numbers.
 use Prim.Native.Nat.{ℕ, _<_}
 use mathlib.Core.Path.{_≡_, refl, sym, _∙_, ap}
-use mathlib.Core.Bool.{Bool, true, false, cond}
+use mathlib.Core.Bool.{cond}
 use mathlib.Core.List.{List}
 use native.Mathlib.Omega.{arith}
 use native.Mathlib.Decide.{decLt}
-use lib.Dec.{ltb}
 use lib.IntN.{ℤ}
 use lib.ListN.{length}
 use lib.Signed.{_≤ℤ_}
 use borrow.Author.Tests.{lt-ltb, le-ltb}
-use Rattle.wire.specs.Part.{Reading, refused, accepted, byItself}
+use Rattle.wire.specs.Part.{Reading, refused, accepted}
 use Rattle.wire.specs.Rows.{Progress}
 use Rattle.wire.proofs.Part.{NumberedReading, readPart-numbered, byItself-numbered}
 use Rattle.forms.specs.Table.{tableNumbers}
@@ -21,18 +21,17 @@ use Rattle.register.specs.Format.{registerPart, registerInJob, registerByItself
 use Rattle.plan.specs.Plan.{cost}
 use Rattle.plan.specs.Format.{planPart, planInJob, planByItself}
 use Rattle.plan.specs.Answer.{planAnswer, costAnswer}
-use Rattle.register.specs.Valid as R
-use Rattle.scheme.specs.Valid as S
 use Rattle.scheme.specs.declared.Scheme.{Scheme}
 use Rattle.scheme.specs.Format.{schemePart, schemeInJob, schemeByItself}
+use Rattle.scheme.proofs.Opened.{opened-by, register-bytes, scheme-bytes}
 use Rattle.certificate.specs.Certificate.{Certificate}
 use Rattle.certificate.specs.Residual.{bound}
 use Rattle.certificate.specs.Format.{certificateInJob, certificateByItself}
 use Rattle.certificate.specs.declared.CheckAnswer.{CheckAnswer}
 use Rattle.certificate.specs.Demand.{Shown}
 use Rattle.certificate.specs.Check.{refusedAnswer, afterCertificate, afterScheme, afterRegister, checkAnswer}
-use Rattle.certificate.proofs.Accept.{valid-accepted}
-use Rattle.certificate.proofs.Answers.{accepted-both, job-numbered}
+use Rattle.certificate.proofs.Accept.{whole-valid, whole-encodes}
+use Rattle.certificate.proofs.Answers.{job-numbered}
 use Rattle.certificate.proofs.Bound.{plan-bound}
 use Rattle.certificate.proofs.SecondOrder.{second-order}
 
@@ -49,25 +48,26 @@ costs-more register plan p end b e h z =
 
 module _ (register scheme certificate : List ℕ) (lent : List ℤ) where
   pub answered-shown : checkAnswer register scheme certificate lent .number ≡ 0 → Shown register scheme certificate (checkAnswer register scheme certificate lent)
-  unfolding checkAnswer registerByItself registerInJob schemeByItself schemeInJob certificateByItself byItself
+  unfolding checkAnswer registerByItself registerInJob schemeByItself schemeInJob certificateByItself
   answered-shown e = by-length (decLt (length lent) tableNumbers)
     where
-      -- an answer after a certificate that is accepted in a job
-      at-end : (p : Progress Register) (end : ℕ) (q : Progress Scheme) (end′ : ℕ) (k : Progress Certificate) (to : ℕ) →
-          registerByItself register ≡ accepted p end → schemeByItself (p .gave) scheme ≡ accepted q end′ →
-          certificateInJob (coefficient (p .gave)) (p .gave) (q .gave) certificate ≡ accepted k to →
-          (b : Bool) → afterCertificate (cond b (refused 12 to) (accepted k to)) .number ≡ 0 → Shown register scheme certificate (afterCertificate (cond b (refused 12 to) (accepted k to)))
-      at-end p end q end′ k to x y w true f = absurd (omega arith)
-      at-end p end q end′ k to x y w false f =
-          let both = accepted-both register scheme p end q end′ x y in
-          let v = valid-accepted (p .gave) (q .gave) (coefficient (p .gave)) certificate k to w .0 in
-          let h = plan-bound (coefficient (p .gave)) (p .gave) (q .gave) (k .gave) (both .scheme-valid) v in
+      of-certificate : (p : Progress Register) (end : ℕ) (q : Progress Scheme) (end′ : ℕ) → registerByItself register ≡ accepted p end → schemeByItself (p .gave) scheme ≡ accepted q end′ →
+          (x : Reading (Progress Certificate)) → certificateByItself (coefficient (p .gave)) (p .gave) (q .gave) certificate ≡ x → NumberedReading x →
+          afterCertificate x .number ≡ 0 → Shown register scheme certificate (afterCertificate x)
+      of-certificate p end q end′ x y (refused n at) w d f = absurd (d f)
+      of-certificate p end q end′ x y (accepted k to) w d f =
+          let o = opened-by register scheme p end q end′ x y in
+          let v = whole-valid (p .gave) (q .gave) (coefficient (p .gave)) certificate k to w in
+          let h = plan-bound (coefficient (p .gave)) (p .gave) (q .gave) (k .gave) (o .scheme-valid) v in
           record {
             reg = p .gave;
             sch = q .gave;
             cert = k .gave;
-            register-valid = both .register-valid;
-            scheme-valid = both .scheme-valid;
+            register-is = register-bytes register scheme (p .gave) (q .gave) o;
+            scheme-is = scheme-bytes register scheme (p .gave) (q .gave) o;
+            certificate-is = whole-encodes (p .gave) (q .gave) (coefficient (p .gave)) certificate k to w;
+            register-valid = o .register-valid;
+            scheme-valid = o .scheme-valid;
             certificate-valid = v;
             bound-is = refl;
             costs = h;
@@ -75,17 +75,13 @@ module _ (register scheme certificate : List ℕ) (lent : List ℤ) where
             second-order-part = second-order (coefficient (p .gave)) (p .gave) (q .gave) (k .gave) (v .carried);
           }
 
-      of-certificate : (p : Progress Register) (end : ℕ) (q : Progress Scheme) (end′ : ℕ) → registerByItself register ≡ accepted p end → schemeByItself (p .gave) scheme ≡ accepted q end′ →
-          (x : Reading (Progress Certificate)) → certificateInJob (coefficient (p .gave)) (p .gave) (q .gave) certificate ≡ x → NumberedReading x →
-          afterCertificate (byItself certificate x) .number ≡ 0 → Shown register scheme certificate (afterCertificate (byItself certificate x))
-      of-certificate p end q end′ x y (refused n at) w d f = absurd (d f)
-      of-certificate p end q end′ x y (accepted k to) w d f = at-end p end q end′ k to x y w (ltb to (length certificate)) f
-
       of-scheme : (p : Progress Register) (end : ℕ) → registerByItself register ≡ accepted p end →
           (x : Reading (Progress Scheme)) → schemeByItself (p .gave) scheme ≡ x → NumberedReading x →
           afterScheme (p .gave) x certificate .number ≡ 0 → Shown register scheme certificate (afterScheme (p .gave) x certificate)
       of-scheme p end x (refused n at) y d f = absurd (d f)
-      of-scheme p end x (accepted q end′) y d f = of-certificate p end q end′ x y (certificateInJob (coefficient (p .gave)) (p .gave) (q .gave) certificate) refl (job-numbered (coefficient (p .gave)) (p .gave) (q .gave) certificate) f
+      of-scheme p end x (accepted q end′) y d f =
+          let c = coefficient (p .gave) in
+          of-certificate p end q end′ x y (certificateByItself c (p .gave) (q .gave) certificate) refl (byItself-numbered certificate (certificateInJob c (p .gave) (q .gave) certificate) (job-numbered c (p .gave) (q .gave) certificate)) f
 
       of-register : (x : Reading (Progress Register)) → registerByItself register ≡ x → NumberedReading x →
           afterRegister x scheme certificate .number ≡ 0 → Shown register scheme certificate (afterRegister x scheme certificate)

@@ -71,6 +71,10 @@ module _ (reg : Register) (sch : Scheme) where
   unfolding rowOf total
   size-scale = refl
 
+  pub size-end : size part 0x3F ≡ 1
+  unfolding rowOf total
+  size-end = refl
+
   pub size-multiplier : (b : ℕ) → 0x31 ≤ b → b ≤ 0x39 → size part b ≡ 9 + arity b
   size-multiplier b p q = ap (λ (r : Row Certificate). suc (total (r .widths))) (row-multiplier b p q) ∙ total-multiplier (arity b)
 

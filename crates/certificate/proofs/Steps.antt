@@ -1,5 +1,5 @@
 -- What a command that is not refused adds to what has been read.
-use Prim.Native.Nat.{ℕ, _+_, _≤_}
+use Prim.Native.Nat.{ℕ, _+_, _-_, _≤_}
 use native.Mathlib.Omega.{arith}
 use mathlib.Core.Path.{_≡_, refl, sym, _∙_, ap}
 use mathlib.Core.List.{List, [], _∷_, _++_, append-nil, flatMap}
@@ -19,7 +19,7 @@ use Rattle.certificate.specs.Valid.{Allowed, SquareAllowed, Within}
 use Rattle.certificate.specs.Encoding.{Entry, multiplier, square, encodeScale, encodeMultiplier, encodeSquare, encodeBody, Commands}
 use Rattle.certificate.specs.Answer.{multiplierAt, squareRead}
 use Rattle.certificate.proofs.Passes.{MultiplierPasses, SquarePasses, scale-passes, multiplier-passes, square-passes}
-use Rattle.certificate.proofs.Rows.{reached, part, withMultiplier, withSquare, own-scale, own-multiplier, own-square}
+use Rattle.certificate.proofs.Rows.{reached, part, size-end, withMultiplier, withSquare, own-scale, own-multiplier, own-square}
 use Rattle.certificate.proofs.Growth.{more-multiplier, more-square, more-bytes, body-more, within-multiplier, within-square}
 use Rattle.certificate.proofs.Encoded.{names-long, entries-long, read-scale, read-multiplier, read-square, read-end}
 
@@ -39,6 +39,7 @@ module _ (reg : Register) (sch : Scheme) where
     pub entries : List Entry
     pub commands : Commands (p .gave) entries
     pub bytes : Bytes s → s ≡ (encodeBody (p .gave .scale) (p .gave .target) entries ++ (0x3F ∷ [])) ++ drop end s
+    pub last : getD s (end - 1) 0 ≡ 0x3F
 
   module _ (s : List ℕ) (p : Progress Certificate) (at : ℕ) (h : Passes (part reg sch) s p at) where
     abbrev pub to : ℕ
@@ -120,4 +121,8 @@ module _ (reg : Register) (sch : Scheme) where
       entries = g .entries;
       commands = g .commands;
       bytes = λ b. more-bytes s at to (front g) (0x3F ∷ []) (read-end reg sch s at b (h .room) e) (g .bytes b);
+      last = ap (λ k. getD s k 0) before ∙ e;
     }
+      where
+        before : to - 1 ≡ at
+        before = ap (λ b. at + size (part reg sch) b - 1) e ∙ rw (size-end reg sch) (omega arith)

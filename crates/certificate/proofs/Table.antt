@@ -50,7 +50,7 @@ module _ (n : ℕ) (s : Scheme) where
 
   all-parts : (i j : ℕ) (ts : List Multiplier) → entry (nullForms n s ts) i j +ℤ minus1 *ℤ entry (subtractedForms n s ts) i j ≡ sumOver ts (λ t. entry (signedForm t) i j)
   unfolding nullForms subtractedForms sumOver
-  all-parts i j ts = rw (entry-flatMap (nullPart n s) ts i j, entry-flatMap (subtractedPart n s) ts i j) (go ts)
+  all-parts i j ts = ap₂ (λ x y. x +ℤ minus1 *ℤ y) (entry-flatMap (nullPart n s) ts i j) (entry-flatMap (subtractedPart n s) ts i j) ∙ go ts
     where
       regroup : (u v x y : ℤ) → u +ℤ v +ℤ negsuc 0 *ℤ (x +ℤ y) ≡ u +ℤ negsuc 0 *ℤ x +ℤ (v +ℤ negsuc 0 *ℤ y)
       regroup u v x y = atoms (u ∷ v ∷ x ∷ y ∷ []) λ ρ u v x y. simp (u, v, x, y, quote, ρ) (ring _ _ _ tt)

@@ -1,5 +1,5 @@
 -- What the code keeps of a certificate, what its checks look at, and what the certificate's calls answer, by what reading leads
--- to. The code's records have the paper's names too: here they are Counts, Named and Filled.
+-- to. The code's records have the paper's names too: here they are Counts, Named, Filled and Judged.
 use Prim.Native.Nat.{ℕ, _+_}
 use mathlib.Core.Path.{_≡_}
 use mathlib.Core.Bool.{true}

@@ -9,7 +9,8 @@ pub record Multiplier : Type 0 where
   pub names : List ℕ
   pub m : ℤ
 
--- a square: its weight w and its entries v, place by place
+-- a square (the paper's own term), w times the square of a linear form: its weight w, and the linear form's coefficients v,
+-- place by place
 pub record Square : Type 0 where
   pub w : ℕ
   pub v : List ℤ

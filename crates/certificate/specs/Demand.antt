@@ -4,24 +4,31 @@ use mathlib.Core.Path.{_≡_}
 use mathlib.Core.List.{List}
 use lib.IntN.{ℤ, pos}
 use lib.Signed.{_≤ℤ_}
+use Rattle.wire.specs.Number.{Bytes}
 use Rattle.register.specs.declared.Register.{Register}
 use Rattle.register.specs.Register.{coefficient}
+use Rattle.register.specs.Encoding.{encodeRegister}
 use Rattle.register.specs.Valid as R
 use Rattle.plan.specs.Plan.{cost}
 use Rattle.plan.specs.Answer.{costAnswer}
 use Rattle.scheme.specs.declared.Scheme.{Scheme}
+use Rattle.scheme.specs.Encoding.{encodeScheme}
 use Rattle.scheme.specs.Valid as S
 use Rattle.certificate.specs.declared.CheckAnswer.{CheckAnswer}
 use Rattle.certificate.specs.Certificate.{Certificate}
 use Rattle.certificate.specs.Residual.{bound, secondOrder}
+use Rattle.certificate.specs.Encoding.{Encodes}
 use Rattle.certificate.specs.Valid.{Valid}
 
--- what an answer says that is no refusal
+-- what an answer says that is no refusal: the bytes are those of a register, a scheme and a certificate that keep 01's rules, and
+-- these three have the bound
 pub record Shown (register scheme certificate : List ℕ) (a : CheckAnswer) : Type 0 where
   pub reg : Register
   pub sch : Scheme
   pub cert : Certificate
-  -- the three parts are accepted
+  pub register-is : Bytes register → register ≡ encodeRegister reg
+  pub scheme-is : scheme ≡ encodeScheme (reg .choices) sch
+  pub certificate-is : Bytes certificate → Encodes cert certificate
   pub register-valid : R.Valid reg
   pub scheme-valid : S.Valid reg sch
   pub certificate-valid : Valid (coefficient reg) reg sch cert

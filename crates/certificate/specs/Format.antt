@@ -127,7 +127,8 @@ certificatePart reg sch =
 unfoldable pub commandsInJob : Register → Scheme → List ℕ → Reading (Progress Certificate)
 commandsInJob reg sch s = readPart (certificatePart reg sch) s
 
--- at `3F`, R falls short: 9, at the position of `3F`, one byte before the end
+-- at `3F`, R falls short, that is, does not carry T: 9, at the position of `3F`, one byte before the end (`end-stands` in
+-- proofs/Accept)
 unfoldable pub judged : (ℕ → ℤ) → Register → Scheme → Reading (Progress Certificate) → Reading (Progress Certificate)
 judged c reg sch (refused number at) = refused number at
 judged c reg sch (accepted p end) = cond (carries c reg sch (p .gave)) (accepted p end) (refused 9 (end - 1))

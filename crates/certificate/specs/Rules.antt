@@ -15,7 +15,7 @@ use Rattle.certificate.specs.Certificate.{Multiplier}
 
 -- what the paper says of a multiplier command
 pub record Rule : Type 0 where
-  -- a null form; the others are never negative on plans
+  -- a null form (the paper's own term; 000's null function): 0 on every plan; the others are never negative on plans
   pub null : Bool
   -- the variables or the product that it names are there, or it is refused 5
   pub there : Bool

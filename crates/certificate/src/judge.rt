@@ -84,7 +84,7 @@ fn rule_of(sets: &[u32], n: usize, count: usize, t: Multiplier) -> Rule
 fn multiplier_refusal(multipliers: usize, rule: Rule, m: i64) -> u8
     ensures { λ r. ⌜ ((whole : Ruled) → Judges whole rule → r ≡ refusal (multiplierChecks multipliers whole m)) ⌝ }
 {
-    let far = Certificate::MULTIPLIER < wire::magnitude(m);
+    let far = Multiplier::M < wire::magnitude(m);
     let out = far | (!rule.null & (m < 0));
     let fits = first_of(!rule.ordered, 6, first_of(!rule.fits, 8, 0));
     let named = first_of(!rule.there, 5, fits);

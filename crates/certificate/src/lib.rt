@@ -89,9 +89,6 @@ impl Certificate {
 
     pub const MULTIPLIERS: usize = 1_024;
 
-    // The largest magnitude of a multiplier.
-    pub const MULTIPLIER: u64 = 1_000_000_000_000;
-
     pub const SQUARES: usize = 64;
 
     pub fn fresh() -> Certificate
@@ -104,6 +101,11 @@ impl Certificate {
             squares: 0,
         }
     }
+}
+
+impl Multiplier {
+    // The largest magnitude of m.
+    pub const M: u64 = 1_000_000_000_000;
 }
 
 impl Square {

@@ -1,8 +1,9 @@
 -- What the penalty call hands back, over all bytes. Where both parts are accepted it answers zeros, the value read from the table
 -- is that of h and exactly half of the table's sum, its least value over the fillings is the least cost over the plans, and the
--- numbers past the table are the lent ones. Where it answers a refusal the table is the lent one.
+-- numbers past the table are the lent ones. Where it answers zeros the bytes are those of a register and a scheme that keep 01's
+-- rules. Where it answers a refusal the table is the lent one.
 use Prim.Native.Nat.{ℕ, _*_, _≤_, _<_}
-use mathlib.Core.Path.{_≡_, refl, sym, _∙_, ap}
+use mathlib.Core.Path.{_≡_, refl, sym, _∙_, ap, subst}
 use mathlib.Core.List.{List}
 use native.Mathlib.Omega.{arith}
 use native.Mathlib.Decide.{decLt}
@@ -23,13 +24,14 @@ use Rattle.scheme.specs.Scheme.{side}
 use Rattle.scheme.specs.Filling.{Filling, factor}
 use Rattle.scheme.specs.Format.{schemeByItself}
 use Rattle.scheme.specs.Valid.{Valid}
+use Rattle.scheme.proofs.Opened.{Opened, opened-by, register-bytes, scheme-bytes}
 use Rattle.penalty.specs.Penalty.{h}
 use Rattle.penalty.specs.Demand.{Holds, Made}
 use Rattle.penalty.specs.Answer.{answer, afterScheme, afterRegister, penaltyAnswer, withPenalty, tableAfterScheme, tableAfterRegister, penaltyTable}
 use Rattle.penalty.proofs.Penalty.{below-h}
 use Rattle.penalty.proofs.Bounds.{side-square}
 use Rattle.penalty.proofs.Least.{table-twice, table-least}
-use Rattle.penalty.proofs.Answers.{accepted-both, long}
+use Rattle.penalty.proofs.Answers.{parts-accepted}
 
 -- the table of h does
 pub penalty-holds : (reg : Register) (sch : Scheme) → R.Valid reg → Valid reg sch → (lent : List ℤ) → tableNumbers ≤ length lent → Holds reg sch lent (withPenalty reg sch lent)
@@ -55,19 +57,15 @@ penalty-holds reg sch ok valid lent l = record {
 
 -- ---- over bytes
 
-module _ (register scheme : List ℕ) (lent : List ℤ) (l : tableNumbers ≤ length lent) where
-  -- where both readers accept, the call answers zeros and its table is what is demanded
-  module _ (p : Progress Register) (end : ℕ) (q : Progress Scheme) (end′ : ℕ) (e : registerByItself register ≡ accepted p end) (d : schemeByItself (p .gave) scheme ≡ accepted q end′) where
-    pub made-answer : penaltyAnswer register scheme lent ≡ answer 0 0 0
-    made-answer =
-        let x = accepted-both register scheme p end q end′ e d in
-        sym (long register scheme lent _ _ l (sym (x .answers)) (sym (x .holds lent)) .answers)
+-- where both parts are accepted, the call answers zeros and its table is what is demanded
+module _ (register scheme : List ℕ) (lent : List ℤ) (l : tableNumbers ≤ length lent) (reg : Register) (sch : Scheme) (o : Opened register scheme reg sch) where
+  pub made-answer : penaltyAnswer register scheme lent ≡ answer 0 0 0
+  made-answer = sym (parts-accepted register scheme lent l reg sch o .answers)
 
-    pub made-holds : Holds (p .gave) (q .gave) lent (penaltyTable register scheme lent)
-    made-holds =
-        let x = accepted-both register scheme p end q end′ e d in
-        let y = long register scheme lent _ _ l (sym (x .answers)) (sym (x .holds lent)) in
-        rw (← (y .holds)) (penalty-holds (p .gave) (q .gave) (x .register-valid) (x .scheme-valid) lent l)
+  pub made-holds : Holds reg sch lent (penaltyTable register scheme lent)
+  made-holds =
+      subst (Holds reg sch lent) (parts-accepted register scheme lent l reg sch o .holds)
+      (penalty-holds reg sch (o .register-valid) (o .scheme-valid) lent l)
 
 -- zeros are answered only there
 module _ (register scheme : List ℕ) (lent : List ℤ) where
@@ -82,13 +80,15 @@ module _ (register scheme : List ℕ) (lent : List ℤ) where
           of-scheme : (y : Reading (Progress Scheme)) → schemeByItself (p .gave) scheme ≡ y → afterScheme y ≡ answer 0 0 0 → Made register scheme lent
           of-scheme (refused n at) s f = let z : _≡_ {A = ℕ} 2 0 = ap (λ a. a .part) f in absurd (omega arith)
           of-scheme (accepted q end′) s f =
-              let x = accepted-both register scheme p end q end′ r s in
+              let o = opened-by register scheme p end q end′ r s in
               record {
                 reg = p .gave;
                 sch = q .gave;
-                register-valid = x .register-valid;
-                scheme-valid = x .scheme-valid;
-                holds = made-holds register scheme lent l p end q end′ r s;
+                register-is = register-bytes register scheme (p .gave) (q .gave) o;
+                scheme-is = scheme-bytes register scheme (p .gave) (q .gave) o;
+                register-valid = o .register-valid;
+                scheme-valid = o .scheme-valid;
+                holds = made-holds register scheme lent l (p .gave) (q .gave) o;
               }
 
       go : Dec (length lent < tableNumbers) → Made register scheme lent

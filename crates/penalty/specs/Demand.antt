@@ -4,14 +4,17 @@ use mathlib.Core.Path.{_≡_}
 use mathlib.Core.List.{List}
 use lib.IntN.{ℤ, pos, _*ℤ_}
 use lib.ListN.{length, getD}
+use Rattle.wire.specs.Number.{Bytes}
 use Rattle.forms.specs.Form.{value}
 use Rattle.forms.specs.Table.{tableSum, tableValue}
 use Rattle.register.specs.declared.Register.{Register}
 use Rattle.register.specs.Register.{coefficient}
+use Rattle.register.specs.Encoding.{encodeRegister}
 use Rattle.register.specs.Valid as R
 use Rattle.scheme.specs.declared.Scheme.{Scheme}
 use Rattle.scheme.specs.Scheme.{side}
 use Rattle.scheme.specs.Filling.{Filling, factor}
+use Rattle.scheme.specs.Encoding.{encodeScheme}
 use Rattle.scheme.specs.Valid.{Valid}
 use Rattle.penalty.specs.Penalty.{h}
 use Rattle.penalty.specs.Least.{SameLeast}
@@ -28,10 +31,13 @@ pub record Holds (reg : Register) (sch : Scheme) (lent table : List ℤ) : Type 
   pub long : length table ≡ length lent
   pub past : (k : ℕ) → side (reg .choices) sch * side (reg .choices) sch ≤ k → getD table k (pos 0) ≡ getD lent k (pos 0)
 
--- two parts that are accepted, and the table that the call then hands back
+-- what an answer of zeros says: the bytes are those of a register and a scheme that keep 01's rules, and the table handed back is
+-- what is demanded of these two
 pub record Made (register scheme : List ℕ) (lent : List ℤ) : Type 0 where
   pub reg : Register
   pub sch : Scheme
+  pub register-is : Bytes register → register ≡ encodeRegister reg
+  pub scheme-is : scheme ≡ encodeScheme (reg .choices) sch
   pub register-valid : R.Valid reg
   pub scheme-valid : Valid reg sch
   pub holds : Holds reg sch lent (penaltyTable register scheme lent)

@@ -22,7 +22,7 @@ use Rattle.certificate.specs.Format.{certificateByItself}
 use Rattle.certificate.specs.Check.{afterCertificate, checkAnswer}
 use Rattle.certificate.proofs.Rows.{reached}
 use Rattle.certificate.proofs.Accept.{encoding-accepted}
-use Rattle.certificate.proofs.Answers.{accepted-both, long}
+use Rattle.certificate.proofs.Answers as C
 use Rattle.plain.specs.Plain.{plain}
 use Rattle.plain.specs.Encoding.{encodeMultipliers, encodeWith, encodePlain}
 use Rattle.plain.specs.Answer.{answer, ownBytes, plainAnswer, plainBuffer}
@@ -95,8 +95,6 @@ module _ (t s : List ℕ) (reg : Register) (sch : Scheme) (o : Opened t s reg sc
   pub own-accepted : (lent : List ℤ) → tableNumbers ≤ length lent →
       checkAnswer t s (ownBytes reg sch) lent ≡ record { number = 0; part = 0; position = 0; bound = plain (coefficient reg) reg sch .target }
   own-accepted lent l =
-      let x = accepted-both t s _ _ _ _ (o .register-reads) (o .scheme-reads) in
-      sym (long t s (ownBytes reg sch) lent _ _ l refl refl .answers)
-      ∙ x .answers (ownBytes reg sch)
+      sym (C.parts-accepted t s (ownBytes reg sch) lent l reg sch o .answers)
       ∙ ap afterCertificate (plain-reads reg sch (o .register-valid) (o .scheme-valid))
       ∙ ap (λ b. record { number = 0; part = 0; position = 0; bound = b }) (plain-bound (coefficient reg) reg sch)

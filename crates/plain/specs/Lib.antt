@@ -1,5 +1,6 @@
--- The certificate of our own: its commands, its bytes, the same read from a table, and what the call answers.
+-- The certificate of our own: its commands, its bytes, and what the call answers.
 pub mod Plain
 pub mod Encoding
-pub mod InTable
 pub mod Answer
+-- not the paper's: the same numbers and commands, as the code reads them from a table
+pub mod InTable

@@ -1,4 +1,5 @@
--- The certificate of our own. c t is the coefficient of term t.
+-- The certificate of our own (the paper's own term; also its plain certificate): it makes every row of R hold by row sums.
+-- c t is the coefficient of term t.
 use Prim.Native.Nat.{ℕ, suc, _+_, _/_}
 use mathlib.Core.List.{List, [], _∷_, _++_}
 use mathlib.Core.Bool.{cond}

@@ -3,6 +3,7 @@ use mathlib.Core.Path.{_≡_, refl, sym, _∙_, ap, ap₂}
 use mathlib.Core.List.{List}
 use Prim.Native.Nat.{ℕ}
 use lib.ListN.{length}
+use Rattle.wire.specs.Number.{Bytes}
 use Rattle.wire.specs.Part.{Reading, refused, accepted}
 use Rattle.wire.specs.Rows.{Progress}
 use Rattle.wire.proofs.Part.{NumberedReading, readPart-numbered, byItself-numbered}
@@ -12,15 +13,17 @@ use Rattle.register.specs.declared.RegisterAnswer.{RegisterAnswer}
 use Rattle.register.specs.Format.{registerPart, registerInJob, registerByItself}
 use Rattle.register.specs.Answer.{registerAnswer}
 use Rattle.register.specs.Valid as R
+use Rattle.register.specs.Encoding.{encodeRegister}
+use Rattle.register.proofs.Accept as A
 use Rattle.register.proofs.Commands as C
-use Rattle.register.proofs.Opened as O
 use Rattle.scheme.specs.declared.Scheme.{Scheme}
 use Rattle.scheme.specs.declared.SchemeAnswer.{SchemeAnswer}
 use Rattle.scheme.specs.Format.{schemePart, schemeInJob, schemeByItself}
 use Rattle.scheme.specs.Answer.{partAnswer, answerAfter, schemeAnswer}
 use Rattle.scheme.specs.Valid.{Valid}
+use Rattle.scheme.specs.Encoding.{encodeScheme}
 use Rattle.scheme.proofs.Commands.{reached}
-use Rattle.scheme.proofs.Accept.{valid-accepted}
+use Rattle.scheme.proofs.Accept.{valid-accepted, accepted-iff}
 
 -- an accepted scheme of an accepted register
 pub record Opened (t s : List ℕ) (reg : Register) (sch : Scheme) : Type 0 where
@@ -34,6 +37,31 @@ pub data Refused (t s : List ℕ) (a : SchemeAnswer) : Type 0 where
   in-register : registerByItself t ≡ refused (a .number) (a .position) → a .part ≡ 1 → Refused t s a
   in-scheme : (p : Progress Register) (end : ℕ) → registerByItself t ≡ accepted p end → schemeByItself (p .gave) s ≡ refused (a .number) (a .position) → a .part ≡ 2 → Refused t s a
 
+-- by the readings
+pub opened-by : (t s : List ℕ) (p : Progress Register) (end : ℕ) (q : Progress Scheme) (end′ : ℕ) →
+    registerByItself t ≡ accepted p end → schemeByItself (p .gave) s ≡ accepted q end′ → Opened t s (p .gave) (q .gave)
+unfolding registerByItself registerInJob schemeByItself schemeInJob
+opened-by t s p end q end′ x y =
+    let (inJob, whole) = byItself-end registerPart t p end x in
+    let (v, l) = A.valid-accepted t p end inJob in
+    let (inJob′, whole′) = byItself-end (schemePart (p .gave)) s q end′ y in
+    let (v′, l′) = valid-accepted (p .gave) v s q end′ inJob′ in
+    record {
+      register-reads = x ∙ ap₂ accepted (rw (← l)) whole;
+      scheme-reads = y ∙ ap₂ accepted (rw (← l′)) whole′;
+      register-valid = v;
+      scheme-valid = v′;
+    }
+
+-- the bytes are those of the register and of the scheme
+module _ (t s : List ℕ) (reg : Register) (sch : Scheme) (o : Opened t s reg sch) where
+  pub register-bytes : Bytes t → t ≡ encodeRegister reg
+  register-bytes b = A.accepted-iff t reg b .0 (o .register-reads) .1
+
+  pub scheme-bytes : s ≡ encodeScheme (reg .choices) sch
+  scheme-bytes = accepted-iff reg (o .register-valid) s sch .0 (o .scheme-reads) .1
+
+-- by the scheme's answer
 module _ (t s : List ℕ) (a : SchemeAnswer) (e : a ≡ schemeAnswer t s) where
   pub opened-refused : (a .number ≡ 0 → ⊥) → Refused t s a
   opened-refused h = go (registerByItself t) refl e
@@ -48,20 +76,17 @@ module _ (t s : List ℕ) (a : SchemeAnswer) (e : a ≡ schemeAnswer t s) where
 
   pub opened : (first : RegisterAnswer) → first ≡ registerAnswer (registerByItself t) → a .number ≡ 0 → Opened t s (first .register) (a .scheme)
   unfolding registerByItself registerInJob schemeByItself schemeInJob
-  opened first d h = go (registerByItself t) d e (byItself-numbered t (registerInJob t) (readPart-numbered registerPart t))
+  opened first d h = go (registerByItself t) refl d e (byItself-numbered t (registerInJob t) (readPart-numbered registerPart t))
     where
-      both : O.Opened t (first .register) → (y : Reading (Progress Scheme)) → schemeByItself (first .register) s ≡ y → a ≡ partAnswer y → NumberedReading y → Opened t s (first .register) (a .scheme)
-      both o (refused n at) y f z = absurd (z (sym (ap (λ r. r .number) f) ∙ h))
-      both o (accepted q end) y f z =
+      both : (p : Progress Register) (end : ℕ) → registerByItself t ≡ accepted p end → first .register ≡ p .gave →
+          (y : Reading (Progress Scheme)) → schemeByItself (p .gave) s ≡ y → a ≡ partAnswer y → NumberedReading y → Opened t s (first .register) (a .scheme)
+      both p end x r (refused n at) y f z = absurd (z (sym (ap (λ r. r .number) f) ∙ h))
+      both p end x r (accepted q end′) y f z =
           let c : a .scheme ≡ q .gave = ap (λ r. r .scheme) f in
-          let (inJob, whole) = byItself-end (schemePart (first .register)) s q end y in
-          let (v, l) = valid-accepted (first .register) (o .valid) s q end inJob in
-          record { register-reads = o .reads; scheme-reads = y ∙ ap₂ accepted (rw (c, ← l)) whole; register-valid = o .valid; scheme-valid = rw c v }
+          rw (r, c) (opened-by t s p end q end′ x y)
 
-      go : (x : Reading (Progress Register)) → first ≡ registerAnswer x → a ≡ answerAfter x s → NumberedReading x → Opened t s (first .register) (a .scheme)
-      go (refused n at) x f z = absurd (z (sym (ap (λ r. r .number) f) ∙ h))
-      go (accepted p end) x f z =
-          let r : p .gave ≡ first .register = sym (ap (λ r. r .register) x) in
-          both (O.opened t first d (ap (λ r. r .number) x)) (schemeByItself (first .register) s) refl
-          (f ∙ ap (λ k. partAnswer (schemeByItself k s)) r)
-          (byItself-numbered s (schemeInJob (first .register) s) (readPart-numbered (schemePart (first .register)) s))
+      go : (x : Reading (Progress Register)) → registerByItself t ≡ x → first ≡ registerAnswer x → a ≡ answerAfter x s → NumberedReading x → Opened t s (first .register) (a .scheme)
+      go (refused n at) x r f z = absurd (z (sym (ap (λ r. r .number) f) ∙ h))
+      go (accepted p end) x r f z =
+          both p end x (ap (λ r. r .register) r) (schemeByItself (p .gave) s) refl f
+          (byItself-numbered s (schemeInJob (p .gave) s) (readPart-numbered (schemePart (p .gave)) s))

@@ -22,7 +22,7 @@ unionOf n sch l r = bitOr (E n sch l) (E n sch r)
 unfoldable pub isNew : ℕ → Scheme → ℕ → Bool
 isNew n sch union = allBelow (variables n sch) (λ v. not (eqb (E n sch v) union))
 
--- l and r are among N variables, or it is refused 5
+-- l or r is not among N variables: refused 5
 abbrev pub unnamed : ℕ → ℕ → ℕ → Bool
 unnamed N l r = leb N l || leb N r
 

@@ -4,7 +4,8 @@ pub mod Variables
 pub mod Format
 pub mod Valid
 pub mod Encoding
-pub mod Sets
 pub mod Answer
 pub mod Filling
 pub mod Function
+-- not the paper's: the array of sets that the code keeps
+pub mod Sets

@@ -8,13 +8,13 @@ use Rattle.scheme.specs.declared.Scheme.{Scheme}
 abbrev pub maxProducts : ℕ
 maxProducts = 32
 
--- the operands of product v, where there are n choices: product number k = n, n + 1, .. stands for variable l times variable r
+-- where there are n choices, product number k = n, n + 1, .. stands for variable l times variable r: its l, and its r
 
 abbrev pub left : ℕ → Scheme → ℕ → ℕ
-left n s v = getD (s .lefts) (v - n) 0
+left n s k = getD (s .lefts) (k - n) 0
 
 abbrev pub right : ℕ → Scheme → ℕ → ℕ
-right n s v = getD (s .rights) (v - n) 0
+right n s k = getD (s .rights) (k - n) 0
 
 -- N
 abbrev pub variables : ℕ → Scheme → ℕ
@@ -24,7 +24,7 @@ variables n s = n + s .products
 abbrev pub side : ℕ → Scheme → ℕ
 side n s = suc (variables n s)
 
--- the split of term t
+-- the split of term t (the paper's own term): the two variables whose product the term is in g, or one variable twice
 
 abbrev pub splitLeft : Scheme → ℕ → ℕ
 splitLeft s t = getD (s .«split_lefts») t 0

@@ -10,6 +10,7 @@ use Rattle.scheme.specs.declared.Scheme.{Scheme}
 use Rattle.scheme.specs.Scheme.{maxProducts, left, right, variables, splitLeft, splitRight}
 use Rattle.scheme.specs.Variables.{E}
 
+-- the arrays have room for 32 products and 256 splits
 pub record Lengths (s : Scheme) : Type 0 where
   pub lefts : length (s .lefts) ≡ maxProducts
   pub rights : length (s .rights) ≡ maxProducts

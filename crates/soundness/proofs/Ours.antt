@@ -15,12 +15,10 @@ use Rattle.register.specs.declared.Register.{Register}
 use Rattle.register.specs.Register.{coefficient}
 use Rattle.register.specs.Format.{registerByItself}
 use Rattle.register.specs.Answer.{registerAnswer}
-use Rattle.register.proofs.Accept as R
 use Rattle.scheme.specs.declared.Scheme.{Scheme}
 use Rattle.scheme.specs.Filling.{Filling}
 use Rattle.scheme.specs.Answer.{schemeAnswer}
-use Rattle.scheme.proofs.Opened.{Opened, opened}
-use Rattle.scheme.proofs.Accept as S
+use Rattle.scheme.proofs.Opened.{Opened, register-bytes, scheme-bytes, opened}
 use Rattle.penalty.specs.Answer.{penaltyTable}
 use Rattle.penalty.specs.Demand.{Holds}
 use Rattle.penalty.specs.Least.{Least}
@@ -30,7 +28,7 @@ use Rattle.certificate.specs.Format.{certificateByItself}
 use Rattle.certificate.specs.Residual.{bound}
 use Rattle.certificate.specs.Check.{afterCertificate, checkAnswer}
 use Rattle.certificate.proofs.Accept.{whole-valid, whole-encodes, encoding-accepted}
-use Rattle.certificate.proofs.Answers.{accepted-both, long, job-numbered}
+use Rattle.certificate.proofs.Answers.{parts-accepted, job-numbered}
 use Rattle.certificate.proofs.Bound.{plan-bound}
 use Rattle.certificate.proofs.SecondOrder.{second-order}
 use Rattle.plain.specs.Answer.{plainAnswer, plainBuffer}
@@ -51,8 +49,7 @@ record Reads (c : ℕ → ℤ) (reg : Register) (sch : Scheme) (s : List ℕ) : 
 
 module _ (t s : List ℕ) (reg : Register) (sch : Scheme) (o : Opened t s reg sch) (lent : List ℤ) (l : tableNumbers ≤ length lent) (k : List ℕ) where
   answer-is : checkAnswer t s k lent ≡ afterCertificate (certificateByItself (coefficient reg) reg sch k)
-  answer-is =
-      sym (long t s k lent _ _ l refl refl .answers) ∙ accepted-both t s _ _ _ _ (o .register-reads) (o .scheme-reads) .answers k
+  answer-is = sym (parts-accepted t s k lent l reg sch o .answers)
 
   reads-accepted : checkAnswer t s k lent .number ≡ 0 → Reads (coefficient reg) reg sch k
   unfolding certificateByItself
@@ -74,7 +71,7 @@ module _ (t s : List ℕ) (z : Accepted t s) (lent : List ℤ) (l : tableNumbers
   o = opened t s (schemeAnswer t s) refl (registerAnswer (registerByItself t)) refl z
 
   holds : Holds (registerOf t) (schemeOf t s) lent (penaltyTable t s lent)
-  holds = made-holds t s lent l _ _ _ _ (o .register-reads) (o .scheme-reads)
+  holds = made-holds t s lent l (registerOf t) (schemeOf t s) o
 
   -- (a)
   least : EqualLeast (valueRead t s (penaltyTable t s lent)) (cost t)
@@ -106,9 +103,9 @@ module _ (t s : List ℕ) (z : Accepted t s) (lent : List ℤ) (l : tableNumbers
   as-written : Bytes t → Bytes s → AsWritten penaltyCall checkCall plainCall t s lent
   as-written b b′ = record {
     register-conditions = o .register-valid;
-    register-bytes = R.accepted-iff t (registerOf t) b .0 (o .register-reads) .1;
+    register-bytes = register-bytes t s (registerOf t) (schemeOf t s) o b;
     scheme-conditions = o .scheme-valid;
-    scheme-bytes = S.accepted-iff (registerOf t) (o .register-valid) s (schemeOf t s) .0 (o .scheme-reads) .1;
+    scheme-bytes = scheme-bytes t s (registerOf t) (schemeOf t s) o;
     penalty-form = holds .reads;
     certificates = λ certificate b e.
         let k = reads-accepted t s _ _ o lent l certificate e in

@@ -1,6 +1,8 @@
 -- `builder::written` meets its contract. By whether the buffer is short.
 use Rattle.scheme.proofs.Encoding.{length-encode}
 use mathlib.Core.Path.{_∙_}
+use Prim.Native.Nat.{_≤_, _<_}
+use lib.ListN.{length}
 use borrow.Author.Tests.{lt-ltb, le-ltb}
 use borrow.Author.Needs.{needs}
 use Rattle.builder.proofs.written.Statement.{statement}
@@ -15,8 +17,10 @@ refused-requires c κs = search needs
 returns : tie.Need-returns
 returns c =
     let z = c .before .before in
-    let sch = z .before .before .args .scheme in
-    let l = rw (z .size-of .ensures) at (c .before .if1 .taken) in
+    let a = z .before .before .args in
+    let sch = a .scheme in
+    let short : length (a .out .now) < z .size-of .result = c .before .if1 .taken in
+    let l = rw (z .size-of .ensures) at short in
     ((λ n. c .refused .ensures ∙ rw (lt-ltb _ _ (rw (← (length-encode n sch)) at l))), λ n. rw (lt-ltb _ _ (rw (← (length-encode n sch)) at l)))
 
 put-scheme-requires : tie.Need-put-scheme-requires
@@ -29,8 +33,10 @@ returns-2 : tie.Need-returns-2
 returns-2 c =
     let k = c .before .before .before .before in
     let z = k .before in
-    let sch = z .before .before .args .scheme in
-    let l = rw (z .size-of .ensures) at (k .if1 .left) in (
+    let a = z .before .before .args in
+    let sch = a .scheme in
+    let fits : z .size-of .result ≤ length (a .out .now) = k .if1 .left in
+    let l = rw (z .size-of .ensures) at fits in (
       (λ n. rw (le-ltb _ _ (rw (← (length-encode n sch)) at l), z .size-of .ensures, length-encode n sch)),
       λ n. rw (le-ltb _ _ (rw (← (length-encode n sch)) at l)) (c .before .before .put-scheme .ensures n),
     )

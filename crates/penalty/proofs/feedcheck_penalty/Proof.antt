@@ -1,8 +1,9 @@
 -- `penalty::feedcheck_penalty` meets its contract. By the table's length, and what reading the two parts by themselves leads to.
-use mathlib.Core.Path.{sym, _∙_}
+use mathlib.Core.Path.{_∙_}
 use native.Mathlib.Omega.{arith}
 use borrow.Author.Needs.{needs}
-use Rattle.penalty.proofs.Answers.{short, long, refused-either, accepted-by}
+use Rattle.scheme.proofs.Opened.{opened-refused, opened}
+use Rattle.penalty.proofs.Answers.{short, part-refused, parts-accepted}
 use Rattle.penalty.proofs.feedcheck_penalty.Statement.{statement}
 use Rattle.penalty.proofs.feedcheck_penalty.Tie as tie
 
@@ -21,15 +22,15 @@ feedcheck-scheme-requires c κs = search needs
 returns-2 : tie.Need-returns-2
 returns-2 c =
     let f = c .before .feedcheck-scheme in
-    let x = refused-either _ _ (f .result) (f .ensures) (c .if2 .taken) _ (c .before .before .before .if1 .left) in
+    let x = part-refused _ _ _ (c .before .before .before .if1 .left) (f .result) (opened-refused _ _ (f .result) (f .ensures) (c .if2 .taken)) in
     (x .answers, x .holds)
 
 penalty-form-requires : tie.Need-penalty-form-requires
 penalty-form-requires c κs =
     let f = c .before .before .feedcheck-scheme in
     let r = c .before .before .before .feedcheck-register in
-    let x = accepted-by _ _ (f .result) (f .ensures) (r .result) (r .ensures) (c .before .if2 .left) in
-    (x .register-valid, (x .scheme-valid, c .before .before .before .before .if1 .left))
+    let o = opened _ _ (f .result) (f .ensures) (r .result) (r .ensures) (c .before .if2 .left) in
+    (o .register-valid, (o .scheme-valid, c .before .before .before .before .if1 .left))
 
 same-length : tie.Need-same-length
 same-length c = search needs
@@ -39,9 +40,9 @@ returns-3 c =
     let f = c .before .before .before .before .feedcheck-scheme in
     let r = c .before .before .before .before .before .feedcheck-register in
     let a = c .before .before .before .before .before .before .before .before .before .args in
-    let x = accepted-by _ _ (f .result) (f .ensures) (r .result) (r .ensures) (c .before .before .before .if2 .left) in
-    let y = long (a .register .now) (a .scheme .now) (a .table .now) _ _ (c .before .before .before .before .before .before .if1 .left) (sym (x .answers)) (c .before .penalty-form .ensures ∙ sym (x .holds _)) in
-    (y .answers, y .holds)
+    let o = opened _ _ (f .result) (f .ensures) (r .result) (r .ensures) (c .before .before .before .if2 .left) in
+    let x = parts-accepted (a .register .now) (a .scheme .now) (a .table .now) (c .before .before .before .before .before .before .if1 .left) _ _ o in
+    (x .answers, c .before .penalty-form .ensures ∙ x .holds)
 
 pub feedcheck-penalty-spec : {M : Type 1} → statement M
 feedcheck-penalty-spec =

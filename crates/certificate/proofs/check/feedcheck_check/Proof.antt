@@ -1,12 +1,13 @@
 -- `certificate::check::feedcheck_check` meets its contract. By the table's length, what reading the first two parts by themselves
 -- leads to, and what the check of the third does.
-use mathlib.Core.Path.{sym, _∙_, ap}
+use mathlib.Core.Path.{_∙_, ap}
 use native.Mathlib.Omega.{arith}
 use lib.IntN.{ℤ}
 use mir.Facts.{toZ-ofZ}
 use borrow.Author.Needs.{needs}
+use Rattle.scheme.proofs.Opened.{opened-refused, opened}
 use Rattle.certificate.specs.declared.CheckAnswer.{CheckAnswer}
-use Rattle.certificate.proofs.Answers.{third-refused, third-accepted, short, long, refused-either, accepted-by}
+use Rattle.certificate.proofs.Answers.{third-refused, third-accepted, short, part-refused, parts-accepted}
 use Rattle.certificate.proofs.check.feedcheck_check.Statement.{statement}
 use Rattle.certificate.proofs.check.feedcheck_check.Tie as tie
 
@@ -31,15 +32,15 @@ refused-requires-2 c κs = search needs
 returns-2 : tie.Need-returns-2
 returns-2 c =
     let f = c .before .before .feedcheck-scheme in
-    let x = refused-either _ _ (f .result) (f .ensures) (c .before .if2 .taken) _ _ (c .before .before .before .before .if1 .left) in
+    let x = part-refused _ _ _ _ (c .before .before .before .before .if1 .left) (f .result) (opened-refused _ _ (f .result) (f .ensures) (c .before .if2 .taken)) in
     (c .refused2 .ensures ∙ x .answers, x .holds)
 
 check-whole-requires : tie.Need-check-whole-requires
 check-whole-requires c κs =
     let f = c .before .before .feedcheck-scheme in
     let r = c .before .before .before .feedcheck-register in
-    let x = accepted-by _ _ (f .result) (f .ensures) (r .result) (r .ensures) (c .before .if2 .left) in
-    (x .register-valid, (x .scheme-valid, c .before .before .before .before .if1 .left))
+    let o = opened _ _ (f .result) (f .ensures) (r .result) (r .ensures) (c .before .if2 .left) in
+    (o .register-valid, (o .scheme-valid, c .before .before .before .before .if1 .left))
 
 refused-requires-3 : tie.Need-refused-requires-3
 refused-requires-3 c κs = search needs
@@ -53,12 +54,10 @@ returns-3 c =
     let f = c .before .before .before .before .before .before .feedcheck-scheme in
     let r = c .before .before .before .before .before .before .before .feedcheck-register in
     let a = c .before .before .before .before .before .before .before .before .before .before .before .before .args in
-    let x = accepted-by _ _ (f .result) (f .ensures) (r .result) (r .ensures) (c .before .before .before .before .before .if2 .left) in
-    let y =
-    long (a .register .now) (a .scheme .now) (a .certificate .now) (a .table .now) _ _ (c .before .before .before .before .before .before .before .before .if1 .left)
-    (third-refused _ _ _ _ (k .result) (k .ensures .0) (c .before .if3 .taken) ∙ sym (x .answers _))
-    (k .ensures .1 ∙ sym (x .holds _ _)) in
-    (c .refused3 .ensures ∙ y .answers, y .holds)
+    let o = opened _ _ (f .result) (f .ensures) (r .result) (r .ensures) (c .before .before .before .before .before .if2 .left) in
+    let x = parts-accepted (a .register .now) (a .scheme .now) (a .certificate .now) (a .table .now) (c .before .before .before .before .before .before .before .before .if1 .left) _ _ o in
+    let y = third-refused _ _ _ _ (k .result) (k .ensures .0) (c .before .if3 .taken) in
+    (c .refused3 .ensures ∙ y ∙ x .answers, k .ensures .1 ∙ x .holds)
 
 same-length-2 : tie.Need-same-length-2
 same-length-2 c = search needs
@@ -69,12 +68,10 @@ returns-4 c =
     let f = c .before .before .before .before .before .before .feedcheck-scheme in
     let r = c .before .before .before .before .before .before .before .feedcheck-register in
     let a = c .before .before .before .before .before .before .before .before .before .before .before .before .args in
-    let x = accepted-by _ _ (f .result) (f .ensures) (r .result) (r .ensures) (c .before .before .before .before .before .if2 .left) in
-    let y =
-    long (a .register .now) (a .scheme .now) (a .certificate .now) (a .table .now) _ _ (c .before .before .before .before .before .before .before .before .if1 .left)
-    (third-accepted _ _ _ _ (k .result) (k .ensures .0) (c .before .if3 .left) ∙ sym (x .answers _))
-    (k .ensures .1 ∙ sym (x .holds _ _)) in
-    (ap inBound (toZ-ofZ (record { sfits = c .struct-told .given .1 .1 .0 .1 })) ∙ y .answers, y .holds)
+    let o = opened _ _ (f .result) (f .ensures) (r .result) (r .ensures) (c .before .before .before .before .before .if2 .left) in
+    let x = parts-accepted (a .register .now) (a .scheme .now) (a .certificate .now) (a .table .now) (c .before .before .before .before .before .before .before .before .if1 .left) _ _ o in
+    let y = third-accepted _ _ _ _ (k .result) (k .ensures .0) (c .before .if3 .left) in
+    (ap inBound (toZ-ofZ (record { sfits = c .struct-told .given .1 .1 .0 .1 })) ∙ y ∙ x .answers, k .ensures .1 ∙ x .holds)
   where
     inBound : ℤ → CheckAnswer
     inBound b = record { number = 0; part = 0; position = 0; bound = b }
