@@ -13,7 +13,7 @@ ghost use mathlib.Core.Path.{_≡_};
 ghost use mathlib.Core.Bool.{true};
 ghost use Prim.Native.Nat.{ℕ, _≤_, _<_};
 ghost use lib.Dec.{eqb};
-ghost use lib.IntN.{pos, natAbs};
+ghost use lib.IntN.{pos, natAbs, _*ℤ_};
 ghost use mathlib.Core.List.{[], _∷_};
 ghost use Rattle.forms.specs.Form.{mono, times};
 ghost use Rattle.forms.specs.Store.{addForm, Bounded};
@@ -27,9 +27,9 @@ ghost use lib.ListN.{length};
 ghost use Rattle.forms.specs.Table.{tableNumbers, withTable};
 ghost use Rattle.certificate.specs.Certificate.{Certificate};
 ghost use Rattle.certificate.specs.Format.{commandsInJob};
-ghost use Rattle.certificate.specs.Limits.{maxMultiplier, squareEntries};
+ghost use Rattle.certificate.specs.Limits.{maxMultiplier, maxWeight, squareEntries, maxEntry};
 ghost use Rattle.certificate.specs.Rules.{minus1};
-ghost use Rattle.certificate.specs.Residual.{squareAt, R};
+ghost use Rattle.certificate.specs.Residual.{R};
 ghost use Rattle.certificate.specs.Answer.{squareIn};
 ghost use Rattle.certificate.specs.Built.{begunBy, Reads, Addable, added, SquareRange, lessWhere};
 
@@ -112,29 +112,33 @@ pub fn add_multiplier(table: &mut [i64], side: usize, scheme: Scheme, n: usize, 
 }
 
 // w·v_i·v_j.
-fn square_product(square: Square, i: usize, j: usize) -> i64
-    requires { ⌜ SquareRange (squareIn square) ⌝ }
-    requires { ⌜ (i < squareEntries) × (j < squareEntries) ⌝ }
-    ensures { λ r. ⌜ r ≡ squareAt (squareIn square) i j ⌝ }
+fn square_product(w: u32, u: i16, v: i16) -> i64
+    requires { ⌜ w ≤ maxWeight ⌝ }
+    requires { ⌜ (natAbs u ≤ maxEntry) × (natAbs v ≤ maxEntry) ⌝ }
+    ensures { λ r. ⌜ r ≡ pos w *ℤ u *ℤ v ⌝ }
 {
-    let w = square.weight;
-    let u = square.entries[i];
-    let v = square.entries[j];
     (w as i64) * (u as i64) * (v as i64)
 }
 
-// Subtracts a square at each column of a row.
-fn subtract_row(table: &mut [i64], side: usize, square: Square, row: usize)
-    requires { ⌜ SquareRange (squareIn square) ⌝ }
+// Subtracts a square, by its weight and its entries, at each column of a row.
+fn subtract_row(
+    table: &mut [i64],
+    side: usize,
+    weight: u32,
+    entries: &[i16; Square::ENTRIES],
+    row: usize,
+)
+    requires { ⌜ SquareRange (record { w = weight; v = now entries }) ⌝ }
     requires { ⌜ (row < side) × (side ≤ squareEntries) ⌝ }
     requires { ⌜ Bounded side 4_000_000_000_000_000_000 (now table) ⌝ }
-    ensures { λ _. ⌜ now (table .exit) ≡ lessWhere side (squareIn square) (λ i j. eqb i row) (now (table .entry)) ⌝ }
+    ensures { λ _. ⌜ now (table .exit) ≡
+        lessWhere side (record { w = weight; v = now (entries .entry) }) (λ i j. eqb i row) (now (table .entry)) ⌝ }
 {
     let mut j = 0;
     while j < side {
         let at = row * side + j;
         let x = table[at];
-        table[at] = x - square_product(square, row, j);
+        table[at] = x - square_product(weight, entries[row], entries[j]);
         j += 1;
     }
 }
@@ -146,9 +150,10 @@ pub fn subtract_square(table: &mut [i64], side: usize, square: Square)
     requires { ⌜ Bounded side 3_000_000_000_000_000_000 (now table) ⌝ }
     ensures { λ _. ⌜ now (table .exit) ≡ lessWhere side (squareIn square) (λ i j. true) (now (table .entry)) ⌝ }
 {
+    let weight = square.weight;
     let mut row = 0;
     while row < side {
-        subtract_row(table, side, square, row);
+        subtract_row(table, side, weight, &square.entries, row);
         row += 1;
     }
 }

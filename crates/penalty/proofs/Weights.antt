@@ -2,6 +2,7 @@
 use mathlib.Core.Path.{_≡_, refl, sym, _∙_}
 use mathlib.Core.Logic.{_⊎_, inl, inr, ⊎-elim, _↔_}
 use mathlib.Core.Bool.{Bool, true, false, cond, _||_}
+use mathlib.Core.List.{List}
 use Prim.Native.Nat.{ℕ, _*_, _≤_, _<_}
 use native.Mathlib.Nat.{le-refl}
 use native.Mathlib.Omega.{arith}
@@ -24,6 +25,7 @@ use Rattle.integers.proofs.Lists.{T-or}
 use Rattle.scheme.proofs.Table.{split-of}
 use Rattle.scheme.proofs.Variables.{upward-choice, upward-product, left-falls, variable-ind}
 use Rattle.penalty.specs.Weights.{reaches, uses, contribution, weight}
+use Rattle.penalty.specs.Operands.{Lent, Falling}
 
 -- ---- which products a variable reaches
 
@@ -148,6 +150,22 @@ uses-iff r s valid t k h a m = (
 
     of-right : T (reaches n s k (splitRight s t)) ↔ ((splitRight s t ≡ k) ⊎ OperandOf n s (λ j. reaches n s j (splitRight s t)) k)
     of-right = reaches-iff n s (valid .within .products) k (splitRight s t) a m (split .there)
+
+-- ---- operands that are lent
+
+pub falling-below : {n v w : ℕ} {ls rs : List ℕ} → Falling n v ls rs → w ≤ v → Falling n w ls rs
+falling-below h l = record { there = omega (arith, h .there); falls = λ u a b. h .falls u a (omega arith) }
+
+pub falling-of : {r : Register} {s : Scheme} → Valid r s → (v : ℕ) → v < variables (r .choices) s → Falling (r .choices) v (s .lefts) (s .rights)
+falling-of {r} {s} valid v l =
+    let products = valid .within .products in
+    record {
+      there = omega (arith, valid .within .products-within);
+      falls = λ u a b. (left-falls (r .choices) s products u a (omega arith), products u a (omega arith) .falls);
+    }
+
+pub lent-of : {r : Register} {s : Scheme} → Valid r s → Lent (r .choices) s (s .lefts) (s .rights)
+lent-of valid = record { lefts-are = refl; rights-are = refl; products = valid .within .products }
 
 -- ---- weights
 

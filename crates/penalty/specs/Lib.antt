@@ -1,5 +1,6 @@
 -- The penalty form.
 pub mod Weights
+pub mod Operands
 pub mod Penalty
 pub mod Carried
 pub mod Least

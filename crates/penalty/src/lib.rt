@@ -7,10 +7,11 @@ use register::feedcheck_register;
 use scheme::Scheme;
 use scheme::feedcheck_scheme;
 ghost use mathlib.Core.Path.{_≡_};
-ghost use mathlib.Core.Bool.{cond};
+ghost use mathlib.Core.Bool.{cond, _||_};
 ghost use Prim.Native.Nat.{ℕ, _+_, _≤_, _<_};
 ghost use lib.IntN.{pos, natAbs, _*ℤ_};
 ghost use lib.ListN.{length};
+ghost use Rattle.integers.specs.Integer.{abs};
 ghost use Rattle.integers.specs.Lists.{joinBelow};
 ghost use Rattle.forms.specs.Form.{times, entry};
 ghost use Rattle.forms.specs.Table.{tableNumbers, withTable};
@@ -18,10 +19,11 @@ ghost use Rattle.forms.specs.Store.{addForm, Bounded};
 ghost use Rattle.register.specs.Limits.{maxCoefficient};
 ghost use Rattle.register.specs.Register.{coefficient};
 ghost use Rattle.register.specs.Valid.{Valid as ValidRegister};
-ghost use Rattle.scheme.specs.Scheme.{maxProducts, variables, side as sideOf};
+ghost use Rattle.scheme.specs.Scheme.{variables, side as sideOf};
 ghost use Rattle.scheme.specs.Function.{term, termOf, g};
-ghost use Rattle.scheme.specs.Valid.{Products, Valid};
-ghost use Rattle.penalty.specs.Weights.{reaches, contribution, weight};
+ghost use Rattle.scheme.specs.Valid.{Valid};
+ghost use Rattle.penalty.specs.Weights.{reaches, weight};
+ghost use Rattle.penalty.specs.Operands.{Lent, Falling};
 ghost use Rattle.penalty.specs.Penalty.{bracket, penaltyOf, h};
 ghost use Rattle.penalty.specs.Answer.{penaltyAnswer, penaltyTable};
 
@@ -33,12 +35,17 @@ pub struct PenaltyAnswer {
     pub position: usize,
 }
 
-// Whether variable v is product k, or k is an operand of v, or of an operand of v, and so on down. There are n choices.
-fn reaches(scheme: Scheme, n: usize, k: usize, v: usize) -> bool
-    requires { ⌜ Products n scheme ⌝ }
-    requires { ⌜ v < variables n scheme ⌝ }
-    requires { ⌜ scheme .products ≤ maxProducts ⌝ }
-    ensures { λ b. ⌜ b ≡ reaches n scheme k v ⌝ }
+// Whether variable v is product k, or k is an operand of v, or of an operand of v, and so on down. There are n choices, and the
+// products' operands are lent.
+fn reaches<'a>(
+    lefts: &'a [u8; Scheme::PRODUCTS],
+    rights: &'a [u8; Scheme::PRODUCTS],
+    n: usize,
+    k: usize,
+    v: usize,
+) -> bool
+    requires { ⌜ Falling n v (now lefts) (now rights) ⌝ }
+    ensures { λ b. ⌜ ((s : Scheme) → Lent n s (now (lefts .entry)) (now (rights .entry)) → v < variables n s → b ≡ reaches n s k v) ⌝ }
 {
     if v < n {
         return false;
@@ -51,12 +58,12 @@ fn reaches(scheme: Scheme, n: usize, k: usize, v: usize) -> bool
         return true;
     }
     let i = v - n;
-    let l = scheme.lefts[i];
-    let r = scheme.rights[i];
-    if reaches(scheme, n, k, l as usize) {
+    let l = lefts[i];
+    let r = rights[i];
+    if reaches(lefts, rights, n, k, l as usize) {
         return true;
     }
-    reaches(scheme, n, k, r as usize)
+    reaches(lefts, rights, n, k, r as usize)
 }
 
 // The magnitude of a term's coefficient, once, where the left or the right variable of its split reaches the product.
@@ -70,19 +77,24 @@ fn once(left: bool, right: bool, size: u64) -> u64
     if right { size } else { 0 }
 }
 
-// What term t adds to the weight of product k.
-fn contribution(register: Register, scheme: Scheme, k: usize, t: usize) -> u64
-    requires { ⌜ ValidRegister register ⌝ }
-    requires { ⌜ Valid register scheme ⌝ }
-    requires { ⌜ t < register .terms ⌝ }
-    ensures { λ r. ⌜ pos r ≡ contribution (coefficient register) (register .choices) scheme k t ⌝ }
+// What a term adds to the weight of product k, by its split l and r and its coefficient c.
+fn contribution<'a>(
+    lefts: &'a [u8; Scheme::PRODUCTS],
+    rights: &'a [u8; Scheme::PRODUCTS],
+    n: usize,
+    k: usize,
+    l: u8,
+    r: u8,
+    c: i32,
+) -> u64
+    requires { ⌜ Falling n r (now lefts) (now rights) ⌝ }
+    requires { ⌜ l ≤ r ⌝ }
+    requires { ⌜ natAbs c ≤ maxCoefficient ⌝ }
+    ensures { λ x. ⌜ ((s : Scheme) → Lent n s (now (lefts .entry)) (now (rights .entry)) → r < variables n s →
+        pos x ≡ cond (reaches n s k l || reaches n s k r) (abs c) (pos 0)) ⌝ }
 {
-    let n = register.choices;
-    let c = register.coefficients[t];
-    let l = scheme.split_lefts[t];
-    let r = scheme.split_rights[t];
-    let left = reaches(scheme, n, k, l as usize);
-    let right = reaches(scheme, n, k, r as usize);
+    let left = reaches(lefts, rights, n, k, l as usize);
+    let right = reaches(lefts, rights, n, k, r as usize);
     once(left, right, wire::magnitude(c as i64))
 }
 
@@ -92,11 +104,15 @@ fn weight(register: Register, scheme: Scheme, k: usize) -> u64
     requires { ⌜ Valid register scheme ⌝ }
     ensures { λ r. ⌜ pos r ≡ weight (coefficient register) register scheme k ⌝ }
 {
+    let n = register.choices;
     let terms = register.terms;
     let mut total: u64 = 0;
     let mut t = 0;
     while t < terms {
-        total += contribution(register, scheme, k, t);
+        let l = scheme.split_lefts[t];
+        let r = scheme.split_rights[t];
+        let c = register.coefficients[t];
+        total += contribution(&scheme.lefts, &scheme.rights, n, k, l, r, c);
         t += 1;
     }
     total

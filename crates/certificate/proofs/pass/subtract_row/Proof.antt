@@ -6,18 +6,19 @@ use mathlib.Core.List.{List}
 use native.Mathlib.Omega.{arith}
 use native.Mathlib.Numerals.{add-one}
 use lib.Dec.{eqb, ltb}
-use lib.IntN.{ℤ, natAbs, _-ℤ_}
-use lib.ListN.{length, set}
-use mir.Syntax.{w64}
+use lib.IntN.{ℤ, pos, natAbs, _-ℤ_, _*ℤ_}
+use lib.ListN.{length, getD, set}
+use mir.Syntax.{w16, w64}
 use mir.Val.{toZ, ofZ}
 use mir.Facts.{toZ-ofZ}
+use borrow.Author.Needs.{needs}
 use borrow.Author.Tests.{le-ltb, lt-ltb}
 use Rattle.integers.proofs.Order.{natAbs-sub}
 use Rattle.integers.proofs.Machine.{fits-signed, read-signed}
 use Rattle.forms.proofs.Store.{place-inside}
+use Rattle.certificate.specs.Limits.{squareEntries, maxEntry}
 use Rattle.certificate.specs.Certificate.{Square}
 use Rattle.certificate.specs.Residual.{squareAt}
-use Rattle.certificate.specs.Answer.{squareIn}
 use Rattle.certificate.specs.Dominance.{cells}
 use Rattle.certificate.specs.Built.{lessWhere}
 use Rattle.certificate.proofs.Squares.{product-small, joins-next, joins-and, less-at, less-length, less-cong, less-none, less-one, less-then}
@@ -41,11 +42,15 @@ module _ (n : ℕ) (q : Square) (i j : ℕ) (t t₀ : List ℤ) (room : n * n �
       less-one n q t i j (rw done-length room) l m
       ∙ rw (d, add-one j) (less-then n q (λ k h _ _. joins-and (eqb k i) (joins-next h j)) t₀ room)
 
+-- the square by its weight and its entries
+abbrev squareOf : ℕ → List ℤ → Square
+squareOf w v = record { w = w; v = v }
+
 abbrev Inv-loop : tie.InvT-loop
-Inv-loop table₀ side square row j₀ table j = (j ≤ side) × (table ≡ firstColumns side (squareIn square) row j table₀)
+Inv-loop table₀ side weight entries row j₀ table j = (j ≤ side) × (table ≡ firstColumns side (squareOf weight entries) row j table₀)
 
 abbrev μ-loop : tie.MeasureT-loop
-μ-loop table₀ side square row j₀ table j = side - j
+μ-loop table₀ side weight entries row j₀ table j = side - j
 
 -- a turn
 module _ (c : tie.In-loop Inv-loop μ-loop) where
@@ -56,13 +61,24 @@ module _ (c : tie.In-loop Inv-loop μ-loop) where
   n = start .args .side
 
   abbrev q : Square
-  q = squareIn (start .args .square)
+  q = squareOf (start .args .weight) (start .args .entries .now)
 
   abbrev row : ℕ
   row = start .args .row
 
   abbrev j : ℕ
   j = c .before .loop .j
+
+  -- an entry of the square, and as the code has it
+
+  abbrev v : ℕ → ℤ
+  v i = getD (q .v) i (pos 0)
+
+  abbrev had : ℕ → ℤ
+  had i = toZ w16 (ofZ w16 (v i))
+
+  had-is : (i : ℕ) → i < squareEntries → had i ≡ v i
+  had-is i l = read-signed w16 (v i) (omega (arith, start .pre .0 .entries-within i l))
 
   abbrev x : ℤ
   x = cells n (c .before .loop .table) row j
@@ -75,20 +91,28 @@ module _ (c : tie.In-loop Inv-loop μ-loop) where
     inside : row * n + j < length (c .before .loop .table)
     x-small : natAbs x ≤ 4_000_000_000_000_000_000
     y-small : natAbs y ≤ 100_000_000_000_000
+    row-small : natAbs (had row) ≤ maxEntry
+    column-small : natAbs (had j) ≤ maxEntry
+    y-is : pos (q .w) *ℤ had row *ℤ had j ≡ y
 
   turn : Turn
   turn =
       let h = start .pre .1 .1 in
       let p = place-inside n row j (start .pre .1 .0 .0) (omega arith) in
+      let r : row < squareEntries = omega (arith, start .pre .1 .0 .0, start .pre .1 .0 .1) in
+      let l : j < squareEntries = omega (arith, start .pre .1 .0 .1) in
       record {
         there = omega (arith, p, h .long);
         inside = omega (arith, p, h .long, done-length n q row j _ _ (h .long) (c .before .loop .inv .1));
         x-small = rw (untouched n q row j _ _ (h .long) (c .before .loop .inv .1) (start .pre .1 .0 .0) (omega arith)) (h .low (row * n + j) p);
-        y-small = product-small q (start .pre .0) row j (omega (arith, start .pre .1 .0 .0, start .pre .1 .0 .1)) (omega (arith, start .pre .1 .0 .1));
+        y-small = product-small q (start .pre .0) row j r l;
+        row-small = rw (had-is row r) (start .pre .0 .entries-within row r);
+        column-small = rw (had-is j l) (start .pre .0 .entries-within j l);
+        y-is = ap₂ (λ a b. pos (q .w) *ℤ a *ℤ b) (had-is row r) (had-is j l);
       }
 
 loop-holds : tie.Need-loop-holds Inv-loop μ-loop
-loop-holds c = (omega arith, less-none (c .args .side) (squareIn (c .args .square)) (λ k l. eqb k (c .args .row) && ltb l 0) (c .args .table .now) (c .pre .1 .1 .long) (λ i j _ _. rw (le-ltb j 0 (omega arith)) (and-false (eqb i (c .args .row)))))
+loop-holds c = (omega arith, less-none (c .args .side) (squareOf (c .args .weight) (c .args .entries .now)) (λ k l. eqb k (c .args .row) && ltb l 0) (c .args .table .now) (c .pre .1 .1 .long) (λ i j _ _. rw (le-ltb j 0 (omega arith)) (and-false (eqb i (c .args .row)))))
 
 mul-at : tie.Need-mul-at Inv-loop μ-loop
 mul-at c = omega (arith, turn c .there)
@@ -102,18 +126,29 @@ mul-x c = omega (arith, turn c .there)
 slice-copy-out-x : tie.Need-slice-copy-out-x Inv-loop μ-loop
 slice-copy-out-x c = turn c .inside
 
+mul-square-product : tie.Need-mul-square-product Inv-loop μ-loop
+mul-square-product c = search needs
+
+element-copy-out-square-product : tie.Need-element-copy-out-square-product Inv-loop μ-loop
+element-copy-out-square-product c = search needs
+
+mul-square-product-2 : tie.Need-mul-square-product-2 Inv-loop μ-loop
+mul-square-product-2 c = search needs
+
+element-copy-out-square-product-2 : tie.Need-element-copy-out-square-product-2 Inv-loop μ-loop
+element-copy-out-square-product-2 c = search needs
+
 square-product-requires : tie.Need-square-product-requires Inv-loop μ-loop
-square-product-requires c κs =
-    let b = c .before .before .before in (b .pre .0, (omega (arith, b .pre .1 .0 .0, b .pre .1 .0 .1), omega (arith, b .pre .1 .0 .1)))
+square-product-requires c κs = let t = turn (c .before .before .before) in (start (c .before .before .before) .pre .0 .w-within, (t .row-small, t .column-small))
 
 -- what is stored
 module _ (c : tie.After-square-product Inv-loop μ-loop) where
   abbrev k : tie.In-loop Inv-loop μ-loop
-  k = c .before .before
+  k = c .before .before .before .before
 
   difference : toZ w64 (ofZ w64 (x k)) -ℤ toZ w64 (ofZ w64 (c .square-product .result)) ≡ x k -ℤ y k
   difference =
-      ap₂ _-ℤ_ (read-signed w64 (x k) (omega (arith, turn k .x-small))) (toZ-ofZ (record { sfits = c .square-product .ok }) ∙ c .square-product .ensures)
+      ap₂ _-ℤ_ (read-signed w64 (x k) (omega (arith, turn k .x-small))) (toZ-ofZ (record { sfits = c .square-product .ok }) ∙ c .square-product .ensures ∙ turn k .y-is)
 
   small : natAbs (x k -ℤ y k) ≤ 4_000_100_000_000_000_000
   small = omega (arith, natAbs-sub (x k) (y k), turn k .x-small, turn k .y-small)
@@ -121,8 +156,8 @@ module _ (c : tie.After-square-product Inv-loop μ-loop) where
 sub-table : tie.Need-sub-table Inv-loop μ-loop
 sub-table c = rw (difference c) (fits-signed w64 _ (omega (arith, small c)))
 
-mul-t9 : tie.Need-mul-t9 Inv-loop μ-loop
-mul-t9 c = omega (arith, turn (k c) .there)
+mul-t21 : tie.Need-mul-t21 Inv-loop μ-loop
+mul-t21 c = omega (arith, turn (k c) .there)
 
 slice-set-from-table : tie.Need-slice-set-from-table Inv-loop μ-loop
 slice-set-from-table c = turn (k c) .inside
@@ -142,13 +177,13 @@ loop-again c =
     )
 
 same-length : tie.Need-same-length Inv-loop μ-loop
-same-length c = let b = c .before .before in done-length (b .args .side) (squareIn (b .args .square)) (b .args .row) (c .before .loop .j) _ _ (b .pre .1 .1 .long) (c .before .loop .inv .1)
+same-length c = let b = c .before .before in done-length (b .args .side) (squareOf (b .args .weight) (b .args .entries .now)) (b .args .row) (c .before .loop .j) _ _ (b .pre .1 .1 .long) (c .before .loop .inv .1)
 
 returns : tie.Need-returns Inv-loop μ-loop
 returns c =
     let b = c .before .before in
     c .before .loop .inv .1
-    ∙ less-cong (b .args .side) (squareIn (b .args .square)) _ _ (b .args .table .now) (λ i j l m. rw (lt-ltb j (c .before .loop .j) (omega arith)) (and-true (eqb i (b .args .row))))
+    ∙ less-cong (b .args .side) (squareOf (b .args .weight) (b .args .entries .now)) _ _ (b .args .table .now) (λ i j l m. rw (lt-ltb j (c .before .loop .j) (omega arith)) (and-true (eqb i (b .args .row))))
 
 pub subtract-row-spec : {M : Type 1} → statement M
 subtract-row-spec =
@@ -161,9 +196,13 @@ subtract-row-spec =
     add-at
     mul-x
     slice-copy-out-x
+    mul-square-product
+    element-copy-out-square-product
+    mul-square-product-2
+    element-copy-out-square-product-2
     square-product-requires
     sub-table
-    mul-t9
+    mul-t21
     slice-set-from-table
     add-j
     loop-less
