@@ -5,6 +5,7 @@ use Prim.Native.Nat.{ℕ, _+_, _*_}
 use native.Mathlib.Omega.{arith}
 use lib.ListN.{length}
 use lib.Dec.{ltb}
+use Rattle.wire.specs.Number.{withFront}
 use Rattle.wire.specs.Part.{Reading, refused, accepted, readPart, byItself}
 use Rattle.wire.specs.Rows.{Progress}
 use Rattle.integers.proofs.Lists.{flag}
@@ -20,7 +21,7 @@ use Rattle.scheme.specs.declared.Scheme.{Scheme}
 use Rattle.builder.specs.Builder.{stopped, built, build}
 use Rattle.scheme.specs.Encoding.{encodeScheme}
 use Rattle.builder.proofs.Position.{term-position}
-use Rattle.builder.specs.Answer.{refusedAnswer, bytesAnswer, bytesBuffer, builtAnswer, builtBuffer, answerAfter, bufferAfter, buildAnswer, buildBuffer}
+use Rattle.builder.specs.Answer.{refusedAnswer, bytesAnswer, builtAnswer, builtBuffer, answerAfter, bufferAfter, buildAnswer, buildBuffer}
 
 module _ (s : List ℕ) where
   numbered : NumberedReading (registerByItself s)
@@ -70,5 +71,5 @@ module _ (s : List ℕ) where
 
       -- a scheme is built
       pub build-whole : (sch : Scheme) → built sch ≡ build (read .register) →
-          (bytesAnswer (length buffer) (encodeScheme (read .register .choices) sch) ≡ buildAnswer s buffer) × (bytesBuffer buffer (encodeScheme (read .register .choices) sch) ≡ buildBuffer s buffer)
+          (bytesAnswer (length buffer) (encodeScheme (read .register .choices) sch) ≡ buildAnswer s buffer) × (withFront (encodeScheme (read .register .choices) sch) buffer ≡ buildBuffer s buffer)
       build-whole sch d = (sym (taken .answer ∙ rw (← d)), sym (taken .rest ∙ rw (← d)))

@@ -14,7 +14,8 @@ use Rattle.scheme.specs.Variables.{E, upTo, upward}
 use Rattle.register.proofs.Example.{exampleRegister}
 use Rattle.scheme.proofs.Example.{builtScheme}
 use Rattle.scheme.specs.Encoding.{encodeProduct, encodeSplit, encodeScheme}
-use Rattle.builder.specs.Answer.{bytesBuffer, builtBuffer}
+use Rattle.wire.specs.Number.{withFront}
+use Rattle.builder.specs.Answer.{builtBuffer}
 use Rattle.builder.specs.Builder.{andThen, choicesOf, firstWith, joinPair, pairUp, reduce, splitOf, buildTerm, built, follow, buildFrom, build}
 
 -- the builder makes product 3 = (0,1), splits (0,0), (1,1), (2,3)
@@ -26,7 +27,7 @@ w3 = refl
 abbrev pub w3Bytes : List ℕ
 w3Bytes = 0x21 ∷ 0 ∷ 1 ∷ 0x22 ∷ 0 ∷ 0 ∷ 0x22 ∷ 1 ∷ 1 ∷ 0x22 ∷ 2 ∷ 3 ∷ 0x2F ∷ []
 
-pub w3-bytes : (buffer : List ℕ) → builtBuffer exampleRegister buffer (build exampleRegister) ≡ bytesBuffer buffer w3Bytes
+pub w3-bytes : (buffer : List ℕ) → builtBuffer exampleRegister buffer (build exampleRegister) ≡ withFront w3Bytes buffer
 unfolding encodeScheme encodeProduct encodeSplit joinBelow bytesOf
 w3-bytes buffer = ap (builtBuffer exampleRegister buffer) w3
 
@@ -45,6 +46,6 @@ w4 = refl
 abbrev pub w4Bytes : List ℕ
 w4Bytes = 0x21 ∷ 0 ∷ 1 ∷ 0x21 ∷ 2 ∷ 3 ∷ 0x21 ∷ 5 ∷ 6 ∷ 0x22 ∷ 4 ∷ 7 ∷ 0x2F ∷ []
 
-pub w4-bytes : (buffer : List ℕ) → builtBuffer five buffer (build five) ≡ bytesBuffer buffer w4Bytes
+pub w4-bytes : (buffer : List ℕ) → builtBuffer five buffer (build five) ≡ withFront w4Bytes buffer
 unfolding encodeScheme encodeProduct encodeSplit joinBelow bytesOf
 w4-bytes buffer = ap (builtBuffer five buffer) w4

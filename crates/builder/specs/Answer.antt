@@ -1,9 +1,10 @@
 -- What the builder's call answers, and the buffer that it leaves.
 use Prim.Native.Nat.{ℕ}
 use mathlib.Core.Bool.{cond}
-use mathlib.Core.List.{List, _++_}
-use lib.ListN.{length, drop}
+use mathlib.Core.List.{List}
+use lib.ListN.{length}
 use lib.Dec.{ltb}
+use Rattle.wire.specs.Number.{withFront}
 use Rattle.wire.specs.Part.{Reading, refused, accepted}
 use Rattle.wire.specs.Rows.{Progress}
 use Rattle.register.specs.declared.Register.{Register}
@@ -24,10 +25,6 @@ acceptedAnswer count = record { number = 0; part = 0; position = 0; count = coun
 abbrev pub bytesAnswer : ℕ → List ℕ → BuildAnswer
 bytesAnswer room bytes = cond (ltb room (length bytes)) (refusedAnswer 11 0 0) (acceptedAnswer (length bytes))
 
--- and what the buffer holds then: the bytes, and past them what it held; all that it held where it is short
-abbrev pub bytesBuffer : List ℕ → List ℕ → List ℕ
-bytesBuffer buffer bytes = cond (ltb (length buffer) (length bytes)) buffer (bytes ++ drop (length bytes) buffer)
-
 -- of what building leads to: 10 at the term that needs a 33rd product
 
 abbrev pub builtAnswer : Register → ℕ → Built → BuildAnswer
@@ -36,7 +33,7 @@ builtAnswer reg room (built sch) = bytesAnswer room (encodeScheme (reg .choices)
 
 abbrev pub builtBuffer : Register → List ℕ → Built → List ℕ
 builtBuffer reg buffer (stopped t) = buffer
-builtBuffer reg buffer (built sch) = bytesBuffer buffer (encodeScheme (reg .choices) sch)
+builtBuffer reg buffer (built sch) = withFront (encodeScheme (reg .choices) sch) buffer
 
 -- once the register by itself is read
 

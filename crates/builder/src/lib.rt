@@ -15,7 +15,8 @@ ghost use Rattle.scheme.specs.Sets.{SetsBelow};
 ghost use Rattle.builder.specs.Builder.{firstWith, pairUp, reduce, build};
 ghost use Rattle.builder.specs.Work.{listed, builtOf, Ready, Lists, Joins, LeadsTo, Ends, Adds, Chooses, Splits, Starts};
 ghost use Rattle.builder.specs.Encoding.{encodePair, encodePairs};
-ghost use Rattle.builder.specs.Answer.{refusedAnswer, bytesAnswer, bytesBuffer, buildAnswer, buildBuffer};
+ghost use Rattle.wire.specs.Number.{withFront};
+ghost use Rattle.builder.specs.Answer.{refusedAnswer, bytesAnswer, buildAnswer, buildBuffer};
 
 // The answer of the call: a refusal's number, part and position, or zeros and the count of bytes written.
 #[repr(C)]
@@ -358,7 +359,7 @@ fn written(out: &mut [u8], scheme: Scheme) -> BuildAnswer
     requires { ⌜ scheme .products ≤ maxProducts ⌝ }
     requires { ⌜ scheme .splits ≤ maxTerms ⌝ }
     ensures answer { λ r. ⌜ ((n : ℕ) → r ≡ bytesAnswer (length (now (out .entry))) (encodeScheme n scheme)) ⌝ }
-    ensures buffer { λ r. ⌜ ((n : ℕ) → now (out .exit) ≡ bytesBuffer (now (out .entry)) (encodeScheme n scheme)) ⌝ }
+    ensures buffer { λ r. ⌜ ((n : ℕ) → now (out .exit) ≡ withFront (encodeScheme n scheme) (now (out .entry))) ⌝ }
 {
     let count = size_of(scheme);
     if out.len() < count {

@@ -1,10 +1,11 @@
 -- What the listing call answers, and the table and the buffer after it.
 use Prim.Native.Nat.{ℕ}
 use mathlib.Core.Bool.{cond}
-use mathlib.Core.List.{List, _++_}
+use mathlib.Core.List.{List}
 use lib.Dec.{ltb, eqb}
 use lib.IntN.{ℤ}
-use lib.ListN.{length, drop}
+use lib.ListN.{length}
+use Rattle.wire.specs.Number.{withFront}
 use Rattle.forms.specs.Table.{tableNumbers}
 use Rattle.job.specs.declared.JobRead.{JobRead}
 use Rattle.job.specs.Outcome.{outcome, tableAfter}
@@ -22,14 +23,9 @@ refusedAnswer = record { number = 11; part = 0; position = 0; count = 0 }
 abbrev pub writtenAnswer : ℕ → ListingAnswer
 writtenAnswer count = record { number = 0; part = 0; position = 0; count = count }
 
--- bytes to be written into a lent buffer: a buffer below them is refused 11 and unchanged, and else begins with them, its rest
--- unchanged
-
+-- bytes to be written into a lent buffer: a buffer below them is refused 11
 unfoldable pub bytesAnswer : List ℕ → List ℕ → ListingAnswer
 bytesAnswer bytes lent = cond (ltb (length lent) (length bytes)) refusedAnswer (writtenAnswer (length bytes))
-
-unfoldable pub bytesBuffer : List ℕ → List ℕ → List ℕ
-bytesBuffer bytes lent = cond (ltb (length lent) (length bytes)) lent (bytes ++ drop (length bytes) lent)
 
 -- of the job's bytes, the lent table and the lent buffer: a table below 4,225 numbers is found before all else, a short buffer
 -- after all else
@@ -41,7 +37,7 @@ unfoldable pub listingTable : List ℕ → List ℤ → List ℤ
 listingTable job table = cond (ltb (length table) tableNumbers) table (tableAfter job table)
 
 unfoldable pub listingBuffer : List ℕ → List ℤ → List ℕ → List ℕ
-listingBuffer job table buffer = cond (ltb (length table) tableNumbers) buffer (bytesBuffer (listing (outcome job)) buffer)
+listingBuffer job table buffer = cond (ltb (length table) tableNumbers) buffer (withFront (listing (outcome job)) buffer)
 
 -- the lines of what reading a job gave
 unfoldable pub linesOf : JobRead → List ℕ

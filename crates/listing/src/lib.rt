@@ -12,9 +12,9 @@ ghost use Rattle.forms.specs.Table.{tableNumbers};
 ghost use Rattle.job.specs.Outcome.{outcome};
 ghost use Rattle.register.specs.Limits.{maxChoices};
 ghost use Rattle.register.specs.Valid.{Within};
-ghost use Rattle.wire.specs.Number.{written};
+ghost use Rattle.wire.specs.Number.{written, withFront};
 ghost use Rattle.listing.specs.Listing.{choiceLine, choiceLines, fedLine, fedLines, acceptedLines, listing};
-ghost use Rattle.listing.specs.Answer.{listingRoom, linesOf, refusedAnswer, bytesAnswer, bytesBuffer, listingAnswer, listingTable, listingBuffer};
+ghost use Rattle.listing.specs.Answer.{listingRoom, linesOf, refusedAnswer, bytesAnswer, listingAnswer, listingTable, listingBuffer};
 
 // The answer of the call: 11, or zeros and how many bytes were written.
 #[repr(C)]
@@ -153,7 +153,7 @@ fn put_lines(read: JobRead, out: &mut [u8]) -> usize
 fn write_lines(read: JobRead, buffer: &mut [u8]) -> ListingAnswer
     requires { ⌜ Within (read .register) ⌝ }
     ensures { λ r. ⌜ r ≡ bytesAnswer (linesOf read) (now (buffer .entry)) ⌝ }
-    ensures { λ _. ⌜ now (buffer .exit) ≡ bytesBuffer (linesOf read) (now (buffer .entry)) ⌝ }
+    ensures { λ _. ⌜ now (buffer .exit) ≡ withFront (linesOf read) (now (buffer .entry)) ⌝ }
     ensures { λ _. ⌜ length (linesOf read) ≤ listingRoom ⌝ }
 {
     let mut lines = [0u8; ListingAnswer::BYTES];

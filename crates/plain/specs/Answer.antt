@@ -1,9 +1,10 @@
 -- What the call answers and what its lent buffer then holds, by what reading the two parts leads to.
 use Prim.Native.Nat.{ℕ}
 use mathlib.Core.Bool.{cond}
-use mathlib.Core.List.{List, _++_}
+use mathlib.Core.List.{List}
 use lib.Dec.{ltb}
-use lib.ListN.{length, drop}
+use lib.ListN.{length}
+use Rattle.wire.specs.Number.{withFront}
 use Rattle.wire.specs.Part.{Reading, refused, accepted}
 use Rattle.wire.specs.Rows.{Progress}
 use Rattle.register.specs.declared.Register.{Register}
@@ -17,14 +18,9 @@ use Rattle.plain.specs.Encoding.{encodePlain}
 abbrev pub answer : ℕ → ℕ → ℕ → ℕ → PlainAnswer
 answer number part at count = record { number = number; part = part; position = at; count = count }
 
--- bytes to be written into a lent buffer: a buffer below them is refused 11 and unchanged, and else begins with them, its rest
--- unchanged
-
+-- bytes to be written into a lent buffer: a buffer below them is refused 11
 unfoldable pub bytesAnswer : List ℕ → List ℕ → PlainAnswer
 bytesAnswer bytes lent = cond (ltb (length lent) (length bytes)) (answer 11 0 0 0) (answer 0 0 0 (length bytes))
-
-unfoldable pub bytesBuffer : List ℕ → List ℕ → List ℕ
-bytesBuffer bytes lent = cond (ltb (length lent) (length bytes)) lent (bytes ++ drop (length bytes) lent)
 
 -- the bytes of our own certificate
 abbrev pub ownBytes : Register → Scheme → List ℕ
@@ -48,7 +44,7 @@ plainAnswer register scheme lent = afterRegister (registerByItself register) sch
 
 abbrev pub bufferAfterScheme : Register → Reading (Progress Scheme) → List ℕ → List ℕ
 bufferAfterScheme reg (refused number at) lent = lent
-bufferAfterScheme reg (accepted p end) lent = bytesBuffer (ownBytes reg (p .gave)) lent
+bufferAfterScheme reg (accepted p end) lent = withFront (ownBytes reg (p .gave)) lent
 
 abbrev pub bufferAfterRegister : Reading (Progress Register) → List ℕ → List ℕ → List ℕ
 bufferAfterRegister (refused number at) scheme lent = lent

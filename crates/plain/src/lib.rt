@@ -21,11 +21,11 @@ ghost use Rattle.scheme.specs.Scheme.{side};
 ghost use Rattle.scheme.specs.Function.{g};
 ghost use Rattle.scheme.specs.Valid.{Valid};
 ghost use Rattle.plain.specs.Plain.{unlessZero, cancelling};
-ghost use Rattle.wire.specs.Number.{written};
+ghost use Rattle.wire.specs.Number.{written, withFront};
 ghost use Rattle.certificate.specs.Encoding.{encodeScale};
 ghost use Rattle.plain.specs.Encoding.{encodeMultipliers};
 ghost use Rattle.plain.specs.InTable.{Small, entryIn, productsIn, halfIn, leftIn, subtractedIn, diagonalsIn, linearsIn, commandsIn, encodeIn};
-ghost use Rattle.plain.specs.Answer.{ownBytes, bytesAnswer, bytesBuffer, plainAnswer, plainBuffer};
+ghost use Rattle.plain.specs.Answer.{ownBytes, bytesAnswer, plainAnswer, plainBuffer};
 
 // The answer of the call: a refusal's number, part and position, or zeros and how many bytes were written.
 #[repr(C)]
@@ -231,7 +231,7 @@ fn plain_certificate(register: Register, scheme: Scheme, out: &mut [u8]) -> Plai
     requires { ⌜ ValidRegister register ⌝ }
     requires { ⌜ Valid register scheme ⌝ }
     ensures { λ r. ⌜ r ≡ bytesAnswer (ownBytes register scheme) (now (out .entry)) ⌝ }
-    ensures { λ _. ⌜ now (out .exit) ≡ bytesBuffer (ownBytes register scheme) (now (out .entry)) ⌝ }
+    ensures { λ _. ⌜ now (out .exit) ≡ withFront (ownBytes register scheme) (now (out .entry)) ⌝ }
 {
     let n = register.choices + scheme.products;
     let base = register.base;

@@ -14,7 +14,8 @@ use Rattle.plan.specs.Encoding.{encodePlan}
 use Rattle.plan.specs.Answer.{acceptedCost, costAnswer}
 use Rattle.plan.proofs.Worked as Plan
 use Rattle.builder.specs.Builder.{build, built}
-use Rattle.builder.specs.Answer.{bytesBuffer, builtBuffer}
+use Rattle.wire.specs.Number.{withFront}
+use Rattle.builder.specs.Answer.{builtBuffer}
 use Rattle.builder.proofs.Worked as Builder
 use Rattle.penalty.specs.Weights.{weight}
 use Rattle.penalty.proofs.Worked as Penalty
@@ -40,10 +41,10 @@ pub record Worked : Type 0 where
   pub w2 : map (λ p. costAnswer registerBytes (encodePlan p)) (0 ∷ 3 ∷ 7 ∷ []) ≡ map acceptedCost (pos 10 ∷ pos 0 ∷ pos 5 ∷ [])
   -- W3: the builder makes product 3 = (0,1), splits (0,0), (1,1), (2,3)
   pub w3 : build exampleRegister ≡ built builtScheme
-  pub w3-bytes : (buffer : List ℕ) → builtBuffer exampleRegister buffer (build exampleRegister) ≡ bytesBuffer buffer Builder.w3Bytes
+  pub w3-bytes : (buffer : List ℕ) → builtBuffer exampleRegister buffer (build exampleRegister) ≡ withFront Builder.w3Bytes buffer
   -- W4: five choices, one term of all five: 5 = (0,1), 6 = (2,3), 7 = (5,6), split (4,7)
   pub w4 : build Builder.five ≡ built Builder.fiveScheme
-  pub w4-bytes : (buffer : List ℕ) → builtBuffer Builder.five buffer (build Builder.five) ≡ bytesBuffer buffer Builder.w4Bytes
+  pub w4-bytes : (buffer : List ℕ) → builtBuffer Builder.five buffer (build Builder.five) ≡ withFront Builder.w4Bytes buffer
   -- W5: bracket in h for (z_k,z_l,z_r) = 000 to 111
   pub w5 : map Penalty.bracketAt Penalty.fillings ≡ pos 0 ∷ pos 0 ∷ pos 0 ∷ pos 1 ∷ pos 3 ∷ pos 1 ∷ pos 1 ∷ pos 0 ∷ []
   -- W6: on W3, P_3 = 5
