@@ -1,5 +1,5 @@
-// The example of the scope through include/feedcheck.h, every call that is linked. Prints a line and exits 1 where an answer is
-// another than the scope's.
+// The example of the scope through include/feedcheck.h, every call. Prints a line and exits 1 where an answer is another than the
+// scope's.
 #include <stdio.h>
 #include <string.h>
 
@@ -25,7 +25,7 @@ static void expect(const char *what, int holds) {
 
 int main(void) {
     static int64_t table[FEEDCHECK_TABLE];
-    uint8_t buffer[FEEDCHECK_PLAIN];
+    uint8_t buffer[FEEDCHECK_LISTING];
     const uint8_t *scheme = JOB + REGISTER, *certificate = scheme + SCHEME, *plan = certificate + CERTIFICATE;
 
     FeedcheckRegisterAnswer a = feedcheck_register(JOB, REGISTER);
@@ -46,21 +46,15 @@ int main(void) {
     expect("check", k.number == 0 && k.bound == 0 && table[0] == 0);
     k = feedcheck_check(JOB, REGISTER, scheme, SCHEME, certificate, CERTIFICATE - 1, table, FEEDCHECK_TABLE);
     expect("check, cut", k.number == 2 && k.part == 3 && k.position == 43);
-#ifdef FEEDCHECK_HAS_PLAIN
     w = feedcheck_plain(JOB, REGISTER, scheme, SCHEME, buffer, sizeof buffer);
     expect("plain", w.number == 0 && w.count == CERTIFICATE && memcmp(buffer, certificate, CERTIFICATE) == 0);
-#endif
-#ifdef FEEDCHECK_HAS_JOB
     FeedcheckTally tally = {4294967295u, 7};
     FeedcheckJobAnswer j = feedcheck_job(JOB, sizeof JOB, table, FEEDCHECK_TABLE, tally);
     expect("job", j.number == 0 && j.bound == 0 && j.cost == 0 && j.gap == 0 && j.tally.accepted == 4294967295u &&
                       j.tally.refused == 7);
-#endif
-#ifdef FEEDCHECK_HAS_LISTING
     static const char LINES[] = "T 0 4 480\nT 1 4 720\nT 2 7 480\nF 4 480\nF 4 720\nB 0 0 0\n";
     w = feedcheck_listing(JOB, sizeof JOB, table, FEEDCHECK_TABLE, buffer, sizeof buffer);
     expect("listing", w.number == 0 && w.count == strlen(LINES) && memcmp(buffer, LINES, w.count) == 0);
-#endif
     if (!failed)
         printf("header: the example is answered as the scope says\n");
     return failed;

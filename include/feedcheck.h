@@ -7,8 +7,9 @@
  * An answer's number is 0, or that of a refusal; then part and position say which command is refused, and every other field is 0
  * (a job's tally is carried on all the same). The numbers are explained in docs/REFUSALS.md.
  *
- * Each call stands in a static library of its own, which `rt staticlib NAME` makes as target/staticlib/libNAME.a; the name is
- * given beside each call. They can be linked together. */
+ * Each call stands in a static library of its own, target/staticlib/libNAME.a; the name is given beside each call.
+ * compare/libraries makes all nine, `rt staticlib NAME` one. They can be linked together. include/example.c is a complete program,
+ * and docs/LINKING.md has the commands. */
 #ifndef FEEDCHECK_H
 #define FEEDCHECK_H
 
@@ -23,10 +24,12 @@ enum {
     FEEDCHECK_CHOICES = 32,
     FEEDCHECK_TERMS = 256,
     FEEDCHECK_PRODUCTS = 32,
-    FEEDCHECK_TABLE = 4225, /* numbers of a working table */
-    FEEDCHECK_JOB = 25306,  /* bytes of the longest job that is accepted */
-    FEEDCHECK_BUILT = 865,  /* bytes of the longest scheme: 32 products, 256 splits, the end */
-    FEEDCHECK_PLAIN = 1294  /* bytes that our own certificate never exceeds */
+    FEEDCHECK_TABLE = 4225,    /* numbers of a working table */
+    FEEDCHECK_BUILT = 865,     /* a buffer of so many bytes is enough for every scheme that is built */
+    FEEDCHECK_PLAIN = 1294,    /* for every certificate of our own */
+    FEEDCHECK_LISTING = 4096,  /* for every listing */
+    FEEDCHECK_JOB = 25306,     /* no job of more bytes is accepted */
+    FEEDCHECK_JOB_READ = 25435 /* a longer job is answered as its first so many bytes are */
 };
 
 /* Entries past the counts are 0. */

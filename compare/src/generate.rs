@@ -449,6 +449,10 @@ fn damaged(random: &mut Random, mut whole: Whole) -> Input {
     if random.chance(15) {
         damage_bytes(random, &mut input.job);
     }
+    // A job that stops where a part would begin.
+    if random.chance(2) {
+        input.job = input.parts[..random.below(4)].concat();
+    }
     input
 }
 

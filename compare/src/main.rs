@@ -1,10 +1,10 @@
 //! Compares the proved library with the reference on generated inputs: every field of every answer, every number of a lent table
 //! and every byte of a lent buffer, and what lies on either side of them.
 //!
-//!     compare [COUNT [SEED [FOLDER]]]
+//!     compare [COUNT [SEED [FOLDER..]]]
 //!
-//! FOLDER has jobs, `*.job`, of which a part of the inputs is made. Exit status 1: a difference, or a refusal number that the
-//! scope gives a call and that no input led to.
+//! The folders have jobs, `*.job`, of which a part of the inputs is made. Exit status 1: a difference, or a refusal number that
+//! the scope gives a call and that no input led to.
 
 use compare::generate::{input, seed, Input, Whole};
 use compare::random::Random;
@@ -88,7 +88,7 @@ impl Comparison {
 
     /// Counts an answer, and tells a difference.
     fn judge(&mut self, call: &'static str, number: u8, same: bool, input: &Input, answers: impl FnOnce() -> String) {
-        self.numbers.entry(call).or_default()[number as usize] += 1;
+        self.numbers.get_mut(call).unwrap()[number as usize] += 1;
         if same {
             return;
         }
@@ -109,7 +109,7 @@ impl Comparison {
 
     fn compare(&mut self, input: &Input) {
         self.inputs += 1;
-        let [part1, part2, part3, part4] = &input.parts;
+        let [part1, part2, ..] = &input.parts;
 
         let library = raw::register(part1);
         let answer = register_answer(reference::register(part1));
@@ -119,23 +119,52 @@ impl Comparison {
         let answer = scheme_answer(reference::scheme(part1, part2));
         self.judge("scheme", answer.number, library == answer, input, || format!("{library:?} {answer:?}"));
 
-        let count = reference::build(part1, &mut [0; 2_000]).unwrap_or(865);
+        self.compare_writer("build", input, 865, |buffer| raw::build(part1, buffer), |buffer| reference::build(part1, buffer));
+        self.compare_cost(input);
+        self.compare_penalty(input);
+        self.compare_check(input);
+        self.compare_writer(
+            "plain",
+            input,
+            1_294,
+            |buffer| raw::plain(part1, part2, buffer),
+            |buffer| reference::plain(part1, part2, buffer),
+        );
+        self.compare_job(input);
+        self.compare_listing(input);
+    }
+
+    /// A call that writes bytes, at most `longest`.
+    fn compare_writer(
+        &mut self,
+        call: &'static str,
+        input: &Input,
+        longest: usize,
+        library: impl Fn(&mut [u8]) -> raw::Written,
+        reference: impl Fn(&mut [u8]) -> Answer<usize>,
+    ) {
+        let count = reference(&mut [0; 2_000]).unwrap_or(longest);
         let mut buffer = self.buffer(count);
         let (ours, theirs) = buffer.both();
-        let library = raw::build(part1, ours);
-        let answer = written(reference::build(part1, theirs));
+        let library = library(ours);
+        let answer = written(reference(theirs));
         let same = library == answer && buffer.same();
-        self.judge("build", answer.number, same, input, || format!("{library:?} {answer:?} buffers {}", buffer.same()));
+        self.judge(call, answer.number, same, input, || format!("{library:?} {answer:?} buffers {}", buffer.same()));
+    }
 
+    fn compare_cost(&mut self, input: &Input) {
+        let [part1, _, _, part4] = &input.parts;
         let library = raw::cost(part1, part4);
-        let cost = reference::cost(part1, part4);
-        let (refusal, value) = split(cost, 0);
+        let (refusal, value) = split(reference::cost(part1, part4), 0);
         let answer = raw::CostAnswer { number: refusal.number, part: refusal.part, position: refusal.position, cost: value };
         self.judge("cost", answer.number, library == answer, input, || format!("{library:?} {answer:?}"));
         if refusal.part == 4 {
             self.count_command(refusal, part4);
         }
+    }
 
+    fn compare_penalty(&mut self, input: &Input) {
+        let [part1, part2, ..] = &input.parts;
         let mut table = self.table();
         let (ours, theirs) = table.both();
         let library = raw::penalty(part1, part2, ours);
@@ -143,7 +172,10 @@ impl Comparison {
         let answer = raw::PenaltyAnswer { number: refusal.number, part: refusal.part, position: refusal.position };
         let same = library == answer && table.same();
         self.judge("penalty", answer.number, same, input, || format!("{library:?} {answer:?} tables {}", table.same()));
+    }
 
+    fn compare_check(&mut self, input: &Input) {
+        let [part1, part2, part3, _] = &input.parts;
         let mut table = self.table();
         let (ours, theirs) = table.both();
         let library = raw::check(part1, part2, part3, ours);
@@ -154,28 +186,8 @@ impl Comparison {
         if refusal.part != 0 {
             self.count_command(refusal, &input.parts[refusal.part as usize - 1]);
         }
-
-        #[cfg(feature = "plain")]
-        self.compare_plain(input);
-        #[cfg(feature = "job")]
-        self.compare_job(input);
-        #[cfg(feature = "listing")]
-        self.compare_listing(input);
     }
 
-    #[cfg(feature = "plain")]
-    fn compare_plain(&mut self, input: &Input) {
-        let [part1, part2, ..] = &input.parts;
-        let count = reference::plain(part1, part2, &mut [0; 2_000]).unwrap_or(1_294);
-        let mut buffer = self.buffer(count);
-        let (ours, theirs) = buffer.both();
-        let library = raw::plain(part1, part2, ours);
-        let answer = written(reference::plain(part1, part2, theirs));
-        let same = library == answer && buffer.same();
-        self.judge("plain", answer.number, same, input, || format!("{library:?} {answer:?} buffers {}", buffer.same()));
-    }
-
-    #[cfg(feature = "job")]
     fn compare_job(&mut self, input: &Input) {
         let few = self.random.below(1_000) as u32;
         let (accepted, refused) =
@@ -198,9 +210,8 @@ impl Comparison {
         self.judge("job", answer.number, same, input, || format!("{library:?} {answer:?} tables {}", table.same()));
     }
 
-    #[cfg(feature = "listing")]
     fn compare_listing(&mut self, input: &Input) {
-        let count = reference::listing(&input.job, &mut [0; 4_225], &mut [0; 4_096]).unwrap_or(100);
+        let count = reference::listing(&input.job, &mut [0; 4_225], &mut [0; 4_096]).expect("room for every listing");
         let mut buffer = self.buffer(count);
         let mut table = self.table();
         let (our_bytes, their_bytes) = buffer.both();
@@ -216,15 +227,12 @@ impl Comparison {
     /// Prints the counts; how many of the scope's refusal numbers no input led to.
     fn report(&self) -> usize {
         let mut missing = 0;
-        println!("{} inputs, each to every call below; how often each number was answered (0: accepted)", self.inputs);
+        println!("{} inputs, each to every call; how often each number was answered (0: accepted)", self.inputs);
         print!("{:10}", "");
         (0..13).for_each(|number| print!("{number:>8}"));
         println!();
         for (call, expected) in CALLS {
-            let Some(numbers) = self.numbers.get(call) else {
-                println!("{call:10} not linked");
-                continue;
-            };
+            let numbers = &self.numbers[call];
             print!("{call:10}");
             numbers.iter().for_each(|count| print!("{count:>8}"));
             println!();
@@ -310,26 +318,24 @@ fn scheme_answer(answer: Answer<reference::scheme::Scheme>) -> raw::SchemeAnswer
     raw::SchemeAnswer { number: refusal.number, part: refusal.part, position: refusal.position, scheme: record }
 }
 
-fn seeds(folder: Option<String>) -> Vec<Whole> {
-    let Some(entries) = folder.and_then(|folder| std::fs::read_dir(folder).ok()) else {
-        return Vec::new();
-    };
-    let mut paths: Vec<_> = entries.filter_map(|entry| Some(entry.ok()?.path())).collect();
+fn seeds(folders: impl Iterator<Item = String>) -> Vec<Whole> {
+    let entries = folders.flat_map(|folder| std::fs::read_dir(folder).expect("a folder of jobs"));
+    let mut paths: Vec<_> = entries.map(|entry| entry.unwrap().path()).collect();
     paths.retain(|path| path.extension().is_some_and(|extension| extension == "job"));
     paths.sort();
-    paths.iter().filter_map(|path| seed(&std::fs::read(path).ok()?)).collect()
+    paths.iter().filter_map(|path| seed(&std::fs::read(path).unwrap())).collect()
 }
 
 fn main() {
     let mut words = std::env::args().skip(1);
     let mut number = |default| words.next().map_or(default, |word| word.parse().expect("a number"));
     let (count, start) = (number(120_000), number(1));
-    let seeds = seeds(words.next());
+    let seeds = seeds(words);
     println!("{} jobs as seeds", seeds.len());
     let mut random = Random(start);
     let fill = (0..5_000 + 2 * BESIDE).map(|_| random.next() as i64).collect();
-    let mut comparison =
-        Comparison { random, inputs: 0, differences: 0, numbers: BTreeMap::new(), commands: BTreeMap::new(), fill };
+    let numbers = CALLS.map(|(call, _)| (call, [0; 13])).into();
+    let mut comparison = Comparison { random, inputs: 0, differences: 0, numbers, commands: BTreeMap::new(), fill };
     let mut random = Random(start ^ 0x5EED);
     for _ in 0..count {
         comparison.compare(&input(&mut random, &seeds));

@@ -1,4 +1,4 @@
-//! Links the static libraries that `rt staticlib NAME` makes. They are looked for in the folder that FEEDCHECK_STATICLIB names,
+//! Links the static libraries that `compare/libraries` makes. They are looked for in the folder that FEEDCHECK_STATICLIB names,
 //! by default `target/staticlib` of the repository.
 
 use std::path::PathBuf;
@@ -10,13 +10,9 @@ fn main() {
         None => PathBuf::from(std::env::var_os("CARGO_MANIFEST_DIR").unwrap()).join("../../target/staticlib"),
     };
     println!("cargo:rustc-link-search=native={}", folder.display());
-    let always = ["register", "scheme", "builder", "plan", "penalty", "certificate"];
-    let by_feature = ["plain", "job", "listing"];
-    let wanted =
-        by_feature.into_iter().filter(|name| std::env::var_os(format!("CARGO_FEATURE_{}", name.to_uppercase())).is_some());
-    for name in always.into_iter().chain(wanted) {
+    for name in ["register", "scheme", "builder", "plan", "penalty", "certificate", "plain", "job", "listing"] {
         let file = folder.join(format!("lib{name}.a"));
-        assert!(file.exists(), "{} is not there: run `rt staticlib {name}` in the repository", file.display());
+        assert!(file.exists(), "{} is not there: run compare/libraries in the repository", file.display());
         println!("cargo:rerun-if-changed={}", file.display());
         println!("cargo:rustc-link-lib=static={name}");
     }

@@ -1,16 +1,13 @@
-//! The reference against the vectors, `crates/conformance/data/*.txt` or the folder that FEEDCHECK_VECTORS names, and against
-//! jobs with their expected lines, the pairs NAME.job and NAME.out in `examples` or in the folder that FEEDCHECK_JOBS names.
+//! The reference against the vectors, `crates/conformance/data/*.txt`, and against jobs with their expected lines, the pairs
+//! NAME.job and NAME.out in `examples` and in `crates/conformance/data/suppliers`.
 //! A line of a vector file: name, what is given, what is expected, separated by spaces; a table of 77 and a buffer of AA are lent.
 
 use reference::{Answer, Refusal, Tally};
 use std::fs;
 use std::path::PathBuf;
 
-fn folder(variable: &str, default: &str) -> PathBuf {
-    match std::env::var_os(variable) {
-        Some(path) => PathBuf::from(path),
-        None => PathBuf::from(env!("CARGO_MANIFEST_DIR")).join("../..").join(default),
-    }
+fn folder(name: &str) -> PathBuf {
+    PathBuf::from(env!("CARGO_MANIFEST_DIR")).join("../..").join(name)
 }
 
 struct Fields<'a>(std::str::Split<'a, char>);
@@ -65,13 +62,9 @@ fn split<T: Default>(answer: Answer<T>) -> (Refusal, T) {
     }
 }
 
-/// Runs `case` on each line of a file of vectors, and prints how many there were, or that the file is not there.
+/// Runs `case` on each line of a file of vectors, and prints how many there were.
 fn each(file: &str, case: impl Fn(&mut Fields) -> bool) {
-    let path = folder("FEEDCHECK_VECTORS", "crates/conformance/data").join(file);
-    let Ok(text) = fs::read_to_string(&path) else {
-        println!("{file}: not there");
-        return;
-    };
+    let text = fs::read_to_string(folder("crates/conformance/data").join(file)).expect("the vectors");
     let mut count = 0;
     for line in text.lines().filter(|line| !line.starts_with('#')) {
         let mut fields = Fields(line.split(' '));
@@ -210,15 +203,14 @@ fn feedcheck() {
 
 #[test]
 fn jobs() {
-    let Ok(entries) = fs::read_dir(folder("FEEDCHECK_JOBS", "examples")) else {
-        println!("jobs: not there");
-        return;
-    };
-    let mut count = 0;
-    for path in entries.map(|entry| entry.unwrap().path()).filter(|path| path.extension().is_some_and(|e| e == "job")) {
-        let expected = fs::read(path.with_extension("out")).expect("the expected lines");
-        assert!(listed(&fs::read(&path).unwrap()) == expected, "{}", path.display());
-        count += 1;
+    for name in ["examples", "crates/conformance/data/suppliers"] {
+        let mut count = 0;
+        let paths = fs::read_dir(folder(name)).expect("the jobs").map(|entry| entry.unwrap().path());
+        for path in paths.filter(|path| path.extension().is_some_and(|e| e == "job")) {
+            let expected = fs::read(path.with_extension("out")).expect("the expected lines");
+            assert!(listed(&fs::read(&path).unwrap()) == expected, "{}", path.display());
+            count += 1;
+        }
+        println!("{name}: {count} agree");
     }
-    println!("jobs: {count} agree");
 }

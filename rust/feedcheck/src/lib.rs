@@ -10,12 +10,34 @@
 
 pub mod raw;
 
-#[cfg(feature = "job")]
-pub use raw::Tally;
-pub use raw::{Register, Scheme};
+pub use raw::{Register, Scheme, Tally};
+
+/// The most choices of a register.
+pub const CHOICES: usize = 32;
+
+/// The most terms of a register, and so the most splits of a scheme.
+pub const TERMS: usize = 256;
+
+/// The most products of a scheme.
+pub const PRODUCTS: usize = 32;
 
 /// How many numbers a lent table must have.
 pub const TABLE: usize = 4_225;
+
+/// A buffer of so many bytes is enough for every scheme that is built.
+pub const BUILT: usize = 865;
+
+/// A buffer of so many bytes is enough for every certificate of our own.
+pub const PLAIN: usize = 1_294;
+
+/// A buffer of so many bytes is enough for every listing.
+pub const LISTING: usize = 4_096;
+
+/// No job of more bytes is accepted.
+pub const JOB: usize = 25_306;
+
+/// A longer job is answered as its first so many bytes are.
+pub const JOB_READ: usize = 25_435;
 
 /// A refusal: its number in the table of docs/REFUSALS.md, the part (1 register, 2 scheme, 3 certificate, 4 plan) and the
 /// position of the command that is refused; part and position are 0 where no command causes it.
@@ -28,14 +50,38 @@ pub struct Refusal {
 
 impl std::fmt::Display for Refusal {
     fn fmt(&self, f: &mut std::fmt::Formatter) -> std::fmt::Result {
-        write!(f, "refusal {} in part {} at byte {}", self.number, self.part, self.position)
+        write!(f, "refusal {}", self.number)?;
+        if self.part != 0 {
+            write!(f, " in part {} at byte {}", self.part, self.position)?;
+        }
+        write!(f, ": {}", self.reason())
+    }
+}
+
+impl Refusal {
+    /// What the number means.
+    pub fn reason(&self) -> &'static str {
+        match self.number {
+            1 => "a byte is not a command here",
+            2 => "the bytes end early",
+            3 => "a count is above a limit, or splits or choices are missing",
+            4 => "a number is out of range",
+            5 => "a name of nothing",
+            6 => "a pair is misordered",
+            7 => "a choice or a mask is not rising",
+            8 => "sets don't fit",
+            9 => "R falls short",
+            10 => "the builder needs a 33rd product",
+            11 => "a lent table or buffer is short",
+            12 => "bytes stand after the end",
+            _ => "no refusal",
+        }
     }
 }
 
 impl std::error::Error for Refusal {}
 
 /// What an accepted job comes to.
-#[cfg(feature = "job")]
 #[derive(Clone, Copy, Debug, PartialEq, Eq)]
 pub struct Outcome {
     pub bound: i64,
@@ -88,14 +134,12 @@ pub fn check(register: &[u8], scheme: &[u8], certificate: &[u8], table: &mut [i6
 }
 
 /// Writes the certificate of our own: how many bytes were written to the front of the buffer.
-#[cfg(feature = "plain")]
 pub fn plain(register: &[u8], scheme: &[u8], buffer: &mut [u8]) -> Result<usize, Refusal> {
     let answer = raw::plain(register, scheme, buffer);
     result(answer.number, answer.part, answer.position, answer.count)
 }
 
 /// A whole job, and its tally moved on.
-#[cfg(feature = "job")]
 pub fn job(job: &[u8], table: &mut [i64], tally: &mut Tally) -> Result<Outcome, Refusal> {
     let answer = raw::job(job, table, *tally);
     *tally = answer.tally;
@@ -104,7 +148,6 @@ pub fn job(job: &[u8], table: &mut [i64], tally: &mut Tally) -> Result<Outcome, 
 }
 
 /// Writes the lines of a job, or the one line of a refused job: how many bytes were written to the front of the buffer.
-#[cfg(feature = "listing")]
 pub fn listing(job: &[u8], table: &mut [i64], buffer: &mut [u8]) -> Result<usize, Refusal> {
     let answer = raw::listing(job, table, buffer);
     result(answer.number, answer.part, answer.position, answer.count)

@@ -2,6 +2,8 @@
 //!
 //! A Rust slice's pointer is never null and is aligned, and a lent slice overlaps nothing else, which is all that the calls ask.
 
+use crate::{CHOICES, PRODUCTS, TERMS};
+
 /// The record of a register. Entries past the counts are 0.
 #[derive(Clone, Copy, Debug, PartialEq, Eq)]
 #[repr(C)]
@@ -9,25 +11,26 @@ pub struct Register {
     pub base: i32,
     pub choices: usize,
     pub terms: usize,
-    pub tanks: [u16; 32],
-    pub minutes: [u16; 32],
-    pub masks: [u32; 256],
-    pub coefficients: [i32; 256],
+    pub tanks: [u16; CHOICES],
+    pub minutes: [u16; CHOICES],
+    pub masks: [u32; TERMS],
+    pub coefficients: [i32; TERMS],
 }
 
-/// The record of a scheme. Entries past the counts are 0.
+/// The record of a scheme: product number n + k has the operands lefts[k] and rights[k], term t the split split_lefts[t],
+/// split_rights[t]. Entries past the counts are 0.
 #[derive(Clone, Copy, Debug, PartialEq, Eq)]
 #[repr(C)]
 pub struct Scheme {
     pub products: usize,
     pub splits: usize,
-    pub lefts: [u8; 32],
-    pub rights: [u8; 32],
-    pub split_lefts: [u8; 256],
-    pub split_rights: [u8; 256],
+    pub lefts: [u8; PRODUCTS],
+    pub rights: [u8; PRODUCTS],
+    pub split_lefts: [u8; TERMS],
+    pub split_rights: [u8; TERMS],
 }
 
-#[cfg(feature = "job")]
+/// How many jobs were accepted and refused; each count stays at 4,294,967,295.
 #[derive(Clone, Copy, Debug, Default, PartialEq, Eq)]
 #[repr(C)]
 pub struct Tally {
@@ -89,7 +92,6 @@ pub struct CheckAnswer {
     pub bound: i64,
 }
 
-#[cfg(feature = "job")]
 #[derive(Clone, Copy, Debug, PartialEq, Eq)]
 #[repr(C)]
 pub struct JobAnswer {
@@ -133,7 +135,6 @@ mod linked {
             table: *mut i64,
             table_length: usize,
         ) -> CheckAnswer;
-        #[cfg(feature = "plain")]
         pub fn feedcheck_plain(
             register: *const u8,
             register_length: usize,
@@ -142,9 +143,7 @@ mod linked {
             buffer: *mut u8,
             buffer_length: usize,
         ) -> Written;
-        #[cfg(feature = "job")]
         pub fn feedcheck_job(job: *const u8, job_length: usize, table: *mut i64, table_length: usize, tally: Tally) -> JobAnswer;
-        #[cfg(feature = "listing")]
         pub fn feedcheck_listing(
             job: *const u8,
             job_length: usize,
@@ -200,7 +199,6 @@ pub fn check(register: &[u8], scheme: &[u8], certificate: &[u8], table: &mut [i6
     }
 }
 
-#[cfg(feature = "plain")]
 pub fn plain(register: &[u8], scheme: &[u8], buffer: &mut [u8]) -> Written {
     unsafe {
         linked::feedcheck_plain(
@@ -214,12 +212,10 @@ pub fn plain(register: &[u8], scheme: &[u8], buffer: &mut [u8]) -> Written {
     }
 }
 
-#[cfg(feature = "job")]
 pub fn job(job: &[u8], table: &mut [i64], tally: Tally) -> JobAnswer {
     unsafe { linked::feedcheck_job(job.as_ptr(), job.len(), table.as_mut_ptr(), table.len(), tally) }
 }
 
-#[cfg(feature = "listing")]
 pub fn listing(job: &[u8], table: &mut [i64], buffer: &mut [u8]) -> Written {
     unsafe {
         linked::feedcheck_listing(job.as_ptr(), job.len(), table.as_mut_ptr(), table.len(), buffer.as_mut_ptr(), buffer.len())

@@ -29,7 +29,7 @@ fn scheme() {
     assert_eq!((scheme.split_lefts[2], scheme.split_rights[2]), (4, 4));
     let refusal = feedcheck::scheme(&REGISTER, &[0x21, 1, 0]).unwrap_err();
     assert_eq!((refusal.number, refusal.part, refusal.position), (6, 2, 0));
-    assert_eq!(refusal.to_string(), "refusal 6 in part 2 at byte 0");
+    assert_eq!(refusal.to_string(), "refusal 6 in part 2 at byte 0: a pair is misordered");
 }
 
 #[test]
@@ -37,7 +37,8 @@ fn build() {
     let mut buffer = [0xAA; 14];
     assert_eq!(feedcheck::build(&REGISTER, &mut buffer), Ok(13));
     assert_eq!(buffer, [0x21, 0, 1, 0x22, 0, 0, 0x22, 1, 1, 0x22, 2, 3, 0x2F, 0xAA]);
-    assert_eq!(feedcheck::build(&REGISTER, &mut buffer[..12]).unwrap_err().number, 11);
+    let refusal = feedcheck::build(&REGISTER, &mut buffer[..12]).unwrap_err();
+    assert_eq!(refusal.to_string(), "refusal 11: a lent table or buffer is short");
 }
 
 #[test]
@@ -66,23 +67,20 @@ fn check() {
     assert_eq!(table[0], -2);
 }
 
-#[cfg(feature = "plain")]
 #[test]
 fn plain() {
     let mut scheme = [0; 13];
     feedcheck::build(&REGISTER, &mut scheme).unwrap();
-    let mut buffer = [0; 1_294];
+    let mut buffer = [0; feedcheck::PLAIN];
     let count = feedcheck::plain(&REGISTER, &scheme, &mut buffer).unwrap();
     let mut table = vec![0; feedcheck::TABLE];
     assert_eq!(feedcheck::check(&REGISTER, &scheme, &buffer[..count], &mut table), Ok(-6));
 }
 
-#[cfg(any(feature = "job", feature = "listing"))]
 fn whole() -> Vec<u8> {
     [&REGISTER[..], &SCHEME, &CERTIFICATE, &PLAN].concat()
 }
 
-#[cfg(feature = "job")]
 #[test]
 fn job() {
     let mut table = vec![0; feedcheck::TABLE];
@@ -93,10 +91,9 @@ fn job() {
     assert_eq!(tally, feedcheck::Tally { accepted: u32::MAX, refused: 1 });
 }
 
-#[cfg(feature = "listing")]
 #[test]
 fn listing() {
-    let (mut table, mut buffer) = (vec![0; feedcheck::TABLE], [0; 100]);
+    let (mut table, mut buffer) = (vec![0; feedcheck::TABLE], [0; feedcheck::LISTING]);
     let count = feedcheck::listing(&whole(), &mut table, &mut buffer).unwrap();
     assert_eq!(&buffer[..count], b"T 0 4 480\nT 1 4 720\nT 2 7 480\nF 4 480\nF 4 720\nB 0 0 0\n");
 }
