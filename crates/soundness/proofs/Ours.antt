@@ -18,11 +18,15 @@ use Rattle.register.specs.Answer.{registerAnswer}
 use Rattle.scheme.specs.declared.Scheme.{Scheme}
 use Rattle.scheme.specs.Filling.{Filling}
 use Rattle.scheme.specs.Answer.{schemeAnswer}
+use Rattle.scheme.proofs.Whole.{answer-iff}
 use Rattle.scheme.proofs.Opened.{Opened, register-bytes, scheme-bytes, opened}
 use Rattle.penalty.specs.Answer.{penaltyTable}
 use Rattle.penalty.specs.Demand.{Holds}
 use Rattle.penalty.specs.Least.{Least}
-use Rattle.penalty.proofs.Demand.{made-holds}
+use Rattle.penalty.specs.Carried.{carried}
+use Rattle.penalty.proofs.Sets.{carried-below}
+use Rattle.penalty.proofs.Answers as Penalty
+use Rattle.penalty.proofs.Demand.{made-answer, made-holds}
 use Rattle.certificate.specs.Certificate.{Certificate}
 use Rattle.certificate.specs.Format.{certificateByItself}
 use Rattle.certificate.specs.Residual.{bound}
@@ -34,7 +38,7 @@ use Rattle.certificate.proofs.SecondOrder.{second-order}
 use Rattle.plain.specs.Answer.{plainAnswer, plainBuffer}
 use Rattle.plain.proofs.ReadBack.{plain-encodes, handed-back, own-accepted}
 use Rattle.soundness.specs.Calls.{penaltyCall, checkCall, plainCall}
-use Rattle.soundness.specs.Demand3.{registerOf, coefficients, schemeOf, Accepted, Plan, cost, carriedCost, valueRead, EqualLeast, Certified, secondOrderOf, ownLength, AsWritten, Demand3}
+use Rattle.soundness.specs.Demand3.{registerOf, coefficients, schemeOf, Accepted, Plan, cost, CarriesAt, valueRead, EqualLeast, Certified, secondOrderOf, ownLength, AsWritten, Demand3}
 
 -- a function has one least value
 least-one : {A : Type 0} (f : A → ℤ) (m m′ : ℤ) → Least f m → Least f m′ → m ≡ m′
@@ -78,10 +82,11 @@ module _ (t s : List ℕ) (z : Accepted t s) (lent : List ℤ) (l : tableNumbers
   least = let m = holds .least in record { least = m .least; of-first = m .overFillings; of-second = m .overPlans }
 
   -- (b)
-  minimisers : (m : ℤ) → Least (valueRead t s (penaltyTable t s lent)) m → (z : Filling) → valueRead t s (penaltyTable t s lent) z ≡ m → carriedCost t z ≡ m
+  minimisers : (m : ℤ) → Least (valueRead t s (penaltyTable t s lent)) m → (z : Filling) → valueRead t s (penaltyTable t s lent) z ≡ m → CarriesAt t z m
   minimisers m h z e =
       let one = least-one (valueRead t s (penaltyTable t s lent)) m (holds .least .least) h (holds .least .overFillings) in
-      holds .least .minimisers z (e ∙ one) ∙ sym one
+      let n = registerOf t .choices in
+      record { plan = record { fed = carried n z; inside = carried-below n z }; carries = refl; costs = holds .least .minimisers z (e ∙ one) ∙ sym one }
 
   -- (c)
   bounds : (certificate : List ℕ) → checkAnswer t s certificate lent .number ≡ 0 → (plan : Plan t) → checkAnswer t s certificate lent .bound ≤ℤ cost t plan
@@ -106,24 +111,29 @@ module _ (t s : List ℕ) (z : Accepted t s) (lent : List ℤ) (l : tableNumbers
     register-bytes = register-bytes t s (registerOf t) (schemeOf t s) o b;
     scheme-conditions = o .scheme-valid;
     scheme-bytes = scheme-bytes t s (registerOf t) (schemeOf t s) o;
-    penalty-form = holds .reads;
+    penalty-form = (ap (λ a. a .number) (made-answer t s lent l (registerOf t) (schemeOf t s) o), sym (Penalty.parts-accepted t s lent l (registerOf t) (schemeOf t s) o .holds));
     certificates = λ certificate b e.
         let k = reads-accepted t s _ _ o lent l certificate e in
         record { cert = k .read .gave; bytes = whole-encodes _ _ _ certificate (k .read) (k .end) (k .reads) b; conditions = whole-valid _ _ _ certificate (k .read) (k .end) (k .reads) };
     certified = λ certificate k.
         bound-read t s _ _ o lent l certificate _ _
         (encoding-accepted (registerOf t) (o .register-valid) (schemeOf t s) (o .scheme-valid) (coefficients t) (k .cert) certificate (k .conditions) (k .bytes));
-    own-certificate = λ buffer m. rw (handed-back t s _ _ o buffer m .1) (plain-encodes (coefficients t) (registerOf t) (schemeOf t s));
+    own-certificate = λ buffer m. (
+      ap (λ a. a .number) (handed-back t s _ _ o buffer m .0),
+      rw (handed-back t s _ _ o buffer m .1) (plain-encodes (coefficients t) (registerOf t) (schemeOf t s)),
+    );
   }
 
 -- demand 3
 pub demand3 : Demand3 penaltyCall checkCall plainCall
-unfolding Demand3
-demand3 t s b b′ z lent l = record {
-  least = least t s z lent l;
-  minimisers = minimisers t s z lent l;
-  bounds = bounds t s z lent l;
-  second-order = second-order-part t s z lent l;
-  own-accepted = own-checked t s z lent l;
-  as-written = as-written t s z lent l b b′;
+demand3 = record {
+  of-accepted = λ t s b b′ z lent l. record {
+    least = least t s z lent l;
+    minimisers = minimisers t s z lent l;
+    bounds = bounds t s z lent l;
+    second-order = second-order-part t s z lent l;
+    own-accepted = own-checked t s z lent l;
+    as-written = as-written t s z lent l b b′;
+  };
+  all-accepted = λ t s b reg sch v e v′ e′. ap (λ a. a .number) (answer-iff t s sch b .1 (reg, ((v, e), (v′, e′))));
 }

@@ -7,8 +7,8 @@ use lib.IntN.{ℤ, pos}
 use lib.ListN.{length, take}
 use lib.Signed.{_≤ℤ_}
 use Rattle.wire.specs.Number.{Bytes}
-use Rattle.forms.specs.Form.{value}
-use Rattle.forms.specs.Table.{tableNumbers, tableValue}
+use Rattle.forms.specs.Form.{entry}
+use Rattle.forms.specs.Table.{tableNumbers, withTable, tableValue}
 use Rattle.register.specs.declared.Register.{Register}
 use Rattle.register.specs.Register.{coefficient}
 use Rattle.register.specs.Format.{registerByItself}
@@ -43,7 +43,7 @@ registerOf register = registerAnswer (registerByItself register) .register
 abbrev pub coefficients : List ℕ → ℕ → ℤ
 coefficients register = coefficient (registerOf register)
 
--- a plan is any set of the choices; its cost, and that of the plan that a filling carries
+-- a plan is any set of the choices; its cost
 
 abbrev pub Plan : List ℕ → Type 0
 Plan register = P.Plan (registerOf register .choices)
@@ -51,8 +51,11 @@ Plan register = P.Plan (registerOf register .choices)
 abbrev pub cost : (register : List ℕ) → Plan register → ℤ
 cost register plan = P.cost (coefficients register) (registerOf register) (plan .fed)
 
-abbrev pub carriedCost : List ℕ → Filling → ℤ
-carriedCost register z = P.cost (coefficients register) (registerOf register) (carried (registerOf register .choices) z)
+-- a plan of cost m that a filling carries
+pub record CarriesAt (register : List ℕ) (z : Filling) (m : ℤ) : Type 0 where
+  pub plan : Plan register
+  pub carries : plan .fed ≡ carried (registerOf register .choices) z
+  pub costs : cost register plan ≡ m
 
 -- the scheme that its reader answers; both are accepted where it answers no refusal
 
@@ -66,9 +69,9 @@ Accepted register scheme = schemeAnswer register scheme .number ≡ 0
 abbrev pub valueRead : List ℕ → List ℕ → List ℤ → Filling → ℤ
 valueRead register scheme table z = tableValue (side (registerOf register .choices) (schemeOf register scheme)) table (factor z)
 
--- the value of h at a filling
-abbrev pub penaltyValue : List ℕ → List ℕ → Filling → ℤ
-penaltyValue register scheme z = value (factor z) (h (coefficients register) (registerOf register) (schemeOf register scheme))
+-- a lent table with the penalty form at its front
+abbrev pub withPenalty : List ℕ → List ℕ → List ℤ → List ℤ
+withPenalty register scheme = withTable (side (registerOf register .choices) (schemeOf register scheme)) (entry (h (coefficients register) (registerOf register) (schemeOf register scheme)))
 
 -- our own certificate for the two
 abbrev pub own : List ℕ → List ℕ → Certificate
@@ -117,11 +120,12 @@ module _ (penaltyCall : PenaltyCall) (checkCall : CheckCall) (plainCall : PlainC
     pub register-bytes : register ≡ encodeRegister (registerOf register)
     pub scheme-conditions : S.Valid (registerOf register) (schemeOf register scheme)
     pub scheme-bytes : scheme ≡ encodeScheme (registerOf register .choices) (schemeOf register scheme)
-    pub penalty-form : (z : Filling) → valueRead register scheme (tableBack register scheme table) z ≡ penaltyValue register scheme z
+    pub penalty-form : (penaltyCall register scheme table .0 .number ≡ 0) × (tableBack register scheme table ≡ withPenalty register scheme table)
     pub certificates : (certificate : List ℕ) → Bytes certificate → checked register scheme certificate table .number ≡ 0 → Certified register scheme certificate
     pub certified : (certificate : List ℕ) (k : Certified register scheme certificate) →
         (checked register scheme certificate table .number ≡ 0) × (checked register scheme certificate table .bound ≡ bound (k .cert))
-    pub own-certificate : (buffer : List ℕ) → ownLength ≤ length buffer → Encodes (own register scheme) (ownBack register scheme buffer)
+    pub own-certificate : (buffer : List ℕ) → ownLength ≤ length buffer →
+        (plainCall register scheme buffer .0 .number ≡ 0) × Encodes (own register scheme) (ownBack register scheme buffer)
 
   pub record Demand3For (register scheme : List ℕ) (table : List ℤ) : Type 0 where
     -- (a) The least value of the penalty form over every 0-1 filling, read from the table we hand back, equals the least cost
@@ -129,11 +133,12 @@ module _ (penaltyCall : PenaltyCall) (checkCall : CheckCall) (plainCall : PlainC
     pub least : EqualLeast (valueRead register scheme (tableBack register scheme table)) (cost register)
     -- (b) Every filling that reaches it carries a plan of exactly that cost.
     pub minimisers : (m : ℤ) → Least (valueRead register scheme (tableBack register scheme table)) m →
-        (z : Filling) → valueRead register scheme (tableBack register scheme table) z ≡ m → carriedCost register z ≡ m
+        (z : Filling) → valueRead register scheme (tableBack register scheme table) z ≡ m → CarriesAt register z m
     -- (c) For every certificate accepted with the two, by any writer, every plan costs at least the bound,
     pub bounds : (certificate : List ℕ) → checked register scheme certificate table .number ≡ 0 →
         (plan : Plan register) → checked register scheme certificate table .bound ≤ℤ cost register plan
     -- (d) and the reformulated function's second-order part is at least 0 at every list of whole numbers, negative ones too.
+    -- The check accepts just the certified ones: `certificates` and `certified` above.
     pub second-order : (certificate : List ℕ) (k : Certified register scheme certificate) (x : ℕ → ℤ) → pos 0 ≤ℤ secondOrderOf register scheme (k .cert) x
     -- (e) Our own certificate for the two is accepted by our check.
     pub own-accepted : (buffer : List ℕ) → ownLength ≤ length buffer → checked register scheme (ownBack register scheme buffer) table .number ≡ 0
@@ -142,7 +147,9 @@ module _ (penaltyCall : PenaltyCall) (checkCall : CheckCall) (plainCall : PlainC
     pub as-written : AsWritten register scheme table
 
   -- Take every accepted register and every scheme accepted with it, by any writer, and lend each call a table long enough.
-  unfoldable pub Demand3 : Type 0
-  Demand3 =
-      (register scheme : List ℕ) → Bytes register → Bytes scheme → Accepted register scheme →
-      (table : List ℤ) → tableNumbers ≤ length table → Demand3For register scheme table
+  pub record Demand3 : Type 0 where
+    pub of-accepted : (register scheme : List ℕ) → Bytes register → Bytes scheme → Accepted register scheme →
+        (table : List ℤ) → tableNumbers ≤ length table → Demand3For register scheme table
+    -- and every register and scheme that meet the paper's conditions are accepted
+    pub all-accepted : (register scheme : List ℕ) → Bytes register → (reg : Register) (sch : Scheme) → R.Valid reg → register ≡ encodeRegister reg →
+        S.Valid reg sch → scheme ≡ encodeScheme (reg .choices) sch → Accepted register scheme
