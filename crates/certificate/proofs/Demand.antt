@@ -1,5 +1,5 @@
 -- What the check's answer says, over all bytes. Where it answers 0 the bytes are those of a register, a scheme and a certificate
--- that keep 01's rules, no plan of this register costs less than the bound, the cost call's answers among them, and the
+-- that meet the paper's conditions, no plan of this register costs less than the bound, the cost call's answers among them, and the
 -- second-order part is at least 0 at every list of whole numbers.
 use Prim.Native.Nat.{ℕ, _<_}
 use mathlib.Core.Path.{_≡_, refl, sym, _∙_, ap}

@@ -170,7 +170,8 @@ fn write_lines(read: JobRead, buffer: &mut [u8]) -> ListingAnswer
     }
 }
 
-// The listing of a job. The table is as after the job itself.
+// The listing of a job. The table is as after the job itself. The last clause is for callers: a buffer of 4,096 bytes has room
+// for every listing, so with it and a table long enough nothing is refused.
 #[no_mangle]
 pub extern "C" fn feedcheck_listing(
     job: &[u8],

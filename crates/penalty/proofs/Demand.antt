@@ -1,7 +1,7 @@
 -- What the penalty call hands back, over all bytes. Where both parts are accepted it answers zeros, the value read from the table
 -- is that of h and exactly half of the table's sum, its least value over the fillings is the least cost over the plans, and the
--- numbers past the table are the lent ones. Where it answers zeros the bytes are those of a register and a scheme that keep 01's
--- rules. Where it answers a refusal the table is the lent one.
+-- numbers past the table are the lent ones. Where it answers zeros the bytes are those of a register and a scheme that meet the
+-- paper's conditions. Where it answers a refusal the table is the lent one.
 use Prim.Native.Nat.{ℕ, _*_, _≤_, _<_}
 use mathlib.Core.Path.{_≡_, refl, sym, _∙_, ap, subst}
 use mathlib.Core.List.{List}
