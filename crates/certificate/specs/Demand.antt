@@ -20,8 +20,8 @@ use Rattle.certificate.specs.Residual.{bound, secondOrder}
 use Rattle.certificate.specs.Encoding.{Encodes}
 use Rattle.certificate.specs.Valid.{Valid}
 
--- what an answer says that is no refusal: the bytes are those of a register, a scheme and a certificate that meet the paper's conditions, and
--- these three have the bound
+-- what an answer says that is no refusal: the bytes are those of a register, a scheme and a certificate that meet the paper's
+-- conditions, and these three have the bound
 pub record Shown (register scheme certificate : List ℕ) (a : CheckAnswer) : Type 0 where
   pub reg : Register
   pub sch : Scheme

@@ -31,8 +31,8 @@ pub record Holds (reg : Register) (sch : Scheme) (lent table : List ℤ) : Type 
   pub long : length table ≡ length lent
   pub past : (k : ℕ) → side (reg .choices) sch * side (reg .choices) sch ≤ k → getD table k (pos 0) ≡ getD lent k (pos 0)
 
--- what an answer of zeros says: the bytes are those of a register and a scheme that meet the paper's conditions, and the table handed back is
--- what is demanded of these two
+-- what an answer of zeros says: the bytes are those of a register and a scheme that meet the paper's conditions, and the table
+-- handed back is what is demanded of these two
 pub record Made (register scheme : List ℕ) (lent : List ℤ) : Type 0 where
   pub reg : Register
   pub sch : Scheme
