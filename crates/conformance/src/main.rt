@@ -7,6 +7,7 @@ mod files;
 mod jobs;
 mod jobs_in_files;
 mod listings;
+mod lists;
 mod outputs;
 mod penalties;
 mod plains;
@@ -29,4 +30,8 @@ fn main() {
     files::run(Group::Output, b"feedcheck", b"feedcheck.txt");
     files::run(Group::JobInFile, b"examples", b"examples.txt");
     files::run(Group::JobInFile, b"suppliers", b"suppliers.txt");
+    lists::run(
+        b"examples/labs05.csdp.job",
+        b"examples/labs05.csdp.bad-t-up.job",
+    );
 }
