@@ -22,6 +22,7 @@ use Rattle.scheme.proofs.Commands.{reached}
 use Rattle.scheme.proofs.Encoding.{encode-within}
 use Rattle.scheme.proofs.Accept.{accepted-iff}
 use Rattle.builder.specs.Builder.{Step, full, next, stopped, built, follow, choicesOf, reduce, splitOf, buildTerm, buildFrom, build}
+use Rattle.builder.specs.Answer.{builtRoom}
 use Rattle.builder.proofs.Steps.{andThen-next, same-next, reduce-kept, reduce-ends}
 use Rattle.builder.proofs.Joining.{sorted}
 use Rattle.builder.proofs.Covers.{choices-some}
@@ -93,8 +94,8 @@ module _ (reg : Register) (valid : R.Valid reg) where
       let s = built-from (reg .terms) 0 fresh sch (omega arith) (record { within = fresh-within reg; splits-are = refl }) e in
       record { within = s .within; all-split = s .splits-are ∙ zero-add (reg .terms) }
 
-  -- at most 3 · 32 + 3 · 256 + 1 bytes long
-  pub build-size : (sch : Scheme) → build reg ≡ built sch → length (encodeScheme n sch) ≤ 865
+  -- and short
+  pub build-size : (sch : Scheme) → build reg ≡ built sch → length (encodeScheme n sch) ≤ builtRoom
   build-size sch e = encode-within reg valid sch (build-valid sch e)
 
   -- and read back from its bytes

@@ -1,35 +1,26 @@
 -- What the builder's call answers, and the buffer that it leaves.
-use Prim.Native.Nat.{ℕ}
-use mathlib.Core.Bool.{cond}
+use Prim.Native.Nat.{ℕ, _+_, _*_}
 use mathlib.Core.List.{List}
-use lib.ListN.{length}
-use lib.Dec.{ltb}
-use Rattle.wire.specs.Number.{withFront}
 use Rattle.wire.specs.Part.{Reading, refused, accepted}
 use Rattle.wire.specs.Rows.{Progress}
+use Rattle.wire.specs.declared.WriterAnswer.{WriterAnswer}
+use Rattle.wire.specs.Writer.{refusedAnswer, bytesAnswer, withFront}
 use Rattle.register.specs.declared.Register.{Register}
+use Rattle.register.specs.Limits.{maxTerms}
 use Rattle.register.specs.Format.{registerByItself}
+use Rattle.scheme.specs.Scheme.{maxProducts}
 use Rattle.scheme.specs.Encoding.{encodeScheme}
-use Rattle.builder.specs.declared.BuildAnswer.{BuildAnswer}
 use Rattle.builder.specs.Builder.{Built, stopped, built, build, termPosition}
 
--- number, part and position of a refusal, with count 0
-abbrev pub refusedAnswer : ℕ → ℕ → ℕ → BuildAnswer
-refusedAnswer number part at = record { number = number; part = part; position = at; count = 0 }
-
--- zeros and the count of bytes
-abbrev pub acceptedAnswer : ℕ → BuildAnswer
-acceptedAnswer count = record { number = 0; part = 0; position = 0; count = count }
-
--- bytes for a buffer of `room` bytes: 11 where it is short
-abbrev pub bytesAnswer : ℕ → List ℕ → BuildAnswer
-bytesAnswer room bytes = cond (ltb room (length bytes)) (refusedAnswer 11 0 0) (acceptedAnswer (length bytes))
+-- so many bytes are enough for every scheme that is built: `21` and `22` of 3 bytes each, and `2F`
+abbrev pub builtRoom : ℕ
+builtRoom = 3 * maxProducts + 3 * maxTerms + 1
 
 -- of what building leads to: 10 at the term that needs a 33rd product
 
-abbrev pub builtAnswer : Register → ℕ → Built → BuildAnswer
-builtAnswer reg room (stopped t) = refusedAnswer 10 1 (termPosition reg t)
-builtAnswer reg room (built sch) = bytesAnswer room (encodeScheme (reg .choices) sch)
+abbrev pub builtAnswer : Register → List ℕ → Built → WriterAnswer
+builtAnswer reg buffer (stopped t) = refusedAnswer 10 1 (termPosition reg t)
+builtAnswer reg buffer (built sch) = bytesAnswer (encodeScheme (reg .choices) sch) buffer
 
 abbrev pub builtBuffer : Register → List ℕ → Built → List ℕ
 builtBuffer reg buffer (stopped t) = buffer
@@ -37,18 +28,18 @@ builtBuffer reg buffer (built sch) = withFront (encodeScheme (reg .choices) sch)
 
 -- once the register by itself is read
 
-abbrev pub answerAfter : ℕ → Reading (Progress Register) → BuildAnswer
-answerAfter room (refused number at) = refusedAnswer number 1 at
-answerAfter room (accepted p end) = builtAnswer (p .gave) room (build (p .gave))
+abbrev pub answerAfter : List ℕ → Reading (Progress Register) → WriterAnswer
+answerAfter buffer (refused number at) = refusedAnswer number 1 at
+answerAfter buffer (accepted p end) = builtAnswer (p .parsed) buffer (build (p .parsed))
 
 abbrev pub bufferAfter : List ℕ → Reading (Progress Register) → List ℕ
 bufferAfter buffer (refused number at) = buffer
-bufferAfter buffer (accepted p end) = builtBuffer (p .gave) buffer (build (p .gave))
+bufferAfter buffer (accepted p end) = builtBuffer (p .parsed) buffer (build (p .parsed))
 
 -- of the register's bytes and the lent buffer
 
-abbrev pub buildAnswer : List ℕ → List ℕ → BuildAnswer
-buildAnswer register buffer = answerAfter (length buffer) (registerByItself register)
+abbrev pub buildAnswer : List ℕ → List ℕ → WriterAnswer
+buildAnswer register buffer = answerAfter buffer (registerByItself register)
 
 abbrev pub buildBuffer : List ℕ → List ℕ → List ℕ
 buildBuffer register buffer = bufferAfter buffer (registerByItself register)

@@ -44,7 +44,7 @@ firstWith n sch union (suc k) =
     let v = firstWith n sch union k in
     cond (eqb v k) (cond (eqb (E n sch k) union) k (suc k)) v
 
--- the variable whose set is the pair's union, made as the next product, smaller operand first, if none has it
+-- the variable that has the union of a and b as its set; where there is none, a new product (min a b, max a b)
 unfoldable pub joinPair : ℕ → Scheme → ℕ → ℕ → Step WithVariable
 joinPair n sch a b =
     let k = variables n sch in
@@ -54,7 +54,7 @@ joinPair n sch a b =
     (cond (leb maxProducts (sch .products)) full (next (record { scheme = made; variable = k })))
     (next (record { scheme = sch; variable = v }))
 
--- consecutive pairs from the front, left to right, are replaced; an odd last member stays last
+-- one pass over a list: first and second member give one variable, third and fourth the next, a single one at the end is kept
 unfoldable pub pairUp : ℕ → Scheme → List ℕ → Step WithList
 pairUp n sch [] = next (record { scheme = sch; members = [] })
 pairUp n sch (a ∷ []) = next (record { scheme = sch; members = a ∷ [] })
@@ -63,14 +63,14 @@ pairUp n sch (a ∷ (b ∷ rest)) =
     andThen (pairUp n (p .scheme) rest) λ q.
     next (record { scheme = q .scheme; members = p .variable ∷ q .members })
 
--- while the list has more than 2 members; the first number bounds how often, and the list's length is enough
+-- passes until at most 2 members are left; the first number bounds how often, and the list's length is enough
 unfoldable pub reduce : ℕ → ℕ → Scheme → List ℕ → Step WithList
 reduce zero n sch members = next (record { scheme = sch; members = members })
 reduce (suc k) n sch members =
     cond (leb (length members) 2) (next (record { scheme = sch; members = members }))
     (andThen (pairUp n sch members) λ p. reduce k n (p .scheme) (p .members))
 
--- the split is the two members, smaller first, or one member twice
+-- the split of a reduced list: (min, max) of its two members, or (a, a) for one
 unfoldable pub splitOf : Scheme → List ℕ → Scheme
 splitOf sch [] = sch
 splitOf sch (a ∷ []) = withSplit sch a a

@@ -1,6 +1,7 @@
 // The builder of a scheme: products made pair by pair, a split for each term.
 use register::Register;
 use scheme::Scheme;
+use wire::WriterAnswer;
 ghost use mathlib.Core.Path.{_≡_};
 ghost use mathlib.Core.List.{_++_};
 ghost use Prim.Native.Nat.{ℕ, _+_, _*_, _^_, min, max, _<_, _≤_};
@@ -15,17 +16,8 @@ ghost use Rattle.scheme.specs.Sets.{SetsBelow};
 ghost use Rattle.builder.specs.Builder.{firstWith, pairUp, reduce, build};
 ghost use Rattle.builder.specs.Work.{listed, builtOf, Ready, Lists, Joins, LeadsTo, Ends, Adds, Chooses, Splits, Starts};
 ghost use Rattle.builder.specs.Encoding.{encodePair, encodePairs};
-ghost use Rattle.wire.specs.Number.{withFront};
-ghost use Rattle.builder.specs.Answer.{refusedAnswer, bytesAnswer, buildAnswer, buildBuffer};
-
-// The answer of the call: a refusal's number, part and position, or zeros and the count of bytes written.
-#[repr(C)]
-pub struct BuildAnswer {
-    pub number: u8,
-    pub part: u8,
-    pub position: usize,
-    pub count: usize,
-}
+ghost use Rattle.wire.specs.Writer.{bytesAnswer, withFront};
+ghost use Rattle.builder.specs.Answer.{buildAnswer, buildBuffer};
 
 // The scheme so far and the sets of its variables; the list of variables that the choices of a term have been joined to, as
 // the first so many of an array; and the variable that the last pair was joined to. It is full when a product past the limit
@@ -33,8 +25,8 @@ pub struct BuildAnswer {
 pub struct Work {
     pub full: bool,
     pub scheme: Scheme,
-    pub sets: [u32; Scheme::VARIABLES],
-    pub list: [u8; Register::CHOICES],
+    pub sets: [u32; Scheme::MAX_VARIABLES],
+    pub list: [u8; Register::MAX_CHOICES],
     pub count: usize,
     pub variable: u8,
 }
@@ -44,19 +36,6 @@ pub struct Construction {
     pub full: bool,
     pub term: usize,
     pub scheme: Scheme,
-}
-
-impl BuildAnswer {
-    fn refused(number: u8, part: u8, position: usize) -> BuildAnswer
-        ensures { λ r. ⌜ r ≡ refusedAnswer number part position ⌝ }
-    {
-        BuildAnswer {
-            number: number,
-            part: part,
-            position: position,
-            count: 0,
-        }
-    }
 }
 
 fn smaller(a: u8, b: u8) -> u8
@@ -125,7 +104,7 @@ fn joined(mut work: Work, n: usize, a: u8, b: u8) -> Work
         work.variable = v as u8;
         return work;
     }
-    if Scheme::PRODUCTS <= products {
+    if Scheme::MAX_PRODUCTS <= products {
         work.full = true;
         return work;
     }
@@ -208,7 +187,7 @@ fn with_choices(mut work: Work, n: usize, mask: u32) -> Work
     work
 }
 
-// The term's split after the others: the two members, smaller first, or one member twice.
+// The term's split after the others: (min, max) of two members, or (a, a) for one.
 fn with_split_of(mut work: Work) -> Work
     requires { ⌜ length (work .list) ≡ maxChoices ⌝ }
     requires { ⌜ work .scheme .splits < maxTerms ⌝ }
@@ -253,7 +232,7 @@ impl Work {
             full: false,
             scheme: scheme,
             sets: sets,
-            list: [0; Register::CHOICES],
+            list: [0; Register::MAX_CHOICES],
             count: 0,
             variable: 0,
         }
@@ -354,24 +333,19 @@ fn size_of(scheme: Scheme) -> usize
 }
 
 // Writes a scheme at the front of a buffer, or nothing where it is short.
-fn written(out: &mut [u8], scheme: Scheme) -> BuildAnswer
+fn written(out: &mut [u8], scheme: Scheme) -> WriterAnswer
     requires { ⌜ Lengths scheme ⌝ }
     requires { ⌜ scheme .products ≤ maxProducts ⌝ }
     requires { ⌜ scheme .splits ≤ maxTerms ⌝ }
-    ensures answer { λ r. ⌜ ((n : ℕ) → r ≡ bytesAnswer (length (now (out .entry))) (encodeScheme n scheme)) ⌝ }
+    ensures answer { λ r. ⌜ ((n : ℕ) → r ≡ bytesAnswer (encodeScheme n scheme) (now (out .entry))) ⌝ }
     ensures buffer { λ r. ⌜ ((n : ℕ) → now (out .exit) ≡ withFront (encodeScheme n scheme) (now (out .entry))) ⌝ }
 {
     let count = size_of(scheme);
     if out.len() < count {
-        return BuildAnswer::refused(11, 0, 0);
+        return WriterAnswer::refused(11, 0, 0);
     }
     put_scheme(out, scheme);
-    BuildAnswer {
-        number: 0,
-        part: 0,
-        position: 0,
-        count: count,
-    }
+    WriterAnswer::written(count)
 }
 
 // Where the command of a term stands in part 1, after n choices.
@@ -383,21 +357,21 @@ fn term_position(n: usize, term: usize) -> usize
     5 + 5 * n + 9 * term
 }
 
-// Builds the scheme of a register that is a run of bytes by itself, and writes its bytes to the front of the buffer.
+// Builds the scheme of a register (part 1 alone) and writes its bytes to the front of the buffer.
 #[no_mangle]
-pub extern "C" fn feedcheck_build(register: &[u8], out: &mut [u8]) -> BuildAnswer
+pub extern "C" fn feedcheck_build(register: &[u8], out: &mut [u8]) -> WriterAnswer
     ensures answer { λ r. ⌜ r ≡ buildAnswer (now (register .entry)) (now (out .entry)) ⌝ }
     ensures buffer { λ r. ⌜ now (out .exit) ≡ buildBuffer (now (register .entry)) (now (out .entry)) ⌝ }
 {
     let read = register::feedcheck_register(register);
     let number = read.number;
     if number != 0 {
-        return BuildAnswer::refused(number, 1, read.position);
+        return WriterAnswer::refused(number, 1, read.position);
     }
     let given = read.register;
     let made = built(given);
     if made.full {
-        return BuildAnswer::refused(10, 1, term_position(given.choices, made.term));
+        return WriterAnswer::refused(10, 1, term_position(given.choices, made.term));
     }
     let scheme = made.scheme;
     written(out, scheme)

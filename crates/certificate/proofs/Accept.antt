@@ -23,11 +23,12 @@ use Rattle.scheme.specs.declared.Scheme.{Scheme}
 use Rattle.scheme.specs.Valid as S
 use Rattle.certificate.specs.Certificate.{Certificate}
 use Rattle.certificate.specs.Residual.{carries}
-use Rattle.certificate.specs.Format.{commandsInJob, judged, certificateInJob, certificateByItself}
+use Rattle.certificate.specs.Format.{commandsInJob, dominanceChecked, certificateInJob, certificateByItself}
 use Rattle.certificate.specs.Valid.{Within, Valid}
+use Rattle.certificate.proofs.Conditions.{carries-iff}
 use Rattle.certificate.specs.Encoding.{encodeBody, Encodes}
 use Rattle.certificate.proofs.Rows.{part, reached}
-use Rattle.certificate.proofs.Complete.{certificate-accepted}
+use Rattle.certificate.proofs.Complete.{certificate-front, certificate-accepted}
 use Rattle.certificate.proofs.Steps.{Ended}
 use Rattle.certificate.proofs.Sofar.{Sofar, starts, goes-on, ends-here}
 
@@ -51,10 +52,10 @@ module _ (reg : Register) (sch : Scheme) where
             rw (d, k) at (ends-here reg sch s read at h g l);
       }
 
-  -- ---- the commands, judged by refusals 1 to 8
+  -- ---- the commands, dominanceChecked by refusals 1 to 8
 
   module _ (s : List ℕ) (p : Progress Certificate) (end : ℕ) (e : commandsInJob reg sch s ≡ accepted p end) where
-    pub within-accepted : Within reg sch (p .gave) × (p .previous ≡ 0x3F)
+    pub within-accepted : Within reg sch (p .parsed) × (p .previous ≡ 0x3F)
     within-accepted = let h = ended s p end e in (h .within, h .previous)
 
     -- `3F` stands one byte before the end
@@ -67,35 +68,35 @@ module _ (reg : Register) (sch : Scheme) where
     end-within = readFrom-end (part reg sch) s (part reg sch .start) 0 e .1
 
     -- what was read, where nothing stands behind it
-    pub encodes-accepted : Bytes s → end ≡ length s → Encodes (p .gave) s
+    pub encodes-accepted : Bytes s → end ≡ length s → Encodes (p .parsed) s
     encodes-accepted b l =
         let h = ended s p end e in
         let rest : drop end s ≡ [] = ap (λ n. drop n s) l ∙ drop-length s in
-        let whole = encodeBody (p .gave .scale) (p .gave .target) (h .entries) ++ (0x3F ∷ []) in
+        let whole = encodeBody (p .parsed .scale) (p .parsed .target) (h .entries) ++ (0x3F ∷ []) in
         record { entries = h .entries; commands = h .commands; bytes = h .bytes b ∙ ap (λ x. whole ++ x) rest ∙ append-nil whole }
 
   module _ (c : ℕ → ℤ) where
     -- ---- in a job: R carries T
 
-    judged-accepted : (x : Reading (Progress Certificate)) (p : Progress Certificate) (end : ℕ) → judged c reg sch x ≡ accepted p end → (x ≡ accepted p end) × T (carries c reg sch (p .gave))
-    unfolding judged
-    judged-accepted (refused n at) p end e = let z : _≡_ {A = ℕ} 0 1 = cc in absurd (omega arith)
-    judged-accepted (accepted q to) p end e = by (carries c reg sch (q .gave)) refl e
+    dominance-accepted : (x : Reading (Progress Certificate)) (p : Progress Certificate) (end : ℕ) → dominanceChecked c reg sch x ≡ accepted p end → (x ≡ accepted p end) × T (carries c reg sch (p .parsed))
+    unfolding dominanceChecked
+    dominance-accepted (refused n at) p end e = let z : _≡_ {A = ℕ} 0 1 = cc in absurd (omega arith)
+    dominance-accepted (accepted q to) p end e = by (carries c reg sch (q .parsed)) refl e
       where
-        by : (t : Bool) → carries c reg sch (q .gave) ≡ t → _≡_ {A = Reading (Progress Certificate)} (cond t (accepted q to) (refused 9 (to - 1))) (accepted p end) → (_≡_ {A = Reading (Progress Certificate)} (accepted q to) (accepted p end)) × T (carries c reg sch (p .gave))
+        by : (t : Bool) → carries c reg sch (q .parsed) ≡ t → _≡_ {A = Reading (Progress Certificate)} (cond t (accepted q to) (refused 9 (to - 1))) (accepted p end) → (_≡_ {A = Reading (Progress Certificate)} (accepted q to) (accepted p end)) × T (carries c reg sch (p .parsed))
         by true u e = let k : q ≡ p = cc in (e, rw (← k) (T-true _ .1 u))
         by false u e = let z : _≡_ {A = ℕ} 0 1 = cc in absurd (omega arith)
 
     module _ (s : List ℕ) (p : Progress Certificate) (end : ℕ) (e : certificateInJob c reg sch s ≡ accepted p end) where
-      pub commands-accepted : (commandsInJob reg sch s ≡ accepted p end) × T (carries c reg sch (p .gave))
+      pub commands-accepted : (commandsInJob reg sch s ≡ accepted p end) × T (carries c reg sch (p .parsed))
       unfolding certificateInJob
-      commands-accepted = judged-accepted (commandsInJob reg sch s) p end e
+      commands-accepted = dominance-accepted (commandsInJob reg sch s) p end e
 
-      pub valid-accepted : Valid c reg sch (p .gave) × (p .previous ≡ 0x3F)
+      pub valid-accepted : Valid c reg sch (p .parsed) × (p .previous ≡ 0x3F)
       valid-accepted =
           let (q, t) = commands-accepted in
           let (w, f) = within-accepted s p end q in
-          (record { within = w; carried = t }, f)
+          (record { within = w; carried = carries-iff c reg sch (p .parsed) .0 (T-true _ .0 t) }, f)
 
 -- ---- a run of bytes by itself
 
@@ -108,20 +109,29 @@ module _ (reg : Register) (sch : Scheme) (c : ℕ → ℤ) (s : List ℕ) (p : P
       (q, omega (arith, end-within reg sch s p end (commands-accepted reg sch c s p end q .0)))
 
   -- what was read is valid, and the bytes are an encoding of it
-  pub whole-valid : Valid c reg sch (p .gave)
+  pub whole-valid : Valid c reg sch (p .parsed)
   whole-valid = valid-accepted reg sch c s p end (whole-accepted .0) .0
 
-  pub whole-encodes : Bytes s → Encodes (p .gave) s
+  pub whole-encodes : Bytes s → Encodes (p .parsed) s
   whole-encodes b = let (q, l) = whole-accepted in encodes-accepted reg sch s p end (commands-accepted reg sch c s p end q .0) b l
 
 module _ (reg : Register) (regValid : R.Valid reg) (sch : Scheme) (schValid : S.Valid reg sch) (c : ℕ → ℤ) (k : Certificate) (s : List ℕ) where
   -- every encoding of a valid certificate is accepted
   pub encoding-accepted : Valid c reg sch k → Encodes k s → certificateByItself c reg sch s ≡ accepted (reached 0x3F k) (length s)
-  unfolding certificateByItself certificateInJob judged byItself
+  unfolding certificateByItself certificateInJob dominanceChecked byItself
   encoding-accepted v e =
       let x = certificate-accepted reg sch (omega (arith, regValid .within .choices-within, schValid .within .products-within)) k s (v .within) e in
-      let t : carries c reg sch k ≡ true = T-true (carries c reg sch k) .0 (v .carried) in
+      let t : carries c reg sch k ≡ true = carries-iff c reg sch k .1 (v .carried) in
       rw (x, t, le-ltb (length s) (length s) (omega arith))
+
+  -- also at the front of a run of bytes, as in a job
+  pub encoding-front : (rest : List ℕ) → Valid c reg sch k → Encodes k s → certificateInJob c reg sch (s ++ rest) ≡ accepted (reached 0x3F k) (length s)
+  unfolding certificateInJob dominanceChecked
+  encoding-front rest v e =
+      let x = certificate-front reg sch (omega (arith, regValid .within .choices-within, schValid .within .products-within)) k s rest (v .within) e in
+      let (inJob, _) = whole-accepted reg sch c s _ _ (encoding-accepted v e) in
+      let t : carries c reg sch k ≡ true = T-true (carries c reg sch k) .0 (commands-accepted reg sch c s _ _ inJob .1) in
+      rw (x, t)
 
   -- a certificate is accepted from just those runs of bytes that encode it, where it is valid
   pub accepted-iff : Bytes s → (certificateByItself c reg sch s ≡ accepted (reached 0x3F k) (length s)) ↔ (Valid c reg sch k × Encodes k s)

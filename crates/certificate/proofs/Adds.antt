@@ -1,5 +1,5 @@
 -- What a multiplier command adds: places of the table only, and numbers that are small.
-use Prim.Native.Nat.{ℕ, _+_, _≤_, _<_}
+use Prim.Native.Nat.{ℕ, _+_, _*_, _≤_, _<_}
 use mathlib.Core.Path.{_≡_, refl, sym, _∙_, ap, subst}
 use mathlib.Core.List.{List, [], _∷_}
 use native.Mathlib.Omega.{arith}
@@ -24,13 +24,14 @@ use Rattle.certificate.specs.Rules.{Rule, byKey, noRule, rules, ruleOf}
 use Rattle.certificate.specs.Valid.{Allowed}
 use Rattle.certificate.specs.Answer.{namedOf, ruleAsked}
 use Rattle.certificate.specs.Built.{signedOf, Addable, added}
-use Rattle.certificate.proofs.Asks.{judges-product}
+use Rattle.certificate.proofs.Conditions.{tested}
+use Rattle.certificate.proofs.Asks.{tests-product}
 use Rattle.certificate.proofs.Rules.{rule-sound}
 use Rattle.certificate.proofs.Table.{signed, signedForm}
 
 -- one more monomial
 pub step : {n b p q : ℕ} (x : ℤ) {t : List ℤ} (u : List ℤ) → Bounded n b t → p < n → q < n → u ≡ addMonomial n (mono p q x) t → natAbs x ≤ maxMultiplier →
-    Bounded n (b + 2_000_000_000_000) u
+    Bounded n (b + 2 * maxMultiplier) u
 step x u h a b e l = rw e (bounded-weaken (bounded-addMonomial (mono _ _ x) a b h) (omega arith))
 
 -- a multiplier as the code has it, and its negation
@@ -61,7 +62,7 @@ module _ (n : ℕ) (s : Scheme) where
 
   pub addable : (u : Multiplier) → Allowed n s u → Addable n s (namedOf u)
   unfolding ruleAsked ruleOf
-  addable u ok = record { kind-above = ok .kind-above; kind-within = ok .kind-within; m-within = ok .m-within; there = ok .there }
+  addable u ok = let h = tested n s u ok in record { kind-above = h .kind-above; kind-within = h .kind-within; m-within = h .rule .m-within; there = h .rule .there }
 
   module _ (t : Named) where
     -- the rule of a kind, with the variables that the command names
@@ -88,7 +89,7 @@ module _ (n : ℕ) (s : Scheme) where
     pub is-product : Products n s → Addable n s t → 0x35 ≤ t .kind → t .kind ≤ 0x37 → IsProduct
     unfolding ruleAsked
     is-product products ok a b =
-        let (l, u) = T-and (leb n (t .i)) (ltb (t .i) (variables n s)) .0 (subst T (judges-product n s [] (t .i) (t .j) (t .k) (t .l) (t .kind) a b .there-is) (ok .there)) in
+        let (l, u) = T-and (leb n (t .i)) (ltb (t .i) (variables n s)) .0 (subst T (tests-product n s [] (t .i) (t .j) (t .k) (t .l) (t .kind) a b .there-is) (ok .there)) in
         let p = products (t .i) (leb→le _ _ l) (ltb→lt _ _ u) in
         record {
           after = leb→le _ _ l;

@@ -18,28 +18,28 @@ use Rattle.scheme.specs.declared.Scheme.{Scheme}
 use Rattle.scheme.specs.Scheme.{variables}
 use Rattle.scheme.specs.Variables.{E}
 use Rattle.scheme.specs.Sets.{SetsBelow}
-use Rattle.certificate.specs.declared.Rule.{Rule as Judged}
+use Rattle.certificate.specs.declared.Rule.{Rule as RuleTests}
 use Rattle.certificate.specs.declared.Multiplier.{Multiplier as Named}
 use Rattle.certificate.specs.Certificate.{Multiplier}
 use Rattle.certificate.specs.Rules.{Rule, byKey, noRule, rules, ruleOf}
 use Rattle.certificate.specs.Limits.{maxMultipliers, maxMultiplier}
 use Rattle.certificate.specs.Format.{outOfRange, multiplierChecks}
-use Rattle.certificate.specs.Answer.{namedOf, ruleAsked, Judges}
+use Rattle.certificate.specs.Answer.{namedOf, ruleAsked, TestsOf}
 use Rattle.certificate.proofs.Ranges.{among-all, in-range}
 
-abbrev pub nullJudged : Bool → Bool → Bool → Judged
-nullJudged there ordered fits = record { null = true; there = there; ordered = ordered; fits = fits }
+abbrev pub nullTests : Bool → Bool → Bool → RuleTests
+nullTests there ordered fits = record { null = true; there = there; ordered = ordered; fits = fits }
 
-abbrev pub subtractedJudged : Bool → Judged
-subtractedJudged there = record { null = false; there = there; ordered = true; fits = true }
+abbrev pub subtractedTests : Bool → RuleTests
+subtractedTests there = record { null = false; there = there; ordered = true; fits = true }
 
--- the refusal of a multiplier command after others, by what its rule is judged to be
-pub judged-refusal : (multipliers : ℕ) (rule : Rule) (r : Judged) (m : ℤ) → Judges rule r → refusal (multiplierChecks multipliers rule m)
+-- the refusal of a multiplier command after others, by what its rule is dominanceChecked to be
+pub tests-refusal : (multipliers : ℕ) (rule : Rule) (r : RuleTests) (m : ℤ) → TestsOf rule r → refusal (multiplierChecks multipliers rule m)
     ≡ cond (leb maxMultipliers multipliers) 3
     (cond (ltb maxMultiplier (natAbs m) || not (r .null) && ltZ m (pos 0)) 4
     (cond (not (r .there)) 5 (cond (not (r .ordered)) 6 (cond (not (r .fits)) 8 0))))
 unfolding multiplierChecks outOfRange refusal
-judged-refusal multipliers rule r m h =
+tests-refusal multipliers rule r m h =
     flag (rule .there)
     (λ t. rw (h .fits-is t, h .null-is, h .there-is, h .ordered-is))
     (λ t. let u : r .there ≡ false = sym (h .there-is) ∙ t in rw (t, u, h .null-is))
@@ -54,7 +54,7 @@ module _ (n : ℕ) (sch : Scheme) (sets : List ℕ) (i j k l : ℕ) where
   abbrev pub asked : ℕ → Rule
   asked kind = byKey noRule kind (rules n sch i j k l)
 
-  pub no-rule : (kind : ℕ) → (0x31 ≤ kind → kind ≤ 0x39 → ⊥) → Judges (asked kind) (nullJudged false false false)
+  pub no-rule : (kind : ℕ) → (0x31 ≤ kind → kind ≤ 0x39 → ⊥) → TestsOf (asked kind) (nullTests false false false)
   unfolding byKey
   no-rule kind h =
       let other : (b : ℕ) → 0x31 ≤ b → b ≤ 0x39 → eqb kind b ≡ false = λ b p q. ne-eqb kind b (λ e. h (omega arith) (omega arith)) in
@@ -69,22 +69,22 @@ module _ (n : ℕ) (sch : Scheme) (sets : List ℕ) (i j k l : ℕ) where
     set-is : (v : ℕ) → there v ≡ true → E n sch v ≡ getD sets v 0
     set-is v t = rw (h .below v (ltb-true v _ t))
 
-    pub judges-31 : Judges (asked 0x31) (nullJudged (there i) true true)
+    pub tests-31 : TestsOf (asked 0x31) (nullTests (there i) true true)
     unfolding byKey
-    judges-31 = record { null-is = refl; there-is = refl; ordered-is = refl; fits-is = λ t. refl }
+    tests-31 = record { null-is = refl; there-is = refl; ordered-is = refl; fits-is = λ t. refl }
 
-    pub judges-32 : Judges (asked 0x32) (nullJudged (there i && there j) true (isProperSubset (getD sets j 0) (getD sets i 0)))
+    pub tests-32 : TestsOf (asked 0x32) (nullTests (there i && there j) true (isProperSubset (getD sets j 0) (getD sets i 0)))
     unfolding byKey
-    judges-32 = record {
+    tests-32 = record {
       null-is = refl;
       there-is = refl;
       ordered-is = refl;
       fits-is = λ t. let (p, q) = and-both (there i) (there j) t in ap₂ isProperSubset (set-is j q) (set-is i p);
     }
 
-    pub judges-33 : Judges (asked 0x33) (nullJudged (there i && there j && there k) (ltb j k) (eqb (getD sets i 0) (bitOr (getD sets j 0) (getD sets k 0))))
+    pub tests-33 : TestsOf (asked 0x33) (nullTests (there i && there j && there k) (ltb j k) (eqb (getD sets i 0) (bitOr (getD sets j 0) (getD sets k 0))))
     unfolding byKey
-    judges-33 = record {
+    tests-33 = record {
       null-is = refl;
       there-is = refl;
       ordered-is = refl;
@@ -94,9 +94,9 @@ module _ (n : ℕ) (sch : Scheme) (sets : List ℕ) (i j k l : ℕ) where
           ap₂ eqb (set-is i p) (ap₂ bitOr (set-is j q) (set-is k r));
     }
 
-    pub judges-34 : Judges (asked 0x34) (nullJudged (there i && there j && there k && there l) (ltb i j && ltb k l) (eqb (bitOr (getD sets i 0) (getD sets j 0)) (bitOr (getD sets k 0) (getD sets l 0))))
+    pub tests-34 : TestsOf (asked 0x34) (nullTests (there i && there j && there k && there l) (ltb i j && ltb k l) (eqb (bitOr (getD sets i 0) (getD sets j 0)) (bitOr (getD sets k 0) (getD sets l 0))))
     unfolding byKey
-    judges-34 = record {
+    tests-34 = record {
       null-is = refl;
       there-is = refl;
       ordered-is = refl;
@@ -109,20 +109,20 @@ module _ (n : ℕ) (sch : Scheme) (sets : List ℕ) (i j k l : ℕ) where
 
   -- `35` to `37` name a product, `38` and `39` a variable
 
-  pub judges-product : (kind : ℕ) → 0x35 ≤ kind → kind ≤ 0x37 → Judges (asked kind) (subtractedJudged (leb n i && ltb i (variables n sch)))
+  pub tests-product : (kind : ℕ) → 0x35 ≤ kind → kind ≤ 0x37 → TestsOf (asked kind) (subtractedTests (leb n i && ltb i (variables n sch)))
   unfolding byKey allBelow
-  judges-product kind p q =
-      among-all (λ kind. Judges (asked kind) (subtractedJudged (leb n i && ltb i (variables n sch)))) (0x35 ∷ 0x36 ∷ 0x37 ∷ [])
+  tests-product kind p q =
+      among-all (λ kind. TestsOf (asked kind) (subtractedTests (leb n i && ltb i (variables n sch)))) (0x35 ∷ 0x36 ∷ 0x37 ∷ [])
       (record { null-is = refl; there-is = refl; ordered-is = refl; fits-is = λ t. refl }
       ▹ record { null-is = refl; there-is = refl; ordered-is = refl; fits-is = λ t. refl }
       ▹ record { null-is = refl; there-is = refl; ordered-is = refl; fits-is = λ t. refl }
       ▹ tt)
       kind (in-range 0x35 3 (0x35 ∷ 0x36 ∷ 0x37 ∷ []) tt kind p (omega arith))
 
-  pub judges-variable : (kind : ℕ) → 0x38 ≤ kind → kind ≤ 0x39 → Judges (asked kind) (subtractedJudged (ltb i (variables n sch)))
+  pub tests-variable : (kind : ℕ) → 0x38 ≤ kind → kind ≤ 0x39 → TestsOf (asked kind) (subtractedTests (ltb i (variables n sch)))
   unfolding byKey allBelow
-  judges-variable kind p q =
-      among-all (λ kind. Judges (asked kind) (subtractedJudged (ltb i (variables n sch)))) (0x38 ∷ 0x39 ∷ [])
+  tests-variable kind p q =
+      among-all (λ kind. TestsOf (asked kind) (subtractedTests (ltb i (variables n sch)))) (0x38 ∷ 0x39 ∷ [])
       (record { null-is = refl; there-is = refl; ordered-is = refl; fits-is = λ t. refl }
       ▹ record { null-is = refl; there-is = refl; ordered-is = refl; fits-is = λ t. refl }
       ▹ tt)

@@ -21,15 +21,15 @@ use Rattle.scheme.specs.Scheme.{side}
 use Rattle.scheme.specs.Filling.{factor, induced}
 use Rattle.scheme.specs.Function.{g}
 use Rattle.scheme.specs.Valid as S
-use Rattle.scheme.proofs.Filling.{induced-cost}
 use Rattle.scheme.proofs.Table.{g-below}
+use Rattle.penalty.proofs.Induced.{induced-cost}
 use Rattle.certificate.specs.Certificate.{Certificate}
 use Rattle.certificate.specs.Rules.{minus1}
 use Rattle.certificate.specs.Residual.{nullPart, nullForms, subtractedForms, reformulated, shifted, bound}
 use Rattle.certificate.specs.Relaxed.{Relaxed}
 use Rattle.certificate.specs.Valid.{Allowed, Within, Valid}
 use Rattle.certificate.proofs.Relaxation.{induced-relaxed}
-use Rattle.certificate.proofs.Residual.{semidefinite}
+use Rattle.certificate.proofs.Semidefinite.{semidefinite}
 use Rattle.certificate.proofs.Rules.{null-below, subtracted-below, null-0, subtracted-nonneg}
 
 -- the bound is the least whole number that is at least T/s

@@ -1,5 +1,5 @@
 -- How large the numbers become: of B's table, of R, and of the sums of a row's absolute values, with every sum on the way.
-use Prim.Native.Nat.{ℕ, _*_, _≤_, _<_}
+use Prim.Native.Nat.{ℕ, _+_, _*_, _≤_, _<_}
 use mathlib.Core.Bool.{Bool, true, false, cond}
 use mathlib.Core.List.{List, [], _∷_, _++_, flatMap}
 use native.Mathlib.Nat.{mul-le-mul}
@@ -19,13 +19,14 @@ use Rattle.register.specs.Limits.{maxBase, maxTerms, maxCoefficient}
 use Rattle.register.specs.Register.{coefficient}
 use Rattle.register.specs.Valid as Reg
 use Rattle.scheme.specs.declared.Scheme.{Scheme}
-use Rattle.scheme.specs.Function.{g}
+use Rattle.scheme.specs.Function.{g, maxG}
 use Rattle.scheme.proofs.Table.{norm1-g}
-use Rattle.certificate.specs.Limits.{maxScale, maxMultiplier}
+use Rattle.certificate.specs.Limits.{maxScale, maxTarget, maxMultipliers, maxMultiplier, maxB}
 use Rattle.certificate.specs.Certificate.{Multiplier, Certificate}
 use Rattle.certificate.specs.Rules.{ruleOf}
 use Rattle.certificate.specs.Residual.{shifted}
 use Rattle.certificate.specs.Valid.{Allowed, Within}
+use Rattle.certificate.proofs.Conditions.{tested}
 use Rattle.certificate.proofs.Peaks.{rule-low}
 use Rattle.certificate.proofs.Table.{signed, signedForm, entry-signedForm, built, entry-B}
 
@@ -42,22 +43,15 @@ pub record Small (c : ℕ → ℤ) (r : Register) : Type 0 where
 pub small : (r : Register) → Reg.Within r → Small (coefficient r) r
 small r valid = record { base = valid .base; terms = valid .terms-within; coefficients = λ t l. valid .terms t l .coefficient-within }
 
--- the sum of twice the absolute values of g's coefficients is at most this, and so is each number of its table
-abbrev pub maxG : ℕ
-maxG = 2_512_000_000
-
+-- the sum of twice the absolute values of g's coefficients, and so each number of its table
 pub norm1-g-within : (c : ℕ → ℤ) (r : Register) (s : Scheme) → Small c r → norm1 (g c r s) ≤ maxG
 norm1-g-within c r s low = omega (arith, norm1-g c r s maxCoefficient (low .coefficients))
 
 -- ---- B
 
--- the numbers of B's table are at most this
-abbrev pub maxB : ℕ
-maxB = 12_560_000_000_000_000
-
--- and all sums on the way to them, monomial by monomial, are at most this
+-- all sums on the way to B, monomial by monomial, are at most this
 abbrev pub maxBuilt : ℕ
-maxBuilt = 18_704_000_000_000_000
+maxBuilt = maxScale * maxG + 2 * maxTarget + maxMultipliers * (8 * maxMultiplier)
 
 module _ (n : ℕ) (s : Scheme) where
   signed-small : (t : Multiplier) → Allowed n s t → natAbs (signed n s t) ≤ maxMultiplier
@@ -65,22 +59,22 @@ module _ (n : ℕ) (s : Scheme) where
   signed-small t ok = go (ruleOf n s t .null)
     where
       go : (b : Bool) → natAbs (cond b (t .m) (negℤ (t .m))) ≤ maxMultiplier
-      go true = ok .m-within
-      go false = rw natAbs-neg (ok .m-within)
+      go true = tested n s t ok .rule .m-within
+      go false = rw natAbs-neg (tested n s t ok .rule .m-within)
 
-  pub entry-signedForm-small : (t : Multiplier) → Allowed n s t → (i j : ℕ) → natAbs (entry (signedForm n s t) i j) ≤ 2_000_000_000_000
+  pub entry-signedForm-small : (t : Multiplier) → Allowed n s t → (i j : ℕ) → natAbs (entry (signedForm n s t) i j) ≤ 2 * maxMultiplier
   entry-signedForm-small t ok i j =
       rw (entry-signedForm n s t i j)
       (natAbs-*-≤ (signed n s t) (entry (ruleOf n s t .form) i j) maxMultiplier 2 (signed-small t ok) (rule-low n s t .entries i j))
 
-  pub norm1-signedForm : (t : Multiplier) → Allowed n s t → norm1 (signedForm n s t) ≤ 8_000_000_000_000
+  pub norm1-signedForm : (t : Multiplier) → Allowed n s t → norm1 (signedForm n s t) ≤ 8 * maxMultiplier
   unfolding signedForm
   norm1-signedForm t ok =
       omega (arith, norm1-times (signed n s t) (ruleOf n s t .form), mul-le-mul (signed-small t ok) (rule-low n s t .norm))
 
   -- the first multiplier commands, as many as there may be
-  pub norm1-multipliers : (ts : List Multiplier) → All (Allowed n s) ts → norm1 (flatMap (signedForm n s) ts) ≤ 8_000_000_000_000 * length ts
-  norm1-multipliers ts h = norm1-flatMap 8_000_000_000_000 (signedForm n s) ts (All-map (Allowed n s) _ norm1-signedForm ts h)
+  pub norm1-multipliers : (ts : List Multiplier) → All (Allowed n s) ts → norm1 (flatMap (signedForm n s) ts) ≤ 8 * maxMultiplier * length ts
+  norm1-multipliers ts h = norm1-flatMap (8 * maxMultiplier) (signedForm n s) ts (All-map (Allowed n s) _ norm1-signedForm ts h)
 
 module _ (c : ℕ → ℤ) (r : Register) (s : Scheme) (k : Certificate) (low : Small c r) (within : Within r s k) where
   abbrev n : ℕ
@@ -115,7 +109,7 @@ module _ (c : ℕ → ℤ) (r : Register) (s : Scheme) (k : Certificate) (low : 
         natAbs-+ (scaled +ℤ forms) (entry (target ∷ []) i j),
         natAbs-+ scaled forms,
         natAbs-*-≤ (pos (k .scale)) (entry (g c r s) i j) maxScale maxG (within .scale-within) (omega (arith, entry-small (g c r s) i j, norm1-g-within c r s low)),
-        natAbs-sumOver 2_000_000_000_000 (k .multipliers) (λ t. entry (signedForm n s t) i j)
+        natAbs-sumOver (2 * maxMultiplier) (k .multipliers) (λ t. entry (signedForm n s t) i j)
             (All-map (Allowed n s) _ (λ t ok. entry-signedForm-small n s t ok i j) (k .multipliers) (within .multipliers)),
         entry-small (target ∷ []) i j,
         norm1-∷ target [],

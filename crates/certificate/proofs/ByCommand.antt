@@ -23,10 +23,11 @@ use Rattle.scheme.specs.Valid as S
 use Rattle.certificate.specs.Certificate.{Multiplier, Square, Certificate}
 use Rattle.certificate.specs.Residual.{reformulated, shifted, squareAt, R}
 use Rattle.certificate.specs.Valid.{Allowed, Within}
-use Rattle.certificate.specs.Built.{begun, lessWhere}
+use Rattle.certificate.specs.Built.{withScale, lessWhere}
 use Rattle.certificate.proofs.Table.{signedForm, signedForm-below, entry-B}
 use Rattle.certificate.proofs.Bounds.{Small}
-use Rattle.certificate.proofs.RowBounds.{maxR, R-small}
+use Rattle.certificate.specs.Limits.{maxR}
+use Rattle.certificate.proofs.RowBounds.{R-small}
 use Rattle.certificate.proofs.Squares.{less-all}
 use Rattle.certificate.proofs.Rows.{withMultiplier, withSquare}
 
@@ -39,10 +40,10 @@ module _ (c : ℕ → ℤ) (r : Register) (s : Scheme) where
   abbrev n : ℕ
   n = r .choices
 
-  pub R-begun : (scale : ℕ) (target : ℤ) (i j : ℕ) → R c r s (begun scale target) i j ≡ entry (times (pos scale) (g c r s)) i j +ℤ entry (mono 0 0 (negℤ target) ∷ []) i j
+  pub R-withScale : (scale : ℕ) (target : ℤ) (i j : ℕ) → R c r s (withScale scale target) i j ≡ entry (times (pos scale) (g c r s)) i j +ℤ entry (mono 0 0 (negℤ target) ∷ []) i j
   unfolding R sumOver
-  R-begun scale target i j =
-      ap (λ b. b -ℤ pos 0) (entry-B c r s (begun scale target) i j)
+  R-withScale scale target i j =
+      ap (λ b. b -ℤ pos 0) (entry-B c r s (withScale scale target) i j)
       ∙ rw (entry-times (pos scale) (g c r s) i j) (go (pos scale *ℤ entry (g c r s) i j) (entry (mono 0 0 (negℤ target) ∷ []) i j))
     where
       go : (u v : ℤ) → u +ℤ pos 0 +ℤ v -ℤ pos 0 ≡ u +ℤ v

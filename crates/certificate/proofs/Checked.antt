@@ -1,12 +1,13 @@
 -- Commands that meet the paper's conditions pass every check.
-use Prim.Native.Nat.{ℕ, suc, _<_}
+use Prim.Native.Nat.{ℕ, suc, _≤_, _<_}
 use native.Mathlib.Omega.{arith}
 use native.Mathlib.Decide.{ℕ-discrete}
 use mathlib.Core.Path.{_≡_, refl}
+use mathlib.Core.Logic.{_↔_}
 use mathlib.Core.Bool.{Bool, true, false, not, _||_, _&&_}
 use lib.Dec.{T, eqb, ltb, leb, ltb→lt}
 use lib.IntN.{ℤ, pos, natAbs}
-use lib.ListN.{getD}
+use lib.ListN.{length, getD}
 use lib.Signed.{_≤ℤ_, ltZ}
 use borrow.Author.Tests.{ne-eqb, le-ltb, le-leb, lt-leb, leb-false}
 use Rattle.integers.specs.Lists.{allBelow}
@@ -22,7 +23,8 @@ use Rattle.certificate.specs.Certificate.{Multiplier, Square}
 use Rattle.certificate.specs.Rules.{arity, byKey, rules, noRule, ruleOf}
 use Rattle.certificate.specs.Format.{scaleChecks, outOfRange, multiplierChecks, multiplierKinds, squareChecks}
 use Rattle.certificate.specs.Valid.{Allowed, SquareAllowed}
-use Rattle.certificate.proofs.Passes.{ScalePasses}
+use Rattle.certificate.proofs.Passes.{ScalePasses, multiplier-passes}
+use Rattle.certificate.proofs.Conditions.{allowed-iff, tested}
 use Rattle.certificate.proofs.Ranges.{among-all, is-multiplier}
 
 -- ---- the variables that a command names are there
@@ -40,12 +42,12 @@ module _ (f : ℕ → ℕ) (N : ℕ) where
 
 pub names-there : (n : ℕ) (sch : Scheme) (t : Multiplier) → Allowed n sch t → (i : ℕ) → i < arity (t .kind) → getD (t .names) i 0 < variables n sch
 unfolding ruleOf byKey arity
-names-there n sch t a = among-all There multiplierKinds
+names-there n sch t a = let h = tested n sch t a in among-all There multiplierKinds
     (one ▹ (λ h. let (x, y) = T-and (v 0) (v 1) .0 h in two x y)
     ▹ (λ h. let (u, z) = T-and (v 0 && v 1) (v 2) .0 h in let (x, y) = T-and (v 0) (v 1) .0 u in three x y z)
     ▹ (λ h. let (w, k) = T-and (v 0 && v 1 && v 2) (v 3) .0 h in let (u, z) = T-and (v 0 && v 1) (v 2) .0 w in let (x, y) = T-and (v 0) (v 1) .0 u in below-more f N 3 (three x y z) (ltb→lt _ _ k))
     ▹ product ▹ product ▹ product ▹ one ▹ one ▹ tt)
-    (t .kind) (is-multiplier (t .kind) (a .kind-above) (a .kind-within)) (a .there)
+    (t .kind) (is-multiplier (t .kind) (h .kind-above) (h .kind-within)) (h .rule .there)
   where
     f : ℕ → ℕ
     f i = getD (t .names) i 0
@@ -84,11 +86,12 @@ not-below m h = flag (ltZ m (pos 0)) (λ t. let x = ltZ-true m (pos 0) t in absu
 pub multiplier-checked : (multipliers n : ℕ) (sch : Scheme) (t : Multiplier) → multipliers < maxMultipliers → Allowed n sch t → refusal (multiplierChecks multipliers (ruleOf n sch t) (t .m)) ≡ 0
 unfolding multiplierChecks outOfRange
 multiplier-checked multipliers n sch t few a =
+    let p = tested n sch t a .rule in
     none-refusal (multiplierChecks multipliers (ruleOf n sch t) (t .m)) (
       lt-leb maxMultipliers multipliers few,
       (
-        rw (le-ltb maxMultiplier (natAbs (t .m)) (a .m-within)) (sign (ruleOf n sch t .null) (a .m-above)),
-        (passes (ruleOf n sch t .there) (a .there), (passes (ruleOf n sch t .ordered) (a .ordered), (passes (ruleOf n sch t .fits) (a .fits), tt))),
+        rw (le-ltb maxMultiplier (natAbs (t .m)) (p .m-within)) (sign (ruleOf n sch t .null) (p .m-above)),
+        (passes (ruleOf n sch t .there) (p .there), (passes (ruleOf n sch t .ordered) (p .ordered), (passes (ruleOf n sch t .fits) (p .fits), tt))),
       ),
     )
   where
@@ -98,6 +101,14 @@ multiplier-checked multipliers n sch t few a =
     sign : (null : Bool) → (T (not null) → pos 0 ≤ℤ t .m) → (not null && ltZ (t .m) (pos 0)) ≡ false
     sign true h = refl
     sign false h = not-below (t .m) (h tt)
+
+-- so a command of `31` to `39` with the names of its kind passes just where it is allowed, while there is room for it
+pub multiplier-iff : (multipliers n : ℕ) (sch : Scheme) (t : Multiplier) → multipliers < maxMultipliers → 0x31 ≤ t .kind → t .kind ≤ 0x39 → length (t .names) ≡ arity (t .kind) →
+    (refusal (multiplierChecks multipliers (ruleOf n sch t) (t .m)) ≡ 0) ↔ Allowed n sch t
+multiplier-iff multipliers n sch t few x y l = (
+  (λ e. allowed-iff n sch t .1 (record { kind-above = x; kind-within = y; names = l; rule = multiplier-passes _ _ _ e .1 })),
+  multiplier-checked multipliers n sch t few,
+)
 
 pub square-checked : (squares n : ℕ) (sch : Scheme) (q : Square) → squares < maxSquares → SquareAllowed n sch q → refusal (squareChecks squares (variables n sch) q) ≡ 0
 unfolding squareChecks

@@ -16,7 +16,6 @@ use Rattle.wire.specs.Rows.{Progress}
 use Rattle.wire.proofs.Part.{NumberedReading, readPart-numbered, readFrom-end}
 use Rattle.forms.specs.Table.{tableNumbers}
 use Rattle.forms.specs.Store.{Bounded}
-use Rattle.forms.proofs.Store.{bounded-weaken}
 use Rattle.forms.proofs.Table.{withTable-at}
 use Rattle.register.specs.declared.Register.{Register}
 use Rattle.register.specs.Register.{coefficient}
@@ -28,10 +27,10 @@ use Rattle.penalty.proofs.Bounds.{side-square}
 use Rattle.certificate.specs.declared.Certificate.{Certificate as Counts}
 use Rattle.certificate.specs.declared.CertificateRead.{CertificateRead}
 use Rattle.certificate.specs.declared.CheckRead.{CheckRead}
-use Rattle.certificate.specs.Limits.{maxScale, maxTarget, squareEntries}
+use Rattle.certificate.specs.Limits.{maxScale, maxTarget, squareEntries, maxR}
 use Rattle.certificate.specs.Certificate.{Certificate}
 use Rattle.certificate.specs.Residual.{R, rowHolds, carries, bound}
-use Rattle.certificate.specs.Format.{certificatePart, commandsInJob, judged, certificateInJob}
+use Rattle.certificate.specs.Format.{certificatePart, commandsInJob, dominanceChecked, certificateInJob}
 use Rattle.certificate.specs.Valid.{Within}
 use Rattle.certificate.specs.Answer.{countsOf, commandsRead}
 use Rattle.certificate.specs.Built.{Reads}
@@ -40,7 +39,7 @@ use Rattle.certificate.specs.Dominance.{cells, FirstShort}
 use Rattle.certificate.proofs.Accept.{within-accepted}
 use Rattle.certificate.proofs.Bounds.{small}
 use Rattle.certificate.proofs.ByCommand.{holdsR, bounded-R}
-use Rattle.certificate.proofs.Dominance.{firstShort-cong, first-all}
+use Rattle.certificate.proofs.FirstShort.{firstShort-cong, first-all}
 use Rattle.certificate.proofs.Filled.{sideIn, is-side}
 
 module _ (reg : Register) (sch : Scheme) (s : List ℕ) (part : CertificateRead) (e : part ≡ commandsRead (commandsInJob reg sch s)) where
@@ -53,25 +52,25 @@ module _ (reg : Register) (sch : Scheme) (s : List ℕ) (part : CertificateRead)
   -- commands that are refused
   pub refused-commands : (part .number ≡ 0 → ⊥) → (lent : List ℤ) →
       (refusedCheck (part .number) (part .position) ≡ checked) × (lent ≡ withResidual reg sch (commandsInJob reg sch s) lent)
-  unfolding certificateInJob judged
+  unfolding certificateInJob dominanceChecked
   refused-commands h lent = go (commandsInJob reg sch s) e
     where
       go : (x : Reading (Progress Certificate)) → part ≡ commandsRead x →
-          (refusedCheck (part .number) (part .position) ≡ checkRead (judged c reg sch x)) × (lent ≡ withResidual reg sch x lent)
+          (refusedCheck (part .number) (part .position) ≡ checkRead (dominanceChecked c reg sch x)) × (lent ≡ withResidual reg sch x lent)
       go (refused n at) f = (rw f, refl)
       go (accepted p end) f = absurd (h (ap (λ r. r .number) f))
 
   -- and commands that are not
 
-  judged-at : (p : Progress Certificate) (end : ℕ) → commandsInJob reg sch s ≡ accepted p end → (b : Bool) → carries c reg sch (p .gave) ≡ b →
+  dominance-at : (p : Progress Certificate) (end : ℕ) → commandsInJob reg sch s ≡ accepted p end → (b : Bool) → carries c reg sch (p .parsed) ≡ b →
       checked ≡ checkRead (cond b (accepted p end) (refused 9 (end - 1)))
-  unfolding certificateInJob judged
-  judged-at p end x b d = rw (x, d)
+  unfolding certificateInJob dominanceChecked
+  dominance-at p end x b d = rw (x, d)
 
   pub record Reached : Type 0 where
     pub reads : Reads reg sch s
     pub position-is : part .position ≡ reads .end
-    pub certificate-is : part .certificate ≡ countsOf (reads .progress .gave)
+    pub certificate-is : part .certificate ≡ countsOf (reads .progress .parsed)
 
   pub reached : part .number ≡ 0 → Reached
   unfolding commandsInJob
@@ -90,7 +89,7 @@ module _ (reg : Register) (sch : Scheme) (s : List ℕ) (part : CertificateRead)
     commands = reached z .reads
 
     abbrev k : Certificate
-    k = commands .progress .gave
+    k = commands .progress .parsed
 
     within : Within reg sch k
     within = within-accepted reg sch s (commands .progress) (commands .end) (commands .reads) .0
@@ -104,7 +103,7 @@ module _ (reg : Register) (sch : Scheme) (s : List ℕ) (part : CertificateRead)
 
     -- the table t after it was filled
     module _ (register : Reg.Within reg) (scheme : Valid reg sch) (lent t : List ℤ) (l : tableNumbers ≤ length lent)
-        (fills : (p : Progress Certificate) (end : ℕ) → commandsInJob reg sch s ≡ accepted p end → t ≡ holdsR c reg sch (p .gave) lent) where
+        (fills : (p : Progress Certificate) (end : ℕ) → commandsInJob reg sch s ≡ accepted p end → t ≡ holdsR c reg sch (p .parsed) lent) where
       abbrev n : ℕ
       n = sideIn reg sch
 
@@ -117,10 +116,10 @@ module _ (reg : Register) (sch : Scheme) (s : List ℕ) (part : CertificateRead)
       pub side-small : n ≤ squareEntries
       side-small = omega (arith, register .choices-within, scheme .within .products-within)
 
-      pub bounded-after : Bounded n 100_000_000_000_000_000 t
+      pub bounded-after : Bounded n maxR t
       bounded-after =
           rw (is-side reg sch, filled)
-          (bounded-weaken (bounded-R c reg sch k lent (omega (arith, side-square reg sch register scheme)) (small reg register) (register .choices-within) (scheme .within) within) (omega arith))
+          (bounded-R c reg sch k lent (omega (arith, side-square reg sch register scheme)) (small reg register) (register .choices-within) (scheme .within) within)
 
       -- and the first row that falls short
       module _ (row : ℕ) (first : FirstShort n (cells n t) row) where
@@ -132,14 +131,14 @@ module _ (reg : Register) (sch : Scheme) (s : List ℕ) (part : CertificateRead)
             same i j a b =
                 rw (is-side reg sch, filled) (withTable-at (side (reg .choices) sch) (R c reg sch k) lent i j (rw (is-side reg sch) at a) (rw (is-side reg sch) at b))
 
-        judged-here : (b : Bool) → eqb row n ≡ b → checked ≡ checkRead (cond b (accepted (commands .progress) (commands .end)) (refused 9 (commands .end - 1)))
-        judged-here b d = judged-at (commands .progress) (commands .end) (commands .reads) b (sym carried ∙ d)
+        dominance-here : (b : Bool) → eqb row n ≡ b → checked ≡ checkRead (cond b (accepted (commands .progress) (commands .end)) (refused 9 (commands .end - 1)))
+        dominance-here b d = dominance-at (commands .progress) (commands .end) (commands .reads) b (sym carried ∙ d)
 
         pub falls-short : row < n → refusedCheck 9 (part .position - 1) ≡ checked
         falls-short h =
             flag (eqb row n)
             (λ b. absurd (omega (arith, eqb-true row n b)))
-            (λ b. ap (λ end. refusedCheck 9 (end - 1)) (reached z .position-is) ∙ sym (judged-here false b))
+            (λ b. ap (λ end. refusedCheck 9 (end - 1)) (reached z .position-is) ∙ sym (dominance-here false b))
 
         pub holds-all : n ≤ row → (b : ℤ) → b ≡ ceilDiv (part .certificate .target) (part .certificate .scale) →
             _≡_ {A = CheckRead} (record { number = 0; position = part .position; bound = b }) checked
@@ -148,7 +147,7 @@ module _ (reg : Register) (sch : Scheme) (s : List ℕ) (part : CertificateRead)
             flag (eqb row n)
             (λ g.
             ap₂ answer (reached z .position-is) (d ∙ ap (λ (r : Counts). ceilDiv (r .target) (r .scale)) (reached z .certificate-is))
-            ∙ sym (judged-here true g))
+            ∙ sym (dominance-here true g))
             (λ g. absurd (omega (arith, first .within, eqb-false row n g)))
           where
             answer : ℕ → ℤ → CheckRead

@@ -20,6 +20,7 @@ use Rattle.certificate.specs.Format.{commandsInJob}
 use Rattle.certificate.specs.Valid.{Allowed, SquareAllowed, Within}
 use Rattle.certificate.specs.Encoding.{Entry, multiplier, square, multipliersOf, squaresOf, encodeScale, encodeEntry, Encodes}
 use Rattle.certificate.proofs.Passes.{ScalePasses}
+use Rattle.certificate.proofs.Conditions.{tested}
 use Rattle.certificate.proofs.Rows.{part, reached, withMultiplier, withSquare}
 use Rattle.certificate.proofs.Encoded.{scaleCommand, multiplierCommand, squareCommand, endCommand, bytes-scale, bytes-multiplier, bytes-square}
 use Rattle.certificate.proofs.Leading.{Before, before-range, scale-leads, multiplier-leads, square-leads, end-accepts}
@@ -51,7 +52,8 @@ module _ (reg : Register) (sch : Scheme) (few : variables (reg .choices) sch ≤
   unfolding flatMap
   entries-accept [] previous k b g l m = rw (append-nil, append-nil) (end-accepts reg sch few previous k b)
   entries-accept (multiplier t ∷ es) previous k b g l m =
-      let later = entries-accept es (t .kind) (withMultiplier k t) (before-range (t .kind) (omega (arith, g .0 .kind-above)) (omega (arith, g .0 .kind-within))) (g .1) (omega (arith, length-append (k .multipliers) (t ∷ []))) m in
+      let h = tested n sch t (g .0) in
+      let later = entries-accept es (t .kind) (withMultiplier k t) (before-range (t .kind) (omega (arith, h .kind-above)) (omega (arith, h .kind-within))) (g .1) (omega (arith, length-append (k .multipliers) (t ∷ []))) m in
       multiplier-leads reg sch few previous k t b (omega arith) (g .0) .on _ _ (rw append-assoc at later)
   entries-accept (square q ∷ es) previous k b g l m =
       let later = entries-accept es 0x3A (withSquare k q) refl (g .1) l (omega (arith, length-append (k .squares) (q ∷ []))) in
@@ -61,7 +63,8 @@ module _ (reg : Register) (sch : Scheme) (few : variables (reg .choices) sch ≤
   unfolding encode flatMap
   entries-bytes [] g = refl
   entries-bytes (multiplier t ∷ es) g =
-      ap₂ (λ x y. x ++ y) (bytes-multiplier reg sch t (g .0 .kind-above) (g .0 .kind-within) (g .0 .names)) (entries-bytes es (g .1))
+      let h = tested n sch t (g .0) in
+      ap₂ (λ x y. x ++ y) (bytes-multiplier reg sch t (h .kind-above) (h .kind-within) (h .names)) (entries-bytes es (g .1))
   entries-bytes (square q ∷ es) g = ap₂ (λ x y. x ++ y) (bytes-square reg sch q (g .0 .entries)) (entries-bytes es (g .1))
 
   bytes-end : encode P (endCommand ∷ []) ≡ 0x3F ∷ []
@@ -76,9 +79,10 @@ module _ (reg : Register) (sch : Scheme) (few : variables (reg .choices) sch ≤
 
   -- ---- the whole
 
-  pub certificate-accepted : (k : Certificate) (s : List ℕ) → Within reg sch k → Encodes k s → commandsInJob reg sch s ≡ accepted (reached 0x3F k) (length s)
+  -- at the front of a run of bytes
+  pub certificate-front : (k : Certificate) (s rest : List ℕ) → Within reg sch k → Encodes k s → commandsInJob reg sch (s ++ rest) ≡ accepted (reached 0x3F k) (length s)
   unfolding commandsInJob readPart encode flatMap
-  certificate-accepted k s w e =
+  certificate-front k s rest w e =
       let es = e .entries in
       let cs : List Command = scaleCommand (k .scale) (k .target) ∷ (map commandOf es ++ (endCommand ∷ [])) in
       let m = e .commands .multipliers-are in
@@ -88,4 +92,8 @@ module _ (reg : Register) (sch : Scheme) (few : variables (reg .choices) sch ≤
       let first = entries-accept es 0x30 (record { scale = k .scale; target = k .target; multipliers = []; squares = [] }) refl good (rw m (omega (arith, w .multipliers-within))) (rw q (omega (arith, w .squares-within))) in
       let a : Accepts P (P .start) cs (reached 0x3F k) = scale-leads reg sch few (k .scale) (k .target) passes .on _ _ (rw (m, q) at first) in
       let x : encode P cs ≡ s = ap₂ (λ x y. x ++ y) (bytes-scale reg sch (k .scale) (k .target)) (encode-append P (map commandOf es) (endCommand ∷ []) ∙ ap₂ (λ x y. x ++ y) (entries-bytes es good) bytes-end) ∙ sym (append-assoc (encodeScale (k .scale) (k .target)) (flatMap encodeEntry es) (0x3F ∷ [])) ∙ sym (e .bytes) in
-      complete-at P cs s (P .start) 0 (reached 0x3F k) [] a (sym x ∙ sym (append-nil (encode P cs))) ∙ ap (λ l. accepted (reached 0x3F k) l) (zero-add (length (encode P cs)) ∙ ap length x)
+      complete-at P cs (s ++ rest) (P .start) 0 (reached 0x3F k) rest a (ap (λ l. l ++ rest) (sym x)) ∙ ap (λ l. accepted (reached 0x3F k) l) (zero-add (length (encode P cs)) ∙ ap length x)
+
+  -- by itself
+  pub certificate-accepted : (k : Certificate) (s : List ℕ) → Within reg sch k → Encodes k s → commandsInJob reg sch s ≡ accepted (reached 0x3F k) (length s)
+  certificate-accepted k s w e = ap (commandsInJob reg sch) (sym (append-nil s)) ∙ certificate-front k s [] w e

@@ -11,7 +11,7 @@ use lib.ListN.{getD, replicate}
 use lib.Signed.{_≤ℤ_}
 use Rattle.integers.specs.CeilDiv.{ceilDiv}
 use Rattle.integers.specs.Lists.{allBelow}
-use Rattle.integers.proofs.Lists.{T-and, T-true, allBelow-at, _▹_}
+use Rattle.integers.proofs.Lists.{T-and, allBelow-at, _▹_}
 use Rattle.register.specs.declared.Register.{Register}
 use Rattle.register.specs.Register.{mask, coefficient}
 use Rattle.plan.specs.Plan.{cost}
@@ -19,13 +19,13 @@ use Rattle.scheme.specs.declared.Scheme.{Scheme}
 use Rattle.scheme.specs.Scheme.{left, right, variables, splitLeft, splitRight}
 use Rattle.scheme.specs.Variables.{E, upward, upTo}
 use Rattle.scheme.specs.Valid as S
-use Rattle.certificate.specs.Rules.{arity, byKey, ruleOf}
 use Rattle.certificate.specs.Residual.{bound}
 use Rattle.certificate.specs.Valid.{Valid}
 use Rattle.register.proofs.Example.{exampleRegister}
 use Rattle.scheme.proofs.Example.{exampleScheme}
+use Rattle.certificate.proofs.Conditions.{carries-iff}
 use Rattle.certificate.proofs.Worked.{exampleCertificate, w9}
-use Rattle.certificate.proofs.Commands.{allowed-command}
+use Rattle.certificate.proofs.Commands.{command-38, command-39}
 use Rattle.certificate.proofs.Bound.{plan-bound}
 
 -- ---- products and splits, as tests
@@ -88,7 +88,6 @@ example-scheme = record {
 }
 
 example-valid : Valid (coefficient exampleRegister) exampleRegister exampleScheme (exampleCertificate (pos 0))
-unfolding ruleOf byKey arity
 example-valid = record {
   within = record {
     scale-above = omega arith;
@@ -96,14 +95,14 @@ example-valid = record {
     target-within = omega arith;
     multipliers-within = omega arith;
     multipliers =
-        allowed-command 3 exampleScheme 0x39 0 6 (omega arith) (omega arith) refl (omega arith) tt tt tt
-        ▹ allowed-command 3 exampleScheme 0x39 1 4 (omega arith) (omega arith) refl (omega arith) tt tt tt
-        ▹ allowed-command 3 exampleScheme 0x38 4 5 (omega arith) (omega arith) refl (omega arith) tt tt tt
+        command-39 3 exampleScheme 0 6 (omega arith) (omega arith)
+        ▹ command-39 3 exampleScheme 1 4 (omega arith) (omega arith)
+        ▹ command-38 3 exampleScheme 4 5 (omega arith) (omega arith)
         ▹ tt;
     squares-within = omega arith;
     squares = tt;
   };
-  carried = T-true _ .1 (ap (λ l. getD l 0 true) w9);
+  carried = carries-iff (coefficient exampleRegister) exampleRegister exampleScheme (exampleCertificate (pos 0)) .0 (ap (λ l. getD l 0 true) w9);
 }
 
 no-plan-below : (plan : ℕ) → pos 0 ≤ℤ cost (coefficient exampleRegister) exampleRegister plan

@@ -8,7 +8,7 @@ use native.Mathlib.Omega.{arith}
 use lib.IntN.{ℤ}
 use lib.ListN.{length, getD}
 use Rattle.forms.specs.Table.{tableNumbers, withTable}
-use Rattle.forms.specs.Store.{addForm, Bounded}
+use Rattle.forms.specs.Store.{addForm, Bounded, maxBeforeForm}
 use Rattle.forms.proofs.Store.{bounded-weaken}
 use Rattle.forms.proofs.Table.{withTable-at, withTable-past, withTable-length, is-withTable}
 use Rattle.wire.specs.Part.{accepted}
@@ -22,10 +22,9 @@ use Rattle.scheme.specs.Valid.{Valid}
 use Rattle.penalty.proofs.Bounds.{side-square}
 use Rattle.certificate.specs.Limits.{squareEntries}
 use Rattle.certificate.specs.Certificate.{Certificate}
-use Rattle.certificate.specs.Rules.{arity}
-use Rattle.certificate.specs.Format.{commandsInJob}
+use Rattle.certificate.specs.Format.{commandSize, commandsInJob}
 use Rattle.certificate.specs.Answer.{namedOf, multiplierAt, squareRead}
-use Rattle.certificate.specs.Built.{begunBy, Reads, added, lessWhere}
+use Rattle.certificate.specs.Built.{withScaleIn, Reads, added, lessWhere}
 use Rattle.certificate.proofs.Bounds.{small}
 use Rattle.certificate.proofs.Rows.{reached}
 use Rattle.certificate.proofs.Adds.{added-signed}
@@ -67,25 +66,25 @@ module _ {reg : Register} {sch : Scheme} {s : List ℕ} (h : Ready reg sch s) wh
     fits = omega (arith, side-square reg sch (h .register) (h .scheme))
 
     -- the table u after the first command
-    module _ (u : List ℤ) (d : u ≡ holdsR (coefficient reg) reg sch (begunBy s) lent) where
+    module _ (u : List ℤ) (d : u ≡ holdsR (coefficient reg) reg sch (withScaleIn s) lent) where
       pub first-length : length u ≡ length lent
       first-length = ap length d ∙ withTable-length (side (reg .choices) sch) _ lent fits
 
       pub first-under : (k : Certificate) → holdsR (coefficient reg) reg sch k u ≡ holdsR (coefficient reg) reg sch k lent
       first-under k = ap (holdsR (coefficient reg) reg sch k) d ∙ withTable-again (side (reg .choices) sch) _ _ lent fits
 
-      pub first-filled : Filled reg sch s u u 13
+      pub first-filled : Filled reg sch s u u (commandSize 0x30)
       first-filled = record {
-        certificate = begunBy s;
+        certificate = withScaleIn s;
         midway = started reg sch s (h .reads) .midway;
-        holds = d ∙ sym (first-under (begunBy s));
+        holds = d ∙ sym (first-under (withScaleIn s));
       }
 
     module _ {t : List ℤ} {at : ℕ} (f : Filled reg sch s lent t at) where
       pub filled-length : length t ≡ length lent
       filled-length = rw (f .holds) (withTable-length (side (reg .choices) sch) _ lent fits)
 
-      pub filled-bounded : Bounded (sideIn reg sch) 3_000_000_000_000_000_000 t
+      pub filled-bounded : Bounded (sideIn reg sch) maxBeforeForm t
       filled-bounded =
           rw (is-side reg sch, f .holds)
           (bounded-weaken (bounded-R (coefficient reg) reg sch (f .certificate) lent fits (small reg (h .register)) (h .register .choices-within) (h .scheme .within) (f .midway .within)) (omega arith))
@@ -93,7 +92,7 @@ module _ {reg : Register} {sch : Scheme} {s : List ℕ} (h : Ready reg sch s) wh
       -- one command more
 
       pub multiplier-filled : (x : 0x31 ≤ getD s at 0) (y : getD s at 0 ≤ 0x39) (u : List ℤ) → u ≡ addForm (sideIn reg sch) (added (reg .choices) sch (namedOf (multiplierAt s at))) t →
-          Filled reg sch s lent u (at + (9 + arity (getD s at 0)))
+          Filled reg sch s lent u (at + commandSize (getD s at 0))
       multiplier-filled x y u e = record {
         certificate = _;
         midway = multiplier-on reg sch s (h .reads) (f .midway) x y;
@@ -102,7 +101,7 @@ module _ {reg : Register} {sch : Scheme} {s : List ℕ} (h : Ready reg sch s) wh
             (table-multiplier (coefficient reg) reg sch (f .certificate) lent fits (h .scheme .within .products) (multiplierAt s at) (multiplier-allowed reg sch s (h .reads) (f .midway) x y));
       }
 
-      pub square-filled : getD s at 0 ≡ 0x3A → (u : List ℤ) → u ≡ lessWhere (sideIn reg sch) (squareRead s at) (λ i j. true) t → Filled reg sch s lent u (at + 135)
+      pub square-filled : getD s at 0 ≡ 0x3A → (u : List ℤ) → u ≡ lessWhere (sideIn reg sch) (squareRead s at) (λ i j. true) t → Filled reg sch s lent u (at + commandSize (getD s at 0))
       square-filled c u e = record {
         certificate = _;
         midway = square-on reg sch s (h .reads) (f .midway) c;
@@ -112,11 +111,11 @@ module _ {reg : Register} {sch : Scheme} {s : List ℕ} (h : Ready reg sch s) wh
       -- at the end, which there is
 
       pub filled-last : (0x31 ≤ getD s at 0 → getD s at 0 ≤ 0x39 → ⊥) → (getD s at 0 ≡ 0x3A → ⊥) → (p : Progress Certificate) (e : ℕ) → commandsInJob reg sch s ≡ accepted p e →
-          t ≡ holdsR (coefficient reg) reg sch (p .gave) lent
+          t ≡ holdsR (coefficient reg) reg sch (p .parsed) lent
       filled-last x y p e d =
           let q = ends-here reg sch s (h .reads) (f .midway) x y in
           let z : reached 0x3F (f .certificate) ≡ p = cc in
-          f .holds ∙ ap (λ (p : Progress Certificate). holdsR (coefficient reg) reg sch (p .gave) lent) z
+          f .holds ∙ ap (λ (p : Progress Certificate). holdsR (coefficient reg) reg sch (p .parsed) lent) z
 
       pub filled-inside : length s ≤ at → ⊥
       filled-inside o = omega (arith, passes reg sch s (h .reads) (f .midway) .inside)

@@ -26,6 +26,7 @@ use Rattle.certificate.specs.Format.{multiplierChecks, anyBefore}
 use Rattle.certificate.specs.Rules.{ruleOf}
 use Rattle.certificate.specs.Valid.{Allowed, SquareAllowed}
 use Rattle.certificate.proofs.Passes.{ScalePasses}
+use Rattle.certificate.proofs.Conditions.{tested}
 use Rattle.certificate.proofs.Ranges.{in-range}
 use Rattle.certificate.proofs.Rows.{part, rows, reached, withMultiplier, withSquare, row-multiplier, last-multiplier}
 use Rattle.certificate.proofs.Encoded.{scaleCommand, multiplierCommand, squareCommand, endCommand}
@@ -61,9 +62,10 @@ module _ (reg : Register) (sch : Scheme) (few : variables (reg .choices) sch ≤
 
   pub multiplier-leads : (previous : ℕ) (k : Certificate) (t : Multiplier) → Before previous → length (k .multipliers) < maxMultipliers → Allowed n sch t → Leads P (reached previous k) (multiplierCommand t ∷ []) (reached (t .kind) (withMultiplier k t))
   multiplier-leads previous k t b l a =
+      let h = tested n sch t a in
       let c = multiplierCommand t in
       let xs = c .operands in
-      let row = row-multiplier reg sch (t .kind) (a .kind-above) (a .kind-within) in
+      let row = row-multiplier reg sch (t .kind) (h .kind-above) (h .kind-within) in
       let back = multiplier-back n sch t a in
       let checked : refusal (rowOf (rows reg sch) (t .kind) .checks k xs) ≡ 0 =
       ap (λ (r : Row Certificate). refusal (r .checks k xs)) row
@@ -72,17 +74,17 @@ module _ (reg : Register) (sch : Scheme) (few : variables (reg .choices) sch ≤
       let after : afterCommand P (reached previous k) c ≡ reached (t .kind) (withMultiplier k t) =
       ap (λ (r : Row Certificate). reached (t .kind) (r .after k xs)) row ∙ ap (λ (x : Multiplier). reached (t .kind) (withMultiplier k x)) back in
       rw after at (leads-one P {read = reached previous k} c (record {
-        byte = omega (arith, a .kind-within);
+        byte = omega (arith, h .kind-within);
         here = ap (λ (r : Row Certificate). isAmong previous (r .follows)) row ∙ b;
-        operands = rw row (rw (a .names) at (fit-names (t .names) (ofZ w64 (t .m)) named wide));
+        operands = rw row (rw (h .names) at (fit-names (t .names) (ofZ w64 (t .m)) named wide));
         passes = checked;
-      }) (last-multiplier reg sch (t .kind) (a .kind-above) (a .kind-within)))
+      }) (last-multiplier reg sch (t .kind) (h .kind-above) (h .kind-within)))
     where
       named : (i : ℕ) → i < length (t .names) → getD (t .names) i 0 < 256
-      named i b = omega (arith, names-there n sch t a i (omega (arith, a .names)))
+      named i b = omega (arith, names-there n sch t a i (omega (arith, tested n sch t a .names)))
 
       wide : ofZ w64 (t .m) < 256 ^ 8
-      wide = fits-ofZ (fits-signed w64 (t .m) (omega (arith, a .m-within))) .fits
+      wide = fits-ofZ (fits-signed w64 (t .m) (omega (arith, tested n sch t a .rule .m-within))) .fits
 
   pub square-leads : (previous : ℕ) (k : Certificate) (q : Square) → Before previous → length (k .squares) < maxSquares → SquareAllowed n sch q → Leads P (reached previous k) (squareCommand q ∷ []) (reached 0x3A (withSquare k q))
   unfolding rowOf

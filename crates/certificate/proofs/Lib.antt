@@ -1,11 +1,12 @@
--- The worked rows; the rules and the relaxation; R, B and the bound; the table as a check builds it; how large the numbers become;
--- the commands one by one, and reading them.
+-- The conditions and the reader's tests; the worked rows; the rules and the relaxation; R, B and the bound; the table as a
+-- check builds it; how large the numbers become; the commands one by one, and reading them.
+pub mod Conditions
 pub mod Commands
 pub mod Worked
 pub mod Forms
 pub mod Rules
 pub mod Relaxation
-pub mod Residual
+pub mod Semidefinite
 pub mod SecondOrder
 pub mod Bound
 pub mod Table
@@ -16,6 +17,7 @@ pub mod Example
 pub mod Operands
 pub mod Ranges
 pub mod Asks
+pub mod Sizes
 pub mod Rows
 pub mod Shown
 pub mod Passes
@@ -30,7 +32,7 @@ pub mod Readback
 pub mod Leading
 pub mod Complete
 pub mod Accept
-pub mod Dominance
+pub mod FirstShort
 pub mod Squares
 pub mod Adds
 pub mod ByCommand

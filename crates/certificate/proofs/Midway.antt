@@ -5,7 +5,7 @@ use mathlib.Core.Bool.{false≢true}
 use mathlib.Core.List.{List, [], _∷_, _++_}
 use native.Mathlib.Omega.{arith}
 use native.Mathlib.Decide.{ℕ-discrete, decLt}
-use lib.ListN.{length, getD, take, replicate, length-replicate, length-map}
+use lib.ListN.{length, getD, replicate, length-replicate, length-map}
 use mir.Syntax.{w16}
 use mir.Val.{toZ}
 use borrow.Author.Tests.{eqb-true}
@@ -15,17 +15,19 @@ use Rattle.wire.specs.Rows.{Progress, rowOf}
 use Rattle.wire.proofs.Part.{Passes, checksAt-passed, passed-checksAt, readFrom-missing, readFrom-refused, readFrom-goes, readFrom-ends}
 use Rattle.register.specs.declared.Register.{Register}
 use Rattle.scheme.specs.declared.Scheme.{Scheme}
-use Rattle.certificate.specs.Limits.{squareEntries}
+use Rattle.certificate.specs.Limits.{maxMultipliers, squareEntries}
 use Rattle.certificate.specs.Certificate.{Certificate, fresh}
-use Rattle.certificate.specs.Rules.{arity}
-use Rattle.certificate.specs.Format.{commandsInJob}
+use Rattle.certificate.specs.Rules.{ruleOf, byKey}
+use Rattle.certificate.specs.Format.{commandSize, commandsInJob}
 use Rattle.certificate.specs.Valid.{Allowed, SquareAllowed, Within}
 use Rattle.certificate.specs.Answer.{multiplierAt, squareRead}
-use Rattle.certificate.specs.Built.{begunBy, Reads}
-use Rattle.certificate.proofs.Operands.{length-operands, names-first}
-use Rattle.certificate.proofs.Rows.{reached, withMultiplier, withSquare, part, row-multiplier, size-multiplier, last-multiplier, own-scale, own-multiplier, own-square, after-scale, after-multiplier, after-square, after-end, checks-other}
-use Rattle.certificate.proofs.Passes.{scale-passes, multiplier-passes, square-passes}
+use Rattle.certificate.specs.Built.{withScaleIn, Reads}
+use Rattle.certificate.proofs.Operands.{length-operands}
+use Rattle.certificate.proofs.Rows.{reached, withMultiplier, withSquare, part, row-multiplier, last-multiplier, own-scale, own-multiplier, own-square, after-scale, after-multiplier, after-square, after-end, checks-other}
+use Rattle.certificate.proofs.Sizes.{size-is}
+use Rattle.certificate.proofs.Passes.{RulePasses, scale-passes, multiplier-passes, square-passes}
 use Rattle.certificate.proofs.Growth.{within-multiplier, within-square}
+use Rattle.certificate.proofs.Steps.{allowed-at}
 
 entries-long : (s : List ℕ) (at : ℕ) → length (squareRead s at .v) ≡ squareEntries
 unfolding squareRead operandsAt
@@ -47,12 +49,12 @@ module _ (reg : Register) (sch : Scheme) (s : List ℕ) where
       clash : {n i : ℕ} → readFrom (part reg sch) s p at ≡ refused n i → ⊥
       clash f = let z : _≡_ {A = ℕ} 0 1 = cc in omega arith
 
-      judged : at < length s → Dec (refusal (checksAt (part reg sch) s p at) ≡ 0) → Passes (part reg sch) s p at
-      judged l (yes f) = checksAt-passed (part reg sch) s p at l f
-      judged l (no f) = absurd (clash (readFrom-refused (part reg sch) s p at _ l refl f))
+      unrefused : at < length s → Dec (refusal (checksAt (part reg sch) s p at) ≡ 0) → Passes (part reg sch) s p at
+      unrefused l (yes f) = checksAt-passed (part reg sch) s p at l f
+      unrefused l (no f) = absurd (clash (readFrom-refused (part reg sch) s p at _ l refl f))
 
       inside : Dec (at < length s) → Passes (part reg sch) s p at
-      inside (yes l) = judged l (ℕ-discrete _ 0)
+      inside (yes l) = unrefused l (ℕ-discrete _ 0)
       inside (no l) = absurd (clash (readFrom-missing (part reg sch) s p at (omega arith)))
 
   -- a command's byte, where the command is not refused
@@ -61,7 +63,7 @@ module _ (reg : Register) (sch : Scheme) (s : List ℕ) where
     b = getD s at 0
 
     none-other : (0x30 ≤ b → b ≤ 0x3A → ⊥) → (b ≡ 0x3F → ⊥) → ⊥
-    none-other x y = omega (arith, passed-checksAt (part reg sch) s p at h, checks-other reg sch s (p .previous) (p .gave) at x y)
+    none-other x y = omega (arith, passed-checksAt (part reg sch) s p at h, checks-other reg sch s (p .previous) (p .parsed) at x y)
 
     -- only `30` is first
     first-byte : p .previous ≡ 0 → b ≡ 0x30
@@ -90,11 +92,11 @@ module _ (reg : Register) (sch : Scheme) (s : List ℕ) where
   module _ (r : Reads reg sch s) where
     -- the first command
     pub record Started : Type 0 where
-      pub room : 13 ≤ length s
-      pub midway : Midway (begunBy s) 13
+      pub room : commandSize 0x30 ≤ length s
+      pub midway : Midway (withScaleIn s) (commandSize 0x30)
 
     pub started : Started
-    unfolding rowOf total commandsInJob readPart
+    unfolding rowOf total commandsInJob readPart commandSize byKey
     started =
         let d = r .reads in
         let h = accepted-passes (reached 0 fresh) 0 d in
@@ -127,48 +129,30 @@ module _ (reg : Register) (sch : Scheme) (s : List ℕ) where
       pub passes : Passes (part reg sch) s p at
       passes = accepted-passes p at (g .same ∙ r .reads)
 
+      pub command-room : at + commandSize (getD s at 0) ≤ length s
+      command-room = rw (size-is reg sch) at (passes .room)
+
       -- a multiplier command
       module _ (x : 0x31 ≤ getD s at 0) (y : getD s at 0 ≤ 0x39) where
-        pub multiplier-room : at + (9 + arity (getD s at 0)) ≤ length s
-        multiplier-room = rw (size-multiplier reg sch (getD s at 0) x y) at (passes .room)
+        multiplier-tested : (length (k .multipliers) < maxMultipliers) × RulePasses (ruleOf (reg .choices) sch (multiplierAt s at)) (multiplierAt s at .m)
+        multiplier-tested = multiplier-passes _ _ _ (ap refusal (sym (own-multiplier reg sch s (g .previous) k at x y)) ∙ passes .allowed)
 
         pub multiplier-allowed : Allowed (reg .choices) sch (multiplierAt s at)
-        unfolding multiplierAt
-        multiplier-allowed =
-            let m = multiplier-passes _ _ _ (ap refusal (sym (own-multiplier reg sch s (g .previous) k at x y)) ∙ passes .allowed) in
-            record {
-              kind-above = x;
-              kind-within = y;
-              names = names-long (arity (getD s at 0));
-              m-within = m .m-within;
-              m-above = m .m-above;
-              there = m .there;
-              ordered = m .ordered;
-              fits = m .fits;
-            }
-          where
-            names-long : (a : ℕ) → length (take a (operandsAt (replicate a 1 ++ (8 ∷ [])) s (at + 1))) ≡ a
-            names-long a = ap length (names-first a s (at + 1)) ∙ length-operands (replicate a 1) s (at + 1) ∙ length-replicate {A = ℕ} a 1
+        multiplier-allowed = allowed-at (reg .choices) sch s at x y (multiplier-tested .1)
 
-        pub multiplier-on : Midway (withMultiplier k (multiplierAt s at)) (at + (9 + arity (getD s at 0)))
-        multiplier-on =
-            let m = multiplier-passes _ _ _ (ap refusal (sym (own-multiplier reg sch s (g .previous) k at x y)) ∙ passes .allowed) in
-            record {
-              previous = getD s at 0;
-              after-first = λ z. omega arith;
-              within = within-multiplier reg sch k (multiplierAt s at) (g .within) (m .few) multiplier-allowed;
-              same =
-                  ap₂ (readFrom (part reg sch) s) (sym (after-multiplier reg sch s (g .previous) k at x y)) (ap (λ n. at + n) (sym (size-multiplier reg sch (getD s at 0) x y)))
-                  ∙ sym (readFrom-goes (part reg sch) s p at (passes .inside) (passed-checksAt (part reg sch) s p at passes) (last-multiplier reg sch (getD s at 0) x y))
-                  ∙ g .same;
-            }
+        pub multiplier-on : Midway (withMultiplier k (multiplierAt s at)) (at + commandSize (getD s at 0))
+        multiplier-on = record {
+          previous = getD s at 0;
+          after-first = λ z. omega arith;
+          within = within-multiplier reg sch k (multiplierAt s at) (g .within) (multiplier-tested .0) multiplier-allowed;
+          same =
+              ap₂ (readFrom (part reg sch) s) (sym (after-multiplier reg sch s (g .previous) k at x y)) (ap (λ n. at + n) (sym (size-is reg sch (getD s at 0))))
+              ∙ sym (readFrom-goes (part reg sch) s p at (passes .inside) (passed-checksAt (part reg sch) s p at passes) (last-multiplier reg sch (getD s at 0) x y))
+              ∙ g .same;
+        }
 
       -- a square
       module _ (e : getD s at 0 ≡ 0x3A) where
-        pub square-room : at + 135 ≤ length s
-        unfolding rowOf total
-        square-room = rw e at (passes .room)
-
         pub square-allowed : SquareAllowed (reg .choices) sch (squareRead s at)
         square-allowed =
             let q = square-passes _ _ _ (ap refusal (sym (own-square reg sch s (g .previous) k at e)) ∙ passes .allowed) in
@@ -180,8 +164,8 @@ module _ (reg : Register) (sch : Scheme) (s : List ℕ) where
               past-0 = q .past-0;
             }
 
-        pub square-on : Midway (withSquare k (squareRead s at)) (at + 135)
-        unfolding rowOf total
+        pub square-on : Midway (withSquare k (squareRead s at)) (at + commandSize (getD s at 0))
+        unfolding rowOf
         square-on =
             let q = square-passes _ _ _ (ap refusal (sym (own-square reg sch s (g .previous) k at e)) ∙ passes .allowed) in
             record {
@@ -189,7 +173,7 @@ module _ (reg : Register) (sch : Scheme) (s : List ℕ) where
               after-first = λ z. omega arith;
               within = within-square reg sch k (squareRead s at) (g .within) (q .few) square-allowed;
               same =
-                  ap₂ (readFrom (part reg sch) s) (sym (after-square reg sch s (g .previous) k at e)) (rw e)
+                  ap₂ (readFrom (part reg sch) s) (sym (after-square reg sch s (g .previous) k at e)) (ap (λ k. at + k) (sym (size-is reg sch (getD s at 0))))
                   ∙ sym (readFrom-goes (part reg sch) s p at (passes .inside) (passed-checksAt (part reg sch) s p at passes) (rw e))
                   ∙ g .same;
             }

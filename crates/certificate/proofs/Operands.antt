@@ -9,14 +9,11 @@ use lib.Seq.{ext-getD}
 use lib.IntN.{ℤ, pos}
 use mir.Syntax.{w16}
 use mir.Val.{toZ}
-use Rattle.integers.proofs.Lists.{_▹_}
 use Rattle.wire.specs.Number.{natAt, intAt}
 use Rattle.wire.specs.Part.{operandsAt, total}
 use Rattle.certificate.specs.declared.Square.{Square as Filled}
 use Rattle.certificate.specs.Limits.{squareEntries}
-use Rattle.certificate.specs.Rules.{arity}
 use Rattle.certificate.specs.Answer.{filledOf, squareRead}
-use Rattle.certificate.proofs.Rules.{byKey-all}
 
 pub length-operands : (ws s : List ℕ) (at : ℕ) → length (operandsAt ws s at) ≡ length ws
 unfolding operandsAt
@@ -50,10 +47,6 @@ pub multiplier-last : (k : ℕ) (s : List ℕ) (at : ℕ) → getD (operandsAt (
 unfolding operandsAt
 multiplier-last zero s at = ap (natAt 8 s) (omega arith)
 multiplier-last (suc k) s at = multiplier-last k s (at + 1) ∙ ap (natAt 8 s) (omega arith)
-
-pub arity-small : (kind : ℕ) → arity kind ≤ 4
-unfolding arity
-arity-small kind = byKey-all (λ a. a ≤ 4) 1 kind ((0x32, 2) ∷ (0x33, 3) ∷ (0x34, 4) ∷ []) (omega arith) (omega arith ▹ omega arith ▹ omega arith ▹ tt)
 
 pub total-multiplier : (k : ℕ) → suc (total (replicate k 1 ++ (8 ∷ []))) ≡ 9 + k
 unfolding total

@@ -38,27 +38,28 @@ scale-passes s target e =
       target-within = ltb-false maxTarget (natAbs target) (r .1);
     }
 
-pub record MultiplierPasses (multipliers : ℕ) (rule : Rule) (m : ℤ) : Type 0 where
-  pub few : multipliers < maxMultipliers
+-- the tests of a rule and of the multiplier m
+pub record RulePasses (rule : Rule) (m : ℤ) : Type 0 where
   pub m-within : natAbs m ≤ maxMultiplier
   pub m-above : T (not (rule .null)) → pos 0 ≤ℤ m
   pub there : T (rule .there)
   pub ordered : T (rule .ordered)
   pub fits : T (rule .fits)
 
-pub multiplier-passes : (multipliers : ℕ) (rule : Rule) (m : ℤ) → refusal (multiplierChecks multipliers rule m) ≡ 0 → MultiplierPasses multipliers rule m
+pub multiplier-passes : (multipliers : ℕ) (rule : Rule) (m : ℤ) → refusal (multiplierChecks multipliers rule m) ≡ 0 → (multipliers < maxMultipliers) × RulePasses rule m
 unfolding multiplierChecks outOfRange
 multiplier-passes multipliers rule m e =
     let p = refusal-none (multiplierChecks multipliers rule m) (omega arith) e in
-    let r = or-none _ _ (p .1 .0) in
-    record {
-      few = leb-false maxMultipliers multipliers (p .0);
-      m-within = ltb-false maxMultiplier (natAbs m) (r .0);
-      m-above = λ t. ltZ-false m (pos 0) (rw (T-true (not (rule .null)) .0 t) at (r .1));
-      there = holds (rule .there) (p .1 .1 .0);
-      ordered = holds (rule .ordered) (p .1 .1 .1 .0);
-      fits = holds (rule .fits) (p .1 .1 .1 .1 .0);
-    }
+    let r = or-none _ _ (p .1 .0) in (
+      leb-false maxMultipliers multipliers (p .0),
+      record {
+        m-within = ltb-false maxMultiplier (natAbs m) (r .0);
+        m-above = λ t. ltZ-false m (pos 0) (rw (T-true (not (rule .null)) .0 t) at (r .1));
+        there = holds (rule .there) (p .1 .1 .0);
+        ordered = holds (rule .ordered) (p .1 .1 .1 .0);
+        fits = holds (rule .fits) (p .1 .1 .1 .1 .0);
+      },
+    )
 
 pub record SquarePasses (squares N : ℕ) (q : Square) : Type 0 where
   pub few : squares < maxSquares

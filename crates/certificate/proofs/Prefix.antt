@@ -16,7 +16,7 @@ use Rattle.scheme.specs.declared.Scheme.{Scheme}
 use Rattle.certificate.specs.Limits.{maxMultipliers, maxSquares}
 use Rattle.certificate.specs.Certificate.{Certificate, fresh}
 use Rattle.certificate.specs.Rules.{arity, byKey}
-use Rattle.certificate.specs.Format.{scaleRow, multiplierOf, multiplierRow, multiplierKinds, squareOf, squareRow, endRow, certificatePart, commandsInJob, judged, certificateInJob}
+use Rattle.certificate.specs.Format.{scaleRow, multiplierOf, multiplierRow, multiplierKinds, squareOf, squareRow, endRow, certificatePart, commandsInJob, dominanceChecked, certificateInJob}
 use Rattle.certificate.proofs.Operands.{total-multiplier}
 use Rattle.certificate.proofs.Passes.{multiplier-passes, square-passes}
 use Rattle.certificate.proofs.Accept.{commands-accepted}
@@ -24,9 +24,9 @@ use Rattle.certificate.proofs.Accept.{commands-accepted}
 -- the position of a command, by what has been read
 record Reach (p : Progress Certificate) (at : ℕ) : Type 0 where
   start : p .previous ≡ 0 → at ≡ 0
-  near : at ≤ 13 + 13 * length (p .gave .multipliers) + 135 * length (p .gave .squares)
-  multipliers : length (p .gave .multipliers) ≤ maxMultipliers
-  squares : length (p .gave .squares) ≤ maxSquares
+  near : at ≤ 13 + 13 * length (p .parsed .multipliers) + 135 * length (p .parsed .squares)
+  multipliers : length (p .parsed .multipliers) ≤ maxMultipliers
+  squares : length (p .parsed .squares) ≤ maxSquares
 
 -- the last position of a command
 abbrev far : ℕ
@@ -43,8 +43,8 @@ module _ (reg : Register) (sch : Scheme) where
       record {
         small = omega arith;
         moves = λ p at xs r e h.
-            let more = length-append (p .gave .multipliers) (multiplierOf kind xs ∷ []) in
-            record { start = λ z. absurd (omega arith); near = omega (arith, r .near); multipliers = omega (arith, multiplier-passes _ _ _ h .few); squares = r .squares };
+            let more = length-append (p .parsed .multipliers) (multiplierOf kind xs ∷ []) in
+            record { start = λ z. absurd (omega arith); near = omega (arith, r .near); multipliers = omega (arith, multiplier-passes _ _ _ h .0); squares = r .squares };
       }
 
   limits : Limited (certificatePart reg sch) Reach far 135 (far + 1)
@@ -63,7 +63,7 @@ module _ (reg : Register) (sch : Scheme) where
       square = record {
         small = omega arith;
         moves = λ p at xs r e h.
-            let more = length-append (p .gave .squares) (squareOf xs ∷ []) in
+            let more = length-append (p .parsed .squares) (squareOf xs ∷ []) in
             record { start = λ z. absurd (omega arith); near = omega (arith, r .near); multipliers = r .multipliers; squares = omega (arith, square-passes _ _ _ h .few) };
       }
 
@@ -81,7 +81,7 @@ module _ (reg : Register) (sch : Scheme) where
 
   pub certificate-prefix : (c : ℕ → ℤ) (K : ℕ) (s : List ℕ) → 22_100 ≤ K → certificateInJob c reg sch (take K s) ≡ certificateInJob c reg sch s
   unfolding certificateInJob
-  certificate-prefix c K s k = ap (judged c reg sch) (commands-prefix K s k)
+  certificate-prefix c K s k = ap (dominanceChecked c reg sch) (commands-prefix K s k)
 
   -- 13 + 13 · 1,024 + 135 · 64, and `3F`
   pub certificate-end : (c : ℕ → ℤ) (s : List ℕ) {p : Progress Certificate} {end : ℕ} → certificateInJob c reg sch s ≡ accepted p end → end ≤ 21_966

@@ -17,6 +17,7 @@ use Rattle.certificate.specs.Certificate.{Multiplier, Square}
 use Rattle.certificate.specs.Rules.{arity}
 use Rattle.certificate.specs.Format.{multiplierOf, squareOf}
 use Rattle.certificate.specs.Valid.{Allowed, SquareAllowed}
+use Rattle.certificate.proofs.Conditions.{tested}
 
 pub fit-names : (xs : List ℕ) (m : ℕ) → ((i : ℕ) → i < length xs → getD xs i 0 < 256) → m < 256 ^ 8 → Fit (replicate (length xs) 1 ++ (8 ∷ [])) (xs ++ (m ∷ []))
 fit-names [] m h l = (l, tt)
@@ -38,8 +39,9 @@ signed-read (suc k) (x ∷ v) l h =
 
 pub multiplier-back : (n : ℕ) (sch : Scheme) (t : Multiplier) → Allowed n sch t → multiplierOf (t .kind) (t .names ++ (ofZ w64 (t .m) ∷ [])) ≡ t
 multiplier-back n sch t a =
-    let x : take (arity (t .kind)) (t .names ++ (ofZ w64 (t .m) ∷ [])) ≡ t .names = take-at (t .names) (ofZ w64 (t .m) ∷ []) (arity (t .kind)) (a .names) in
-    let y : toZ w64 (getD (t .names ++ (ofZ w64 (t .m) ∷ [])) (arity (t .kind)) 0) ≡ t .m = ap (toZ w64) (getD-at (t .names) (ofZ w64 (t .m)) [] 0 (arity (t .kind)) (a .names)) ∙ read-signed w64 (t .m) (omega (arith, a .m-within)) in
+    let h = tested n sch t a in
+    let x : take (arity (t .kind)) (t .names ++ (ofZ w64 (t .m) ∷ [])) ≡ t .names = take-at (t .names) (ofZ w64 (t .m) ∷ []) (arity (t .kind)) (h .names) in
+    let y : toZ w64 (getD (t .names ++ (ofZ w64 (t .m) ∷ [])) (arity (t .kind)) 0) ≡ t .m = ap (toZ w64) (getD-at (t .names) (ofZ w64 (t .m)) [] 0 (arity (t .kind)) (h .names)) ∙ read-signed w64 (t .m) (omega (arith, h .rule .m-within)) in
     λ i. record { kind = t .kind; names = x i; m = y i }
 
 pub square-back : (n : ℕ) (sch : Scheme) (q : Square) → SquareAllowed n sch q → squareOf (q .w ∷ map (ofZ w16) (q .v)) ≡ q

@@ -3,13 +3,13 @@ use Prim.Native.Nat.{ℕ, _*_, _^_, _≤_, _<_}
 use mathlib.Core.List.{List}
 use native.Mathlib.Omega.{arith}
 use lib.Dec.{leb→le}
-use lib.IntN.{ℤ, pos, natAbs, _-ℤ_, _*ℤ_}
-use lib.ListN.{length, getD}
+use lib.IntN.{ℤ, natAbs, _-ℤ_}
+use lib.ListN.{length}
 use Rattle.integers.specs.Integer.{abs}
 use Rattle.integers.specs.Lists.{All}
 use Rattle.integers.specs.Sum.{sumBelow, sumOver}
 use Rattle.integers.specs.Quadratic.{offDiagonal}
-use Rattle.integers.proofs.Order.{natAbs-sub, natAbs-*-≤}
+use Rattle.integers.proofs.Order.{natAbs-sub}
 use Rattle.integers.proofs.Lists.{All-map}
 use Rattle.integers.proofs.Sum.{natAbs-sum}
 use Rattle.forms.specs.Form.{entry}
@@ -18,21 +18,18 @@ use Rattle.register.specs.Limits.{maxChoices}
 use Rattle.scheme.specs.declared.Scheme.{Scheme}
 use Rattle.scheme.specs.Scheme.{side}
 use Rattle.scheme.specs.Valid as S
-use Rattle.certificate.specs.Limits.{maxSquares, maxWeight, maxEntry, squareEntries}
+use Rattle.certificate.specs.Limits.{maxSquares, squareEntries, maxSquareAt, maxR}
 use Rattle.certificate.specs.Certificate.{Square, Certificate}
 use Rattle.certificate.specs.Residual.{shifted, R, squareAt}
 use Rattle.certificate.specs.Valid.{SquareAllowed, Within}
 use Rattle.integers.proofs.Sum.{natAbs-sumOver}
 use Rattle.integers.proofs.Gerschgorin.{offDiagonal-small}
 use Rattle.certificate.proofs.Bounds.{Small, B-small}
+use Rattle.certificate.proofs.Squares.{range-of, product-small}
 
--- a number of B with any squares subtracted is at most this
-abbrev pub maxR : ℕ
-maxR = 18_960_000_000_000_000
-
--- so the sum of a row's absolute values is at most 65 times that
+-- the sum of a row's absolute values is at most this
 abbrev pub maxRow : ℕ
-maxRow = 1_232_400_000_000_000_000
+maxRow = squareEntries * maxR
 
 pub maxRow-fits : maxRow < 2 ^ 63
 maxRow-fits = leb→le _ _ tt
@@ -41,16 +38,13 @@ pub side-within : (r : Register) (s : Scheme) → r .choices ≤ maxChoices → 
 side-within r s l within = omega (arith, within .products-within)
 
 module _ (n : ℕ) (s : Scheme) where
-  pub square-small : (q : Square) → SquareAllowed n s q → (i j : ℕ) → i < squareEntries → j < squareEntries → natAbs (squareAt q i j) ≤ 100_000_000_000_000
-  square-small q ok i j h l =
-      natAbs-*-≤ (pos (q .w) *ℤ getD (q .v) i (pos 0)) (getD (q .v) j (pos 0)) (maxWeight * maxEntry) maxEntry
-      (natAbs-*-≤ (pos (q .w)) (getD (q .v) i (pos 0)) maxWeight maxEntry (ok .w-within) (ok .entries-within i h))
-      (ok .entries-within j l)
+  pub square-small : (q : Square) → SquareAllowed n s q → (i j : ℕ) → i < squareEntries → j < squareEntries → natAbs (squareAt q i j) ≤ maxSquareAt
+  square-small q ok = product-small q (range-of ok)
 
   pub squares-small : (qs : List Square) → All (SquareAllowed n s) qs → (i j : ℕ) → i < squareEntries → j < squareEntries →
-      natAbs (sumOver qs (λ q. squareAt q i j)) ≤ 100_000_000_000_000 * length qs
+      natAbs (sumOver qs (λ q. squareAt q i j)) ≤ maxSquareAt * length qs
   squares-small qs h i j l m =
-      natAbs-sumOver 100_000_000_000_000 qs (λ q. squareAt q i j) (All-map (SquareAllowed n s) _ (λ q ok. square-small q ok i j l m) qs h)
+      natAbs-sumOver maxSquareAt qs (λ q. squareAt q i j) (All-map (SquareAllowed n s) _ (λ q ok. square-small q ok i j l m) qs h)
 
 module _ (c : ℕ → ℤ) (r : Register) (s : Scheme) (k : Certificate) (low : Small c r) (choices : r .choices ≤ maxChoices) (scheme : S.Within r s) (within : Within r s k) where
   abbrev n : ℕ

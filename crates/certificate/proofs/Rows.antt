@@ -1,30 +1,29 @@
--- The commands of the certificate one by one: the checks at a position, what has been read after it, and its size.
+-- The commands of the certificate one by one: the checks at a position, and what has been read after it.
 use mathlib.Core.Path.{_≡_, refl, _∙_, ap}
 use mathlib.Core.Bool.{false}
 use mathlib.Core.List.{List, [], _∷_, _++_, map}
-use Prim.Native.Nat.{ℕ, suc, _+_, _-_, _≤_}
+use Prim.Native.Nat.{ℕ, _+_, _-_, _≤_}
 use native.Mathlib.Omega.{arith}
 use lib.ListN.{length, getD}
 use mir.Syntax.{w64}
-use Rattle.integers.proofs.Lists.{_▹_}
 use Rattle.wire.specs.Number.{natAt, intAt}
 use Rattle.wire.specs.Checks.{Check, refusal, commandChecks}
-use Rattle.wire.specs.Part.{Part, operandsAt, total, size, checksAt, afterAt}
+use Rattle.wire.specs.Part.{Part, operandsAt, total, checksAt, afterAt}
 use Rattle.wire.specs.Rows.{Progress, Row, rowOf, noRow, isAmong}
 use Rattle.wire.proofs.Part.{own, own-at}
 use Rattle.register.specs.declared.Register.{Register}
 use Rattle.scheme.specs.declared.Scheme.{Scheme}
 use Rattle.scheme.specs.Scheme.{variables}
 use Rattle.certificate.specs.Certificate.{Multiplier, Square, Certificate}
-use Rattle.certificate.specs.Rules.{arity, ruleOf}
-use Rattle.certificate.specs.Format.{scaleChecks, scaleRow, multiplierChecks, multiplierKinds, multiplierRow, squareChecks, squareRow, endRow, anyBefore, certificatePart}
+use Rattle.certificate.specs.Rules.{byKey, ruleOf}
+use Rattle.certificate.specs.Format.{scaleChecks, scaleRow, multiplierChecks, multiplierKinds, multiplierRow, squareChecks, squareRow, endRow, anyBefore, commandSize, certificatePart}
 use Rattle.certificate.specs.Answer.{multiplierAt, squareRead}
-use Rattle.certificate.proofs.Operands.{total-multiplier}
 use Rattle.certificate.proofs.Ranges.{is-multiplier, row-later, row-alike, row-none}
+use Rattle.certificate.proofs.Sizes.{size-is, no-command}
 
 -- what has been read so far
 abbrev pub reached : ℕ → Certificate → Progress Certificate
-reached previous k = record { previous = previous; gave = k }
+reached previous k = record { previous = previous; parsed = k }
 
 -- one multiplier more, and one square more
 
@@ -48,35 +47,9 @@ module _ (reg : Register) (sch : Scheme) where
       row-later scaleRow _ b (λ e. omega arith) ∙ row-alike (multiplierRow reg sch) (λ k. refl) multiplierKinds (squareRow reg sch ∷ endRow ∷ []) b (is-multiplier b p q)
 
   row-other : (b : ℕ) → (0x30 ≤ b → b ≤ 0x3A → ⊥) → (b ≡ 0x3F → ⊥) → rowOf rows b ≡ noRow
-  row-other b h d =
-      let other : (k : ℕ) → 0x30 ≤ k → k ≤ 0x3A → b ≡ k → ⊥ = λ k p q e. h (omega arith) (omega arith) in
-      row-none rows b
-      (other 0x30 (omega arith) (omega arith)
-      ▹ other 0x31 (omega arith) (omega arith)
-      ▹ other 0x32 (omega arith) (omega arith)
-      ▹ other 0x33 (omega arith) (omega arith)
-      ▹ other 0x34 (omega arith) (omega arith)
-      ▹ other 0x35 (omega arith) (omega arith)
-      ▹ other 0x36 (omega arith) (omega arith)
-      ▹ other 0x37 (omega arith) (omega arith)
-      ▹ other 0x38 (omega arith) (omega arith)
-      ▹ other 0x39 (omega arith) (omega arith)
-      ▹ other 0x3A (omega arith) (omega arith)
-      ▹ d
-      ▹ tt)
+  row-other b h d = row-none rows b (no-command b h d)
 
-  -- ---- its size, and whether it ends the part
-
-  pub size-scale : size part 0x30 ≡ 13
-  unfolding rowOf total
-  size-scale = refl
-
-  pub size-end : size part 0x3F ≡ 1
-  unfolding rowOf total
-  size-end = refl
-
-  pub size-multiplier : (b : ℕ) → 0x31 ≤ b → b ≤ 0x39 → size part b ≡ 9 + arity b
-  size-multiplier b p q = ap (λ (r : Row Certificate). suc (total (r .widths))) (row-multiplier b p q) ∙ total-multiplier (arity b)
+  -- ---- whether it ends the part
 
   pub last-multiplier : (b : ℕ) → 0x31 ≤ b → b ≤ 0x39 → part .last b ≡ false
   last-multiplier b p q = ap (λ (r : Row Certificate). r .last) (row-multiplier b p q)
@@ -98,20 +71,20 @@ module _ (reg : Register) (sch : Scheme) where
 
     -- ---- the checks
 
-    pub checks-scale : getD s at 0 ≡ 0x30 → checksAt part s p at ≡ commandChecks (isAmong previous (0 ∷ [])) left 13 (scaleChecks (natAt 4 s (at + 1)) (intAt w64 s (at + 1 + 4)))
-    unfolding checksAt rowOf operandsAt total intAt
+    pub checks-scale : getD s at 0 ≡ 0x30 → checksAt part s p at ≡ commandChecks (isAmong previous (0 ∷ [])) left (commandSize 0x30) (scaleChecks (natAt 4 s (at + 1)) (intAt w64 s (at + 1 + 4)))
+    unfolding checksAt rowOf operandsAt total intAt commandSize byKey
     checks-scale e = rw e
 
-    pub checks-multiplier : 0x31 ≤ getD s at 0 → getD s at 0 ≤ 0x39 → checksAt part s p at ≡ commandChecks (isAmong previous anyBefore) left (9 + arity (getD s at 0)) multiplierOwn
+    pub checks-multiplier : 0x31 ≤ getD s at 0 → getD s at 0 ≤ 0x39 → checksAt part s p at ≡ commandChecks (isAmong previous anyBefore) left (commandSize (getD s at 0)) multiplierOwn
     unfolding checksAt multiplierAt
-    checks-multiplier p q = rw (row-multiplier (getD s at 0) p q, total-multiplier)
+    checks-multiplier p q = rw (← (size-is reg sch (getD s at 0)), row-multiplier (getD s at 0) p q)
 
-    pub checks-square : getD s at 0 ≡ 0x3A → checksAt part s p at ≡ commandChecks (isAmong previous anyBefore) left 135 squareOwn
-    unfolding checksAt rowOf total squareRead
+    pub checks-square : getD s at 0 ≡ 0x3A → checksAt part s p at ≡ commandChecks (isAmong previous anyBefore) left (commandSize 0x3A) squareOwn
+    unfolding checksAt rowOf total squareRead commandSize byKey
     checks-square e = rw e
 
-    pub checks-end : getD s at 0 ≡ 0x3F → checksAt part s p at ≡ commandChecks (isAmong previous anyBefore) left 1 []
-    unfolding checksAt rowOf total
+    pub checks-end : getD s at 0 ≡ 0x3F → checksAt part s p at ≡ commandChecks (isAmong previous anyBefore) left (commandSize 0x3F) []
+    unfolding checksAt rowOf total commandSize byKey
     checks-end e = rw e
 
     pub checks-other : (0x30 ≤ getD s at 0 → getD s at 0 ≤ 0x3A → ⊥) → (getD s at 0 ≡ 0x3F → ⊥) → refusal (checksAt part s p at) ≡ 1

@@ -27,6 +27,8 @@ use Rattle.certificate.specs.Rules.{Rule, nullRule, subtractedRule, noRu
 use Rattle.certificate.specs.Residual.{nullPart, subtractedPart}
 use Rattle.certificate.specs.Relaxed.{Relaxed}
 use Rattle.certificate.specs.Valid.{Allowed}
+use Rattle.certificate.proofs.Passes.{RulePasses}
+use Rattle.certificate.proofs.Conditions.{tested}
 use Rattle.certificate.proofs.Forms.{null-difference, nonneg-difference, nonneg-single, nonneg-together}
 
 -- what is proved of each rule
@@ -104,8 +106,11 @@ module _ (n : ℕ) (s : Scheme) (products : Products n s) where
     abbrev rule : Rule
     rule = ruleOf n s t
 
+    passes : RulePasses rule (t .m)
+    passes = tested n s t ok .rule
+
     form-below : Below (side n s) (times (t .m) (rule .form))
-    form-below = below-times (t .m) (rule-sound t .below (ok .there))
+    form-below = below-times (t .m) (rule-sound t .below (passes .there))
 
     pub null-below : Below (side n s) (nullPart n s t)
     unfolding nullPart
@@ -120,7 +125,7 @@ module _ (n : ℕ) (s : Scheme) (products : Products n s) where
     unfolding nullPart
     null-0 plan =
         cond-cases (λ f. value (factor (induced n s plan)) f ≡ pos 0) (rule .null) (times (t .m) (rule .form)) []
-        (λ u. value-times (factor (induced n s plan)) (t .m) (rule .form) ∙ ap (λ x. t .m *ℤ x) (rule-sound t .null u (ok .fits) plan) ∙ *ℤ-zero (t .m))
+        (λ u. value-times (factor (induced n s plan)) (t .m) (rule .form) ∙ ap (λ x. t .m *ℤ x) (rule-sound t .null u (passes .fits) plan) ∙ *ℤ-zero (t .m))
         (λ _. value-[] (factor (induced n s plan)))
 
     -- a subtracted form is never negative on the relaxation
@@ -129,4 +134,4 @@ module _ (n : ℕ) (s : Scheme) (products : Products n s) where
     subtracted-nonneg D y relaxed =
         cond-cases (λ f. pos 0 ≤ℤ value (places (pos D) y) f) (rule .null) [] (times (t .m) (rule .form))
         (λ _. rw value-[] (≤ℤ-refl (pos 0)))
-        (λ u. rw value-times (*ℤ-nonneg (t .m) _ (ok .m-above u) (rule-sound t .nonneg u (ok .there) D y relaxed)))
+        (λ u. rw value-times (*ℤ-nonneg (t .m) _ (passes .m-above u) (rule-sound t .nonneg u (passes .there) D y relaxed)))

@@ -20,9 +20,10 @@ use Rattle.scheme.specs.declared.Scheme.{Scheme}
 use Rattle.scheme.specs.Scheme.{variables}
 use Rattle.certificate.specs.Certificate.{Multiplier, Certificate}
 use Rattle.certificate.specs.Rules.{Rule, noRule, rules, ruleOf}
-use Rattle.certificate.specs.Residual.{secondOrder, subtractedPart, subtractedForms, reformulated, shifted, carries}
+use Rattle.certificate.specs.Residual.{secondOrder, subtractedPart, subtractedForms, reformulated, shifted}
+use Rattle.certificate.specs.Valid.{Carries}
 use Rattle.certificate.proofs.Rules.{byKey-all}
-use Rattle.certificate.proofs.Residual.{semidefinite}
+use Rattle.certificate.proofs.Semidefinite.{semidefinite}
 
 -- ---- off row and column 0 the subtracted forms and the constant count for nothing
 
@@ -96,8 +97,8 @@ module _ (c : ℕ → ℤ) (r : Register) (s : Scheme) (k : Certificate) where
       ∙ +ℤ-idr (entry (reformulated c r s k) (place i) (place j))
       )
 
-  module _ (carried : T (carries c r s k)) where
-    -- the second-order part is at least 0 at every list of whole numbers, negative ones too
+  module _ (carried : Carries c r s k) where
+    -- where R carries T, the second-order part is never negative, whatever integers are put in
     pub second-order : (x : ℕ → ℤ) → pos 0 ≤ℤ secondOrder c r s k x
     unfolding secondOrder
     second-order = semidefinite-tail (variables n s) (entry (shifted c r s k)) (semidefinite c r s k carried)

@@ -48,7 +48,7 @@ module _ (reg : Register) (sch : Scheme) where
         other t (no x) (yes e) z = squared e
         other t (no x) (no y) (yes e) = last e
         other t (no x) (no y) (no z) =
-            absurd (omega (arith, passed-checksAt (part reg sch) s p at h, checks-other reg sch s (p .previous) (p .gave) at (λ l u. true≢false (sym (rw (le-leb 0x31 b (omega arith), le-leb b 0x39 (omega arith)) at (sym t)))) z))
+            absurd (omega (arith, passed-checksAt (part reg sch) s p at h, checks-other reg sch s (p .previous) (p .parsed) at (λ l u. true≢false (sym (rw (le-leb 0x31 b (omega arith), le-leb b 0x39 (omega arith)) at (sym t)))) z))
 
     -- reading goes on, or ends
 
@@ -63,9 +63,9 @@ module _ (reg : Register) (sch : Scheme) where
         go (scaled e) (nothing a z) = rw (a, after-scale reg sch s 0 fresh at e) (begun (scale-on reg sch s p at h e z))
         go (scaled e) (begun g) = absurd (g .previous (eqb-true (p .previous) 0 (rw e at (h .here))))
         go (multiplied x y) (nothing a z) = first-only (rw (row-multiplier reg sch (getD s at 0) x y, a) at (h .here))
-        go (multiplied x y) (begun g) = rw (after-multiplier reg sch s (p .previous) (p .gave) at x y) (begun (multiplier-on reg sch s p at h x y g))
+        go (multiplied x y) (begun g) = rw (after-multiplier reg sch s (p .previous) (p .parsed) at x y) (begun (multiplier-on reg sch s p at h x y g))
         go (squared e) (nothing a z) = first-only (rw (e, a) at (h .here))
-        go (squared e) (begun g) = rw (after-square reg sch s (p .previous) (p .gave) at e) (begun (square-on reg sch s p at h e g))
+        go (squared e) (begun g) = rw (after-square reg sch s (p .previous) (p .parsed) at e) (begun (square-on reg sch s p at h e g))
         go (last e) g = absurd (true≢false (rw e at l))
 
     pub ends-here : Sofar s p at → part reg sch .last (getD s at 0) ≡ true → Ended reg sch s (afterAt (part reg sch) s p at) (to reg sch s p at h)
@@ -77,4 +77,4 @@ module _ (reg : Register) (sch : Scheme) where
         go (multiplied x y) g = absurd (false≢true (sym (last-multiplier reg sch (getD s at 0) x y) ∙ l))
         go (squared e) g = absurd (false≢true (rw e at l))
         go (last e) (nothing a z) = first-only (rw (e, a) at (h .here))
-        go (last e) (begun g) = rw (after-end reg sch s (p .previous) (p .gave) at e) (end-on reg sch s p at h e g)
+        go (last e) (begun g) = rw (after-end reg sch s (p .previous) (p .parsed) at e) (end-on reg sch s p at h e g)

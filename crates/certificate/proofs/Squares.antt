@@ -17,7 +17,7 @@ use Rattle.forms.specs.Store.{Bounded}
 use Rattle.forms.proofs.Store.{place-inside, bounded-withTable}
 use Rattle.forms.proofs.Table.{withTable-at, withTable-past, withTable-length, withTable-cong, is-withTable}
 use Rattle.scheme.specs.declared.Scheme.{Scheme}
-use Rattle.certificate.specs.Limits.{maxWeight, squareEntries, maxEntry}
+use Rattle.certificate.specs.Limits.{maxWeight, squareEntries, maxEntry, maxSquareAt}
 use Rattle.certificate.specs.Certificate.{Square}
 use Rattle.certificate.specs.Residual.{squareAt}
 use Rattle.certificate.specs.Valid.{SquareAllowed}
@@ -33,7 +33,7 @@ module _ (q : Square) (ok : SquareRange q) where
   pub half-small : (i : ℕ) → i < squareEntries → natAbs (pos (q .w) *ℤ getD (q .v) i (pos 0)) ≤ maxWeight * maxEntry
   half-small i h = natAbs-*-≤ (pos (q .w)) (getD (q .v) i (pos 0)) maxWeight maxEntry (ok .w-within) (ok .entries-within i h)
 
-  pub product-small : (i j : ℕ) → i < squareEntries → j < squareEntries → natAbs (squareAt q i j) ≤ 100_000_000_000_000
+  pub product-small : (i j : ℕ) → i < squareEntries → j < squareEntries → natAbs (squareAt q i j) ≤ maxSquareAt
   product-small i j h l =
       natAbs-*-≤ (pos (q .w) *ℤ getD (q .v) i (pos 0)) (getD (q .v) j (pos 0)) (maxWeight * maxEntry) maxEntry (half-small i h) (ok .entries-within j l)
 
@@ -129,11 +129,11 @@ module _ (n : ℕ) (q : Square) where
       (λ i j l m. less-at (λ i j. true) (withTable n a lent) i j l m ∙ ap (λ x. x -ℤ squareAt q i j) (withTable-at n a lent i j l m))
       (λ k u. less-past (λ i j. true) (withTable n a lent) k u ∙ withTable-past n a lent k u)
 
-  pub bounded-less : {b : ℕ} {t : List ℤ} (P : ℕ → ℕ → Bool) → SquareRange q → n ≤ squareEntries → Bounded n b t → Bounded n (b + 100_000_000_000_000) (lessWhere n q P t)
+  pub bounded-less : {b : ℕ} {t : List ℤ} (P : ℕ → ℕ → Bool) → SquareRange q → n ≤ squareEntries → Bounded n b t → Bounded n (b + maxSquareAt) (lessWhere n q P t)
   unfolding lessWhere
   bounded-less {b} {t} P ok small h =
-      bounded-withTable n (b + 100_000_000_000_000) (left t P) t (h .long) (λ i j l m. go (P i j) (cells n t i j) (squareAt q i j) (h .low (i * n + j) (place-inside n i j l m)) (product-small q ok i j (omega arith) (omega arith)))
+      bounded-withTable n (b + maxSquareAt) (left t P) t (h .long) (λ i j l m. go (P i j) (cells n t i j) (squareAt q i j) (h .low (i * n + j) (place-inside n i j l m)) (product-small q ok i j (omega arith) (omega arith)))
     where
-      go : (p : Bool) (x y : ℤ) → natAbs x ≤ b → natAbs y ≤ 100_000_000_000_000 → natAbs (cond p (x -ℤ y) x) ≤ b + 100_000_000_000_000
+      go : (p : Bool) (x y : ℤ) → natAbs x ≤ b → natAbs y ≤ maxSquareAt → natAbs (cond p (x -ℤ y) x) ≤ b + maxSquareAt
       go true x y u v = omega (arith, natAbs-sub x y)
       go false x y u v = omega arith

@@ -19,6 +19,7 @@ use Rattle.certificate.specs.Certificate.{Multiplier, Certificate}
 use Rattle.certificate.specs.Rules.{minus1, ruleOf}
 use Rattle.certificate.specs.Residual.{nullPart, subtractedPart, nullForms, subtractedForms, reformulated, shifted}
 use Rattle.certificate.specs.Valid.{Allowed, Within}
+use Rattle.certificate.proofs.Conditions.{tested}
 use Rattle.certificate.proofs.Rules.{rule-sound}
 
 module _ (n : ℕ) (s : Scheme) where
@@ -97,7 +98,7 @@ entry-built c r s k i j =
 
 pub signedForm-below : (n : ℕ) (s : Scheme) → S.Products n s → (t : Multiplier) → Allowed n s t → Below (side n s) (signedForm n s t)
 unfolding signedForm
-signedForm-below n s products t ok = below-times (signed n s t) (rule-sound n s products t .below (ok .there))
+signedForm-below n s products t ok = below-times (signed n s t) (rule-sound n s products t .below (tested n s t ok .rule .there))
 
 pub built-below : (c : ℕ → ℤ) (r : Register) (s : Scheme) (k : Certificate) → S.Valid r s → Within r s k → Below (side (r .choices) s) (built c r s k)
 unfolding built

@@ -19,7 +19,7 @@ use Rattle.certificate.specs.Rules.{byKey, ruleOf}
 use Rattle.certificate.specs.Residual.{nullPart, subtractedPart, nullForms, subtractedForms, reformulated, shifted, R, rowHolds, carries, bound}
 use Rattle.certificate.proofs.Commands.{command}
 
--- T/s of −7/2, 7/2, −1/3 give −3, 4, 0
+-- W8: three quotients rounded up
 
 abbrev pub ratio : ℤ → ℕ → Certificate
 ratio t s = record { scale = s; target = t; multipliers = []; squares = [] }

@@ -1,9 +1,9 @@
 -- What the code keeps of a certificate, what its checks look at, and what the certificate's calls answer, by what reading leads
--- to. The code's records have the paper's names too: here they are Counts, Named, Filled and Judged.
+-- to. The code's records have the paper's names too: here they are Counts, Named, Filled and RuleTests.
 use Prim.Native.Nat.{ℕ, _+_}
 use mathlib.Core.Path.{_≡_}
 use mathlib.Core.Bool.{true}
-use mathlib.Core.List.{List, [], _∷_, _++_}
+use mathlib.Core.List.{List}
 use lib.IntN.{pos}
 use lib.ListN.{length, getD, replicate}
 use Rattle.wire.specs.Part.{Reading, refused, accepted, operandsAt}
@@ -15,12 +15,12 @@ use Rattle.scheme.specs.Sets.{SetsBelow}
 use Rattle.certificate.specs.declared.Certificate.{Certificate as Counts}
 use Rattle.certificate.specs.declared.Multiplier.{Multiplier as Named}
 use Rattle.certificate.specs.declared.Square.{Square as Filled}
-use Rattle.certificate.specs.declared.Rule.{Rule as Judged}
+use Rattle.certificate.specs.declared.Rule.{Rule as RuleTests}
 use Rattle.certificate.specs.declared.CertificateRead.{CertificateRead}
 use Rattle.certificate.specs.Limits.{squareEntries}
 use Rattle.certificate.specs.Certificate.{Multiplier, Square, Certificate}
-use Rattle.certificate.specs.Rules.{Rule, arity, byKey, noRule, rules}
-use Rattle.certificate.specs.Format.{multiplierOf, squareOf}
+use Rattle.certificate.specs.Rules.{Rule, byKey, noRule, rules}
+use Rattle.certificate.specs.Format.{multiplierWidths, squareWidths, multiplierOf, squareOf}
 
 -- ---- what the code keeps
 
@@ -56,15 +56,8 @@ freshSquare = record { weight = 0; entries = replicate squareEntries (pos 0) }
 
 -- ---- the command at a position
 
--- the operands of a multiplier command
-abbrev pub multiplierWidths : ℕ → List ℕ
-multiplierWidths kind = replicate (arity kind) 1 ++ (8 ∷ [])
-
 unfoldable pub multiplierAt : List ℕ → ℕ → Multiplier
 multiplierAt s at = let kind = getD s at 0 in multiplierOf kind (operandsAt (multiplierWidths kind) s (at + 1))
-
-abbrev pub squareWidths : List ℕ
-squareWidths = 4 ∷ replicate squareEntries 2
 
 unfoldable pub squareRead : List ℕ → ℕ → Square
 squareRead s at = squareOf (operandsAt squareWidths s (at + 1))
@@ -82,7 +75,7 @@ unfoldable pub ruleAsked : ℕ → Scheme → Named → Rule
 ruleAsked n sch t = byKey noRule (t .kind) (rules n sch (t .i) (t .j) (t .k) (t .l))
 
 -- the tests of a rule: whether the sets fit is said where the variables are there
-pub record Judges (rule : Rule) (r : Judged) : Type 0 where
+pub record TestsOf (rule : Rule) (r : RuleTests) : Type 0 where
   pub null-is : rule .null ≡ r .null
   pub there-is : rule .there ≡ r .there
   pub ordered-is : rule .ordered ≡ r .ordered
@@ -91,8 +84,8 @@ pub record Judges (rule : Rule) (r : Judged) : Type 0 where
 -- the last command's byte, and the counts
 pub record Shows (p : Progress Certificate) (previous multipliers squares : ℕ) : Type 0 where
   pub previous-is : p .previous ≡ previous
-  pub multipliers-is : length (p .gave .multipliers) ≡ multipliers
-  pub squares-is : length (p .gave .squares) ≡ squares
+  pub multipliers-is : length (p .parsed .multipliers) ≡ multipliers
+  pub squares-is : length (p .parsed .squares) ≡ squares
 
 -- ---- answers
 
@@ -107,4 +100,4 @@ refusedRead number at = record { number = number; position = at; certificate = f
 
 abbrev pub commandsRead : Reading (Progress Certificate) → CertificateRead
 commandsRead (refused number at) = refusedRead number at
-commandsRead (accepted p end) = record { number = 0; position = end; certificate = countsOf (p .gave) }
+commandsRead (accepted p end) = record { number = 0; position = end; certificate = countsOf (p .parsed) }

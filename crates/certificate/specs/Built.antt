@@ -30,12 +30,12 @@ pub record Reads (reg : Register) (sch : Scheme) (s : List ℕ) : Type 0 where
   pub reads : commandsInJob reg sch s ≡ accepted progress end
 
 -- a certificate of scale and target, with no other command
-abbrev pub begun : ℕ → ℤ → Certificate
-begun scale target = record { scale = scale; target = target; multipliers = []; squares = [] }
+abbrev pub withScale : ℕ → ℤ → Certificate
+withScale scale target = record { scale = scale; target = target; multipliers = []; squares = [] }
 
 -- as the first command says
-abbrev pub begunBy : List ℕ → Certificate
-begunBy s = begun (natAt 4 s 1) (intAt w64 s 5)
+abbrev pub withScaleIn : List ℕ → Certificate
+withScaleIn s = withScale (natAt 4 s 1) (intAt w64 s 5)
 
 -- a rule's form m times, or −m times where it is subtracted
 unfoldable pub signedOf : Rule → ℤ → Form

@@ -27,12 +27,12 @@ refusedCheck number at = record { number = number; position = at; bound = pos 0 
 
 abbrev pub checkRead : Reading (Progress Certificate) → CheckRead
 checkRead (refused number at) = refusedCheck number at
-checkRead (accepted p end) = record { number = 0; position = end; bound = bound (p .gave) }
+checkRead (accepted p end) = record { number = 0; position = end; bound = bound (p .parsed) }
 
 -- R at the front of a lent run where `3F` is reached without 1 to 8, also after 9 or 12; else the run as it was
 abbrev pub withResidual : Register → Scheme → Reading (Progress Certificate) → List ℤ → List ℤ
 withResidual reg sch (refused number at) lent = lent
-withResidual reg sch (accepted p end) lent = withTable (side (reg .choices) sch) (R (coefficient reg) reg sch (p .gave)) lent
+withResidual reg sch (accepted p end) lent = withTable (side (reg .choices) sch) (R (coefficient reg) reg sch (p .parsed)) lent
 
 -- of the call: number, part and position of a refusal, other fields 0; or zeros and the bound
 
@@ -41,15 +41,15 @@ refusedAnswer number part at = record { number = number; part = part; position =
 
 abbrev pub afterCertificate : Reading (Progress Certificate) → CheckAnswer
 afterCertificate (refused number at) = refusedAnswer number 3 at
-afterCertificate (accepted p end) = record { number = 0; part = 0; position = 0; bound = bound (p .gave) }
+afterCertificate (accepted p end) = record { number = 0; part = 0; position = 0; bound = bound (p .parsed) }
 
 abbrev pub afterScheme : Register → Reading (Progress Scheme) → List ℕ → CheckAnswer
 afterScheme reg (refused number at) certificate = refusedAnswer number 2 at
-afterScheme reg (accepted p end) certificate = afterCertificate (certificateByItself (coefficient reg) reg (p .gave) certificate)
+afterScheme reg (accepted p end) certificate = afterCertificate (certificateByItself (coefficient reg) reg (p .parsed) certificate)
 
 abbrev pub afterRegister : Reading (Progress Register) → List ℕ → List ℕ → CheckAnswer
 afterRegister (refused number at) scheme certificate = refusedAnswer number 1 at
-afterRegister (accepted p end) scheme certificate = afterScheme (p .gave) (schemeByItself (p .gave) scheme) certificate
+afterRegister (accepted p end) scheme certificate = afterScheme (p .parsed) (schemeByItself (p .parsed) scheme) certificate
 
 -- of the bytes of parts 1 to 3 and the lent run: a table below 4,225 numbers is found before all else
 unfoldable pub checkAnswer : List ℕ → List ℕ → List ℕ → List ℤ → CheckAnswer
@@ -60,11 +60,11 @@ checkAnswer register scheme certificate lent =
 
 abbrev pub tableAfterScheme : Register → Reading (Progress Scheme) → List ℕ → List ℤ → List ℤ
 tableAfterScheme reg (refused number at) certificate lent = lent
-tableAfterScheme reg (accepted p end) certificate lent = withResidual reg (p .gave) (commandsInJob reg (p .gave) certificate) lent
+tableAfterScheme reg (accepted p end) certificate lent = withResidual reg (p .parsed) (commandsInJob reg (p .parsed) certificate) lent
 
 abbrev pub tableAfterRegister : Reading (Progress Register) → List ℕ → List ℕ → List ℤ → List ℤ
 tableAfterRegister (refused number at) scheme certificate lent = lent
-tableAfterRegister (accepted p end) scheme certificate lent = tableAfterScheme (p .gave) (schemeByItself (p .gave) scheme) certificate lent
+tableAfterRegister (accepted p end) scheme certificate lent = tableAfterScheme (p .parsed) (schemeByItself (p .parsed) scheme) certificate lent
 
 unfoldable pub checkTable : List ℕ → List ℕ → List ℕ → List ℤ → List ℤ
 checkTable register scheme certificate lent =

@@ -33,8 +33,8 @@ pub record Shown (register scheme certificate : List ℕ) (a : CheckAnswer) : Ty
   pub scheme-valid : S.Valid reg sch
   pub certificate-valid : Valid (coefficient reg) reg sch cert
   pub bound-is : a .bound ≡ bound cert
-  -- every plan costs at least the bound, and so does every plan that the cost call reads with these bytes of the register
+  -- no plan is cheaper than the bound, nor any that the cost call reads with these bytes
   pub costs : (plan : ℕ) → a .bound ≤ℤ cost (coefficient reg) reg plan
   pub answered-costs : (plan : List ℕ) → costAnswer register plan .number ≡ 0 → a .bound ≤ℤ costAnswer register plan .cost
-  -- the second-order part is at least 0 at every list of whole numbers
+  -- the second-order part is positive semidefinite
   pub second-order-part : (x : ℕ → ℤ) → pos 0 ≤ℤ secondOrder (coefficient reg) reg sch cert x

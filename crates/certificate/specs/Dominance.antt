@@ -12,8 +12,7 @@ use Rattle.certificate.specs.Residual.{rowHolds}
 abbrev pub cells : ℕ → List ℤ → ℕ → ℕ → ℤ
 cells n t i j = getD t (i * n + j) (pos 0)
 
--- row r is the first that falls short (the paper's own term: its diagonal entry is below the sum of the absolute values of the
--- others), or r is n where none does
+-- row r is the first whose diagonal entry is below its off-diagonal sum (the paper: falls short), or r is n where there is none
 pub record FirstShort (n : ℕ) (a : ℕ → ℕ → ℤ) (r : ℕ) : Type 0 where
   pub within : r ≤ n
   pub before : (i : ℕ) → i < r → T (rowHolds n a i)

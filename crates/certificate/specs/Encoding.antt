@@ -29,11 +29,11 @@ multipliersOf es = flatMap multipliersIn es
 abbrev pub squaresOf : List Entry → List Square
 squaresOf es = flatMap squaresIn es
 
--- `30` scale s u32, target T i64
+-- `30`: four bytes for the scale, eight for the target
 unfoldable pub encodeScale : ℕ → ℤ → List ℕ
 encodeScale s target = 0x30 ∷ (bytesOf 4 s ++ bytesOf 8 (ofZ w64 target))
 
--- `31` to `39`: variable numbers u8, then a multiplier m i64
+-- `31` to `39`: a byte for each variable named, eight for m
 unfoldable pub encodeMultiplier : Multiplier → List ℕ
 encodeMultiplier t = t .kind ∷ (flatMap (bytesOf 1) (t .names) ++ bytesOf 8 (ofZ w64 (t .m)))
 

@@ -1,6 +1,6 @@
 -- The certificate's commands, with a register and a scheme: `30` scale and target, `31` to `39` multipliers, `3A` square,
 -- `3F` end. c t is the coefficient of term t.
-use Prim.Native.Nat.{ℕ, _-_}
+use Prim.Native.Nat.{ℕ, suc, _-_}
 use mathlib.Core.Bool.{Bool, true, false, not, cond, _&&_, _||_}
 use mathlib.Core.List.{List, [], _∷_, _++_, map}
 use lib.Dec.{ltb, leb, eqb}
@@ -11,36 +11,64 @@ use mir.Syntax.{w16, w64}
 use mir.Val.{toZ}
 use Rattle.integers.specs.Lists.{allBelow}
 use Rattle.wire.specs.Checks.{Check, check}
-use Rattle.wire.specs.Part.{Part, Reading, refused, accepted, readPart, byItself}
+use Rattle.wire.specs.Part.{Part, Reading, refused, accepted, total, readPart, byItself}
 use Rattle.wire.specs.Rows.{Progress, Row, partOf, binary}
 use Rattle.register.specs.declared.Register.{Register}
 use Rattle.scheme.specs.declared.Scheme.{Scheme}
 use Rattle.scheme.specs.Scheme.{variables}
 use Rattle.certificate.specs.Limits.{maxScale, maxTarget, maxMultipliers, maxMultiplier, maxSquares, maxWeight, squareEntries, maxEntry}
 use Rattle.certificate.specs.Certificate.{Multiplier, Square, Certificate, fresh}
-use Rattle.certificate.specs.Rules.{Rule, arity, ruleOf}
+use Rattle.certificate.specs.Rules.{Rule, arity, byKey, ruleOf}
 use Rattle.certificate.specs.Residual.{carries}
 
--- s is 1–1,000,000; T within ±4 × 10¹⁵
-unfoldable pub scaleChecks : ℕ → ℤ → List Check
-scaleChecks s T = check 4 (eqb s 0 || ltb maxScale s || ltb maxTarget (natAbs T)) ∷ []
+-- ---- the widths in bytes of the operands
 
--- `30` scale s u32, target T i64, once, first
+-- `30`: four bytes for the scale, eight for the target
+abbrev pub scaleWidths : List ℕ
+scaleWidths = 4 ∷ 8 ∷ []
+
+-- `31` to `39`: a byte for each variable named, eight for m
+abbrev pub multiplierWidths : ℕ → List ℕ
+multiplierWidths kind = replicate (arity kind) 1 ++ (8 ∷ [])
+
+-- `3A`: four bytes for the weight, two for each entry
+abbrev pub squareWidths : List ℕ
+squareWidths = 4 ∷ replicate squareEntries 2
+
+abbrev pub multiplierKinds : List ℕ
+multiplierKinds = 0x31 ∷ 0x32 ∷ 0x33 ∷ 0x34 ∷ 0x35 ∷ 0x36 ∷ 0x37 ∷ 0x38 ∷ 0x39 ∷ []
+
+-- by the command's byte: those of its row below, with every register and scheme (`size-is` in proofs/Sizes)
+abbrev pub widthsByByte : List (ℕ × List ℕ)
+widthsByByte =
+    (0x30, scaleWidths) ∷ (map (λ kind. (kind, multiplierWidths kind)) multiplierKinds ++ ((0x3A, squareWidths) ∷ (0x3F, []) ∷ []))
+
+-- the bytes of the command with this byte, 1 where it is no command
+unfoldable pub commandSize : ℕ → ℕ
+commandSize b = suc (total (byKey [] b widthsByByte))
+
+-- ---- the commands
+
+-- the scale is not 0; scale and target are within their limits
+unfoldable pub scaleChecks : ℕ → ℤ → List Check
+scaleChecks s target = check 4 (eqb s 0 || ltb maxScale s || ltb maxTarget (natAbs target)) ∷ []
+
+-- `30`: scale and target, at the start of the part only
 abbrev pub scaleRow : Row Certificate
 scaleRow = record {
   byte = 0x30;
   follows = 0 ∷ [];
-  widths = 4 ∷ 8 ∷ [];
+  widths = scaleWidths;
   checks = λ cert. binary λ s t. scaleChecks s (toZ w64 t);
   after = λ cert. binary λ s t. record { scale = s; target = toZ w64 t; multipliers = cert .multipliers; squares = cert .squares };
   last = false;
 }
 
--- the multiplier command with this byte and these operands: variable numbers u8, then a multiplier m i64
+-- the multiplier command with this byte and these operands: the variables, one byte each, and m
 abbrev pub multiplierOf : ℕ → List ℕ → Multiplier
 multiplierOf kind xs = record { kind = kind; names = take (arity kind) xs; m = toZ w64 (getD xs (arity kind) 0) }
 
--- m is within ±10¹² for `31`–`34` and 0–10¹² for `35`–`39`
+-- m is past its limit, or negative for a subtracted form
 unfoldable pub outOfRange : Bool → ℤ → Bool
 outOfRange null m = ltb maxMultiplier (natAbs m) || not null && ltZ m (pos 0)
 
@@ -54,9 +82,6 @@ multiplierChecks multipliers rule m =
     ∷ check 8 (not (rule .fits))
     ∷ []
 
-abbrev pub multiplierKinds : List ℕ
-multiplierKinds = 0x31 ∷ 0x32 ∷ 0x33 ∷ 0x34 ∷ 0x35 ∷ 0x36 ∷ 0x37 ∷ 0x38 ∷ 0x39 ∷ []
-
 -- what may stand before any command but the first
 abbrev pub anyBefore : List ℕ
 anyBefore = 0x30 ∷ (multiplierKinds ++ (0x3A ∷ []))
@@ -66,7 +91,7 @@ abbrev pub multiplierRow : Register → Scheme → ℕ → Row Certificate
 multiplierRow reg sch kind = record {
   byte = kind;
   follows = anyBefore;
-  widths = replicate (arity kind) 1 ++ (8 ∷ []);
+  widths = multiplierWidths kind;
   checks = λ cert xs.
       let t = multiplierOf kind xs in
       multiplierChecks (length (cert .multipliers)) (ruleOf (reg .choices) sch t) (t .m);
@@ -97,7 +122,7 @@ abbrev pub squareRow : Register → Scheme → Row Certificate
 squareRow reg sch = record {
   byte = 0x3A;
   follows = anyBefore;
-  widths = 4 ∷ replicate squareEntries 2;
+  widths = squareWidths;
   checks = λ cert xs. squareChecks (length (cert .squares)) (variables (reg .choices) sch) (squareOf xs);
   after = λ cert xs. record {
     scale = cert .scale;
@@ -129,13 +154,13 @@ commandsInJob reg sch s = readPart (certificatePart reg sch) s
 
 -- at `3F`, R falls short, that is, does not carry T: 9, at the position of `3F`, one byte before the end (`end-stands` in
 -- proofs/Accept)
-unfoldable pub judged : (ℕ → ℤ) → Register → Scheme → Reading (Progress Certificate) → Reading (Progress Certificate)
-judged c reg sch (refused number at) = refused number at
-judged c reg sch (accepted p end) = cond (carries c reg sch (p .gave)) (accepted p end) (refused 9 (end - 1))
+unfoldable pub dominanceChecked : (ℕ → ℤ) → Register → Scheme → Reading (Progress Certificate) → Reading (Progress Certificate)
+dominanceChecked c reg sch (refused number at) = refused number at
+dominanceChecked c reg sch (accepted p end) = cond (carries c reg sch (p .parsed)) (accepted p end) (refused 9 (end - 1))
 
 -- the certificate at the front of a run of bytes, as in a job
 unfoldable pub certificateInJob : (ℕ → ℤ) → Register → Scheme → List ℕ → Reading (Progress Certificate)
-certificateInJob c reg sch s = judged c reg sch (commandsInJob reg sch s)
+certificateInJob c reg sch s = dominanceChecked c reg sch (commandsInJob reg sch s)
 
 -- the certificate as a run of bytes by itself
 unfoldable pub certificateByItself : (ℕ → ℤ) → Register → Scheme → List ℕ → Reading (Progress Certificate)

@@ -8,6 +8,7 @@ pub mod Format
 pub mod Valid
 pub mod Relaxed
 pub mod Encoding
+pub mod Refused
 pub mod Check
 pub mod Demand
 -- not the paper's: what the code keeps of a certificate, of B on the way to R, and of the rows

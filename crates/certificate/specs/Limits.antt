@@ -1,7 +1,8 @@
 -- The certificate's limits and ranges.
-use Prim.Native.Nat.{ℕ}
+use Prim.Native.Nat.{ℕ, _+_, _*_}
+use Rattle.scheme.specs.Function.{maxG}
 
--- s is 1–1,000,000; T within ±4 × 10¹⁵
+-- the ranges of scale and target
 
 abbrev pub maxScale : ℕ
 maxScale = 1_000_000
@@ -30,3 +31,17 @@ squareEntries = 65
 
 abbrev pub maxEntry : ℕ
 maxEntry = 10_000
+
+-- ---- not the paper's: how large the numbers of the tables then become
+
+-- w·v_i·v_j of a square
+abbrev pub maxSquareAt : ℕ
+maxSquareAt = maxWeight * maxEntry * maxEntry
+
+-- a number of B: s times one of g, twice T, and of each multiplier command at most 2m
+abbrev pub maxB : ℕ
+maxB = maxScale * maxG + 2 * maxTarget + maxMultipliers * (2 * maxMultiplier)
+
+-- a number of R, or of B with some of the squares subtracted
+abbrev pub maxR : ℕ
+maxR = maxB + maxSquares * maxSquareAt

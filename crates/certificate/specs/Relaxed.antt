@@ -5,7 +5,8 @@ use lib.Signed.{_≤ℤ_}
 use Rattle.scheme.specs.declared.Scheme.{Scheme}
 use Rattle.scheme.specs.Scheme.{left, right, variables}
 
--- D is at least 1 and y a list of N whole numbers, 0 to D, with y_k ≤ y_l, y_k ≤ y_r and y_k ≥ y_l + y_r − D for every product k
+-- y_i / D for each variable, over a common denominator D: each is between 0 and 1, and a product is no more than either operand
+-- and no less than their sum less 1
 pub record Relaxed (n : ℕ) (s : Scheme) (D : ℕ) (y : ℕ → ℤ) : Type 0 where
   pub positive : 1 ≤ D
   pub low : (i : ℕ) → i < variables n s → pos 0 ≤ℤ y i

@@ -52,11 +52,11 @@ B c reg sch cert i j = entry (shifted c reg sch cert) i j
 abbrev pub squareAt : Square → ℕ → ℕ → ℤ
 squareAt q i j = pos (q .w) *ℤ getD (q .v) i (pos 0) *ℤ getD (q .v) j (pos 0)
 
--- R = B minus the sum over squares of w·v_i·v_j at each (i,j)
+-- R: B less every square's w·v_i·v_j
 unfoldable pub R : (ℕ → ℤ) → Register → Scheme → Certificate → ℕ → ℕ → ℤ
 R c reg sch cert i j = B c reg sch cert i j -ℤ sumOver (cert .squares) (λ q. squareAt q i j)
 
--- row i of a table of side n: its diagonal entry is at least the sum of the absolute values of the others
+-- row i of a table of side n is dominated by its diagonal entry
 unfoldable pub rowHolds : ℕ → (ℕ → ℕ → ℤ) → ℕ → Bool
 rowHolds n t i = leZ (offDiagonal n t i) (t i i)
 
@@ -64,11 +64,10 @@ rowHolds n t i = leZ (offDiagonal n t i) (t i i)
 unfoldable pub carries : (ℕ → ℤ) → Register → Scheme → Certificate → Bool
 carries c reg sch cert = let n = side (reg .choices) sch in allBelow n (rowHolds n (R c reg sch cert))
 
--- the bound is T/s rounded up to a whole number
+-- the least whole number not below T/s
 unfoldable pub bound : Certificate → ℤ
 bound cert = ceilDiv (cert .target) (cert .scale)
 
--- the second-order part of the reformulated function is B without row and column 0: its value at a list x of N whole numbers
--- is the sum over all variables i and j of B(i + 1, j + 1) times x_i times x_j
+-- the quadratic form of B's rows and columns of variables, at x
 unfoldable pub secondOrder : (ℕ → ℤ) → Register → Scheme → Certificate → (ℕ → ℤ) → ℤ
 secondOrder c reg sch cert x = quadratic (variables (reg .choices) sch) (λ i j. B c reg sch cert (place i) (place j)) x

@@ -50,11 +50,11 @@ rules n s i j k l =
     let product : Bool = leb n i && variable i in
     -- z_i² − z_i
     (0x31, nullRule (variable i) true true (mono (place i) (place i) (pos 1) ∷ mono 0 (place i) minus1 ∷ []))
-    -- z_i − z_i z_j, E_j a proper subset of E_i
+    -- z_i − z_i z_j; j's choices are some of i's, not all
     ∷ (0x32, nullRule (variable i && variable j) true (isProperSubset (e j) (e i)) (mono 0 (place i) (pos 1) ∷ mono (place i) (place j) minus1 ∷ []))
-    -- z_i − z_j z_k, j < k, E_i the union of E_j and E_k
+    -- z_i − z_j z_k; i's choices are those of j and k
     ∷ (0x33, nullRule (variable i && variable j && variable k) (ltb j k) (eqb (e i) (bitOr (e j) (e k))) (mono 0 (place i) (pos 1) ∷ mono (place j) (place k) minus1 ∷ []))
-    -- z_i z_j − z_k z_l, i < j, k < l, equal unions
+    -- z_i z_j − z_k z_l; both pairs have the same choices
     ∷ (0x34, nullRule (variable i && variable j && variable k && variable l) (ltb i j && ltb k l) (eqb (bitOr (e i) (e j)) (bitOr (e k) (e l))) (mono (place i) (place j) (pos 1) ∷ mono (place k) (place l) minus1 ∷ []))
     -- z_l − z_k
     ∷ (0x35, subtractedRule product (mono 0 (place a) (pos 1) ∷ mono 0 (place i) minus1 ∷ []))

@@ -1,37 +1,66 @@
 -- The paper's conditions on a certificate of a register and a scheme: ranges, counts, names, orders, sets, and that R carries T.
--- Written without the reader. c t is the coefficient of term t.
+-- Written without the reader (`proofs/Conditions` has that the reader tests just these). c t is the coefficient of term t.
 use Prim.Native.Nat.{ℕ, _≤_, _<_}
 use mathlib.Core.Path.{_≡_}
-use mathlib.Core.Bool.{not}
-use lib.Dec.{T}
+use mathlib.Core.List.{List, [], _∷_}
+use lib.Bits.{bitOr}
 use lib.IntN.{ℤ, pos, natAbs}
 use lib.ListN.{length, getD}
 use lib.Signed.{_≤ℤ_}
 use Rattle.integers.specs.Lists.{All}
+use Rattle.integers.specs.Quadratic.{DiagonallyDominant}
+use Rattle.sets.specs.Sets.{ProperSubset}
 use Rattle.register.specs.declared.Register.{Register}
 use Rattle.scheme.specs.declared.Scheme.{Scheme}
-use Rattle.scheme.specs.Scheme.{variables}
+use Rattle.scheme.specs.Scheme.{variables, side}
+use Rattle.scheme.specs.Variables.{E}
 use Rattle.certificate.specs.Limits.{maxScale, maxTarget, maxMultipliers, maxMultiplier, maxSquares, maxWeight, squareEntries, maxEntry}
 use Rattle.certificate.specs.Certificate.{Multiplier, Square, Certificate}
-use Rattle.certificate.specs.Rules.{arity, ruleOf}
-use Rattle.certificate.specs.Residual.{carries}
+use Rattle.certificate.specs.Rules.{byKey}
+use Rattle.certificate.specs.Residual.{R}
 
--- a multiplier command, with n choices
-pub record Allowed (n : ℕ) (s : Scheme) (t : Multiplier) : Type 0 where
-  -- one of `31` to `39`
-  pub kind-above : 0x31 ≤ t .kind
-  pub kind-within : t .kind ≤ 0x39
-  -- variable numbers, as many as its kind names
-  pub names : length (t .names) ≡ arity (t .kind)
-  -- m within ±10¹², and 0–10¹² where the form is subtracted
-  pub m-within : natAbs (t .m) ≤ maxMultiplier
-  pub m-above : T (not (ruleOf n s t .null)) → pos 0 ≤ℤ t .m
-  -- the variables or the product are there, the pairs in order, and the sets fit
-  pub there : T (ruleOf n s t .there)
-  pub ordered : T (ruleOf n s t .ordered)
-  pub fits : T (ruleOf n s t .fits)
+-- v is a variable, and k a product, where there are n choices
 
--- a square: weight 1–1,000,000, then 65 entries within ±10,000, those past N zero
+abbrev pub Variable : ℕ → Scheme → ℕ → Type 0
+Variable n s v = v < variables n s
+
+abbrev pub Product : ℕ → Scheme → ℕ → Type 0
+Product n s k = (n ≤ k) × (k < variables n s)
+
+-- m of a null form within ±10¹², of a form that is subtracted 0–10¹²
+
+abbrev pub NullRange : ℤ → Type 0
+NullRange m = natAbs m ≤ maxMultiplier
+
+abbrev pub SubtractedRange : ℤ → Type 0
+SubtractedRange m = (pos 0 ≤ℤ m) × (m ≤ℤ pos maxMultiplier)
+
+-- the condition of each multiplier command by its byte: how many variables it names, which are there, their order, their
+-- sets, and the range of m
+abbrev pub conditions : ℕ → Scheme → List ℕ → ℤ → List (ℕ × Type 0)
+conditions n s names m =
+    let e : ℕ → ℕ = E n s in
+    (0x31, (i : ℕ) × (names ≡ i ∷ []) × Variable n s i × NullRange m)
+    -- the set of j is a proper subset of that of i
+    ∷ (0x32, (i : ℕ) × (j : ℕ) × (names ≡ i ∷ j ∷ []) × Variable n s i × Variable n s j × ProperSubset (e j) (e i) × NullRange m)
+    -- the set of i is the union of the other two, which are in order
+    ∷ (0x33, (i : ℕ) × (j : ℕ) × (k : ℕ) × (names ≡ i ∷ j ∷ k ∷ []) × Variable n s i × Variable n s j × Variable n s k × (j < k) × (e i ≡ bitOr (e j) (e k)) × NullRange m)
+    -- two pairs, each in order, with the same union
+    ∷ (0x34, (i : ℕ) × (j : ℕ) × (k : ℕ) × (l : ℕ) × (names ≡ i ∷ j ∷ k ∷ l ∷ []) × Variable n s i × Variable n s j × Variable n s k × Variable n s l × (i < j) × (k < l) × (bitOr (e i) (e j) ≡ bitOr (e k) (e l)) × NullRange m)
+    -- for a product
+    ∷ (0x35, (k : ℕ) × (names ≡ k ∷ []) × Product n s k × SubtractedRange m)
+    ∷ (0x36, (k : ℕ) × (names ≡ k ∷ []) × Product n s k × SubtractedRange m)
+    ∷ (0x37, (k : ℕ) × (names ≡ k ∷ []) × Product n s k × SubtractedRange m)
+    -- for a variable
+    ∷ (0x38, (i : ℕ) × (names ≡ i ∷ []) × Variable n s i × SubtractedRange m)
+    ∷ (0x39, (i : ℕ) × (names ≡ i ∷ []) × Variable n s i × SubtractedRange m)
+    ∷ []
+
+-- a multiplier command is allowed where the condition of its byte holds; no other byte is one
+unfoldable pub Allowed : ℕ → Scheme → Multiplier → Type 0
+Allowed n s t = byKey ⊥ (t .kind) (conditions n s (t .names) (t .m))
+
+-- a square: its weight's range, how many entries it has, their range, and that the unused ones are 0
 pub record SquareAllowed (n : ℕ) (s : Scheme) (q : Square) : Type 0 where
   pub w-above : 1 ≤ q .w
   pub w-within : q .w ≤ maxWeight
@@ -41,18 +70,22 @@ pub record SquareAllowed (n : ℕ) (s : Scheme) (q : Square) : Type 0 where
 
 -- within the limits, as far as commands other than the end say
 pub record Within (reg : Register) (s : Scheme) (k : Certificate) : Type 0 where
-  -- s is 1–1,000,000; T within ±4 × 10¹⁵
+  -- of `30`
   pub scale-above : 1 ≤ k .scale
   pub scale-within : k .scale ≤ maxScale
   pub target-within : natAbs (k .target) ≤ maxTarget
-  -- at most 1,024 multiplier commands
+  -- of `31` to `39`
   pub multipliers-within : length (k .multipliers) ≤ maxMultipliers
   pub multipliers : All (Allowed (reg .choices) s) (k .multipliers)
-  -- at most 64 squares
+  -- of `3A`
   pub squares-within : length (k .squares) ≤ maxSquares
   pub squares : All (SquareAllowed (reg .choices) s) (k .squares)
 
--- and R carries T
+-- R carries T: it is diagonally dominant
+abbrev pub Carries : (ℕ → ℤ) → Register → Scheme → Certificate → Type 0
+Carries c reg s k = DiagonallyDominant (side (reg .choices) s) (R c reg s k)
+
+-- within the limits, and R carries T
 pub record Valid (c : ℕ → ℤ) (reg : Register) (s : Scheme) (k : Certificate) : Type 0 where
   pub within : Within reg s k
-  pub carried : T (carries c reg s k)
+  pub carried : Carries c reg s k

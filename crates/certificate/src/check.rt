@@ -1,10 +1,10 @@
 // The check of a certificate: its commands, R in the lent table, the rows, and the bound.
 use crate::CheckAnswer;
 use crate::CheckRead;
-use crate::carry::div_up;
-use crate::carry::first_short;
-use crate::pass::fill;
+use crate::dominance::ceil_div;
+use crate::dominance::first_short;
 use crate::read_commands;
+use crate::residual::put_residual;
 use forms::WorkingTable;
 use register::Register;
 use register::feedcheck_register;
@@ -39,7 +39,7 @@ pub fn check_certificate(
     if number != 0 {
         return CheckRead::refused(number, position);
     }
-    fill(bytes, register, scheme, table);
+    put_residual(bytes, register, scheme, table);
     let side = register.choices + scheme.products + 1;
     let row = first_short(table, side);
     if row < side {
@@ -49,7 +49,7 @@ pub fn check_certificate(
     CheckRead {
         number: 0,
         position: position,
-        bound: div_up(certificate.target, certificate.scale),
+        bound: ceil_div(certificate.target, certificate.scale),
     }
 }
 

@@ -2,12 +2,12 @@
 use register::Register;
 use scheme::Scheme;
 
-mod carry;
 pub mod check;
-mod judge;
-mod pass;
+mod checks;
+mod dominance;
+mod residual;
 
-use judge::refusal_at;
+use checks::refusal_at;
 ghost use mathlib.Core.Path.{_≡_};
 ghost use mathlib.Core.Bool.{true, false};
 ghost use Prim.Native.Nat.{_+_, _≤_, _<_};
@@ -17,8 +17,7 @@ ghost use Rattle.register.specs.Valid.{Valid as RegisterValid};
 ghost use Rattle.scheme.specs.Valid.{Valid as SchemeValid};
 ghost use Rattle.scheme.specs.Sets.{SetsBelow};
 ghost use Rattle.scheme.specs.Scheme.{variables};
-ghost use Rattle.certificate.specs.Rules.{arity};
-ghost use Rattle.certificate.specs.Format.{commandsInJob};
+ghost use Rattle.certificate.specs.Format.{commandSize, commandsInJob};
 ghost use Rattle.certificate.specs.Check.{refusedCheck, refusedAnswer};
 ghost use Rattle.certificate.specs.Answer.{freshCounts, freshSquare, namedOf, filledOf, multiplierAt, squareRead, refusedRead, commandsRead};
 
@@ -82,14 +81,14 @@ pub struct CheckAnswer {
 }
 
 impl Certificate {
-    pub const SCALE: u32 = 1_000_000;
+    pub const MAX_SCALE: u32 = 1_000_000;
 
     // The largest magnitude of the target.
-    pub const TARGET: u64 = 4_000_000_000_000_000;
+    pub const MAX_TARGET: u64 = 4_000_000_000_000_000;
 
-    pub const MULTIPLIERS: usize = 1_024;
+    pub const MAX_MULTIPLIERS: usize = 1_024;
 
-    pub const SQUARES: usize = 64;
+    pub const MAX_SQUARES: usize = 64;
 
     pub fn fresh() -> Certificate
         ensures { λ r. ⌜ r ≡ freshCounts ⌝ }
@@ -105,16 +104,16 @@ impl Certificate {
 
 impl Multiplier {
     // The largest magnitude of m.
-    pub const M: u64 = 1_000_000_000_000;
+    pub const MAX_MAGNITUDE: u64 = 1_000_000_000_000;
 }
 
 impl Square {
     pub const ENTRIES: usize = 65;
 
-    pub const WEIGHT: u32 = 1_000_000;
+    pub const MAX_WEIGHT: u32 = 1_000_000;
 
     // The largest magnitude of an entry.
-    pub const ENTRY: u64 = 10_000;
+    pub const MAX_ENTRY: u64 = 10_000;
 
     pub fn fresh() -> Square
         ensures { λ r. ⌜ r ≡ freshSquare ⌝ }
@@ -188,15 +187,20 @@ impl CheckAnswer {
     }
 }
 
-// How many variables a multiplier command names.
-pub fn names(kind: u8) -> usize
-    ensures { λ r. ⌜ r ≡ arity kind ⌝ }
+// The bytes of a command: its byte, then a scale u32 and a target i64; or variables u8 each and m i64; or a weight u32 and entries
+// i16 each; or nothing. 1 where the byte is no command.
+pub fn command_size(command: u8) -> usize
+    ensures { λ r. ⌜ r ≡ commandSize command ⌝ }
 {
-    match kind {
-        0x32 => 2,
-        0x33 => 3,
-        0x34 => 4,
-        _ => 1,
+    match command {
+        0x30 => 13,
+        0x31 | 0x35..=0x39 => 10,
+        0x32 => 11,
+        0x33 => 12,
+        0x34 => 13,
+        0x3a => 5 + 2 * Square::ENTRIES,
+        0x3f => 1,
+        0x00..=0x2f | 0x3b..=0x3e | 0x40..=0xff => 1,
     }
 }
 
@@ -214,11 +218,13 @@ fn name_at(bytes: &[u8], at: usize, count: usize, place: usize) -> u8
 
 // The multiplier command at a position.
 pub fn multiplier_at(bytes: &[u8], at: usize) -> Multiplier
-    requires { ⌜ at + 9 + arity (getD (now bytes) at 0) ≤ length (now bytes) ⌝ }
+    requires { ⌜ (0x31 ≤ getD (now bytes) at 0) × (getD (now bytes) at 0 ≤ 0x39) ⌝ }
+    requires { ⌜ at + commandSize (getD (now bytes) at 0) ≤ length (now bytes) ⌝ }
     ensures { λ r. ⌜ r ≡ namedOf (multiplierAt (now (bytes .entry)) at) ⌝ }
 {
     let kind = bytes[at];
-    let count = names(kind);
+    // The variables stand between the command's byte and the 8 bytes of m.
+    let count = command_size(kind) - 9;
     Multiplier {
         kind: kind,
         i: name_at(bytes, at, count, 0),
@@ -231,7 +237,7 @@ pub fn multiplier_at(bytes: &[u8], at: usize) -> Multiplier
 
 // The square at a position.
 pub fn square_at(bytes: &[u8], at: usize) -> Square
-    requires { ⌜ at + 135 ≤ length (now bytes) ⌝ }
+    requires { ⌜ at + commandSize 0x3A ≤ length (now bytes) ⌝ }
     ensures { λ r. ⌜ r ≡ filledOf (squareRead (now (bytes .entry)) at) ⌝ }
 {
     let mut square = Square::fresh();
@@ -244,8 +250,8 @@ pub fn square_at(bytes: &[u8], at: usize) -> Square
     square
 }
 
-// The commands at the front of a run of bytes, judged by refusals 1 to 8, with the sets of the variables.
-fn judge_commands(bytes: &[u8], sets: &[u32], register: Register, scheme: Scheme) -> CertificateRead
+// The commands at the front of a run of bytes, checked by refusals 1 to 8, with the sets of the variables.
+fn read_with_sets(bytes: &[u8], sets: &[u32], register: Register, scheme: Scheme) -> CertificateRead
     requires { ⌜ RegisterValid register ⌝ }
     requires { ⌜ SchemeValid register scheme ⌝ }
     requires { ⌜ SetsBelow (register .choices) scheme (variables (register .choices) scheme) (now sets) ⌝ }
@@ -265,24 +271,25 @@ fn judge_commands(bytes: &[u8], sets: &[u32], register: Register, scheme: Scheme
         }
         let command = bytes[at];
         previous = command;
+        let size = command_size(command);
         match command {
             0x30 => {
                 certificate.scale = wire::u32_at(bytes, at + 1);
                 certificate.target = wire::i64_at(bytes, at + 1 + 4);
-                at += 13;
+                at += size;
             }
             0x31..=0x39 => {
                 certificate.multipliers = multipliers + 1;
-                at += 9 + names(command);
+                at += size;
             }
             0x3a => {
                 certificate.squares = squares + 1;
-                at += 135;
+                at += size;
             }
             _ => {
                 return CertificateRead {
                     number: 0,
-                    position: at + 1,
+                    position: at + size,
                     certificate: certificate,
                 };
             }
@@ -291,12 +298,12 @@ fn judge_commands(bytes: &[u8], sets: &[u32], register: Register, scheme: Scheme
     CertificateRead::refused(2, at)
 }
 
-// The commands at the front of a run of bytes, judged by refusals 1 to 8, with a register and a scheme.
+// The commands at the front of a run of bytes, checked by refusals 1 to 8, with a register and a scheme.
 pub fn read_commands(bytes: &[u8], register: Register, scheme: Scheme) -> CertificateRead
     requires { ⌜ RegisterValid register ⌝ }
     requires { ⌜ SchemeValid register scheme ⌝ }
     ensures { λ r. ⌜ r ≡ commandsRead (commandsInJob register scheme (now (bytes .entry))) ⌝ }
 {
     let sets = scheme::sets_of(register.choices, scheme);
-    judge_commands(bytes, &sets, register, scheme)
+    read_with_sets(bytes, &sets, register, scheme)
 }

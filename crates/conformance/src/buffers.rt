@@ -1,15 +1,17 @@
 // BUFFER: all bytes of a lent buffer after a call.
+use listing::Listing;
 use vectors::Cursor;
 use vectors::Taken;
 ghost use mathlib.Core.Path.{_≡_};
 ghost use Prim.Native.Nat.{_≤_};
 ghost use lib.ListN.{length, take};
+ghost use Rattle.listing.specs.Answer.{listingRoom};
 
 // A buffer before a call, at least as long as any that a case lends.
-pub fn lent() -> [u8; 4096]
-    ensures { λ r. ⌜ 4096 ≡ length r ⌝ }
+pub fn lent() -> [u8; Listing::MAX_BYTES]
+    ensures { λ r. ⌜ listingRoom ≡ length r ⌝ }
 {
-    [0xaa; 4096]
+    [0xaa; Listing::MAX_BYTES]
 }
 
 // The length of the part of a buffer that the next field says to lend.

@@ -17,8 +17,8 @@ fn answered(from: Cursor, line: &[u8], answer: JobAnswer) -> Cursor {
 
 // The call's answer and the table are as the rest of the line says.
 fn answers(from: Cursor, line: &[u8], job: &[u8], table: &mut [i64]) -> bool {
-    let accepted = from.count(line, Tally::COUNT as usize);
-    let refused = accepted.next.count(line, Tally::COUNT as usize);
+    let accepted = from.count(line, Tally::MAX_COUNT as usize);
+    let refused = accepted.next.count(line, Tally::MAX_COUNT as usize);
     let tally = Tally {
         accepted: accepted.count as u32,
         refused: refused.count as u32,

@@ -29,7 +29,7 @@ fn term(next: Cursor, line: &[u8], is_counted: bool, mask: u32, coefficient: i32
 fn choices(from: Cursor, line: &[u8], register: Register) -> Cursor {
     let mut next = from;
     let mut i = 0;
-    while i < Register::CHOICES {
+    while i < Register::MAX_CHOICES {
         next = choice(
             next,
             line,
@@ -45,7 +45,7 @@ fn choices(from: Cursor, line: &[u8], register: Register) -> Cursor {
 fn terms(from: Cursor, line: &[u8], register: Register) -> Cursor {
     let mut next = from;
     let mut i = 0;
-    while i < Register::TERMS {
+    while i < Register::MAX_TERMS {
         next = term(
             next,
             line,

@@ -3,10 +3,11 @@ use register::Register;
 use scheme::Scheme;
 use vectors::Cursor;
 ghost use Prim.Native.Nat.{_≤_};
+ghost use Rattle.register.specs.Limits.{maxChoices};
 
 // The number of choices, 0 where the scheme is refused.
 fn choices(register: &[u8], refusal: u8) -> usize
-    ensures { λ r. ⌜ r ≤ 32 ⌝ }
+    ensures { λ r. ⌜ r ≤ maxChoices ⌝ }
 {
     if refusal != 0 {
         return 0;
@@ -14,20 +15,24 @@ fn choices(register: &[u8], refusal: u8) -> usize
     let answer = register::feedcheck_register(register);
     let record = answer.register;
     let n = record.choices;
-    if n <= Register::CHOICES { n } else { 0 }
+    if n <= Register::MAX_CHOICES { n } else { 0 }
 }
 
 // The set of a variable.
-fn set_of(sets: &[u32; Scheme::VARIABLES], v: u8) -> u32 {
+fn set_of(sets: &[u32; Scheme::MAX_VARIABLES], v: u8) -> u32 {
     let i = v as usize;
-    if i < Scheme::VARIABLES { sets[i] } else { 0 }
+    if i < Scheme::MAX_VARIABLES {
+        sets[i]
+    } else {
+        0
+    }
 }
 
 // The sets of n choices.
-fn choice_sets(n: usize) -> [u32; Scheme::VARIABLES]
-    requires { ⌜ n ≤ 32 ⌝ }
+fn choice_sets(n: usize) -> [u32; Scheme::MAX_VARIABLES]
+    requires { ⌜ n ≤ maxChoices ⌝ }
 {
-    let mut sets = [0; Scheme::VARIABLES];
+    let mut sets = [0; Scheme::MAX_VARIABLES];
     let mut i = 0;
     while i < n {
         sets[i] = 1u32 << i;
@@ -59,12 +64,12 @@ fn split(next: Cursor, line: &[u8], is_counted: bool, l: u8, r: u8) -> Cursor {
 
 // The products, with their sets by what was answered.
 fn products(from: Cursor, line: &[u8], n: usize, scheme: Scheme) -> Cursor
-    requires { ⌜ n ≤ 32 ⌝ }
+    requires { ⌜ n ≤ maxChoices ⌝ }
 {
     let mut sets = choice_sets(n);
     let mut next = from;
     let mut k = 0;
-    while k < Scheme::PRODUCTS {
+    while k < Scheme::MAX_PRODUCTS {
         let l = scheme.lefts[k];
         let r = scheme.rights[k];
         let set = set_of(&sets, l) | set_of(&sets, r);
@@ -78,7 +83,7 @@ fn products(from: Cursor, line: &[u8], n: usize, scheme: Scheme) -> Cursor
 fn splits(from: Cursor, line: &[u8], scheme: Scheme) -> Cursor {
     let mut next = from;
     let mut i = 0;
-    while i < Register::TERMS {
+    while i < Register::MAX_TERMS {
         next = split(
             next,
             line,

@@ -7,8 +7,9 @@ use std::num::wrapping_add_u64;
 use vectors::Cursor;
 use vectors::Taken;
 ghost use mathlib.Core.Path.{_≡_};
-ghost use Prim.Native.Nat.{_≤_};
+ghost use Prim.Native.Nat.{_+_, _≤_};
 ghost use lib.ListN.{length, take};
+ghost use Rattle.scheme.specs.Sets.{maxVariables};
 
 // What each number of a table is before a call.
 const BEFORE: i64 = 77;
@@ -109,7 +110,7 @@ fn row(next: Cursor, line: &[u8], table: &[i64], start: usize, end: usize) -> Cu
 
 // The sums of the rows of a table that has so many rows and columns.
 fn rows(from: Cursor, line: &[u8], table: &[i64], side: usize) -> Cursor
-    requires { ⌜ side ≤ 65 ⌝ }
+    requires { ⌜ side ≤ maxVariables + 1 ⌝ }
 {
     let mut next = from;
     let mut start = 0;
@@ -124,7 +125,7 @@ fn rows(from: Cursor, line: &[u8], table: &[i64], side: usize) -> Cursor
 }
 
 fn square(side: usize) -> usize
-    requires { ⌜ side ≤ 65 ⌝ }
+    requires { ⌜ side ≤ maxVariables + 1 ⌝ }
 {
     side * side
 }
@@ -137,11 +138,11 @@ pub fn compared(from: Cursor, line: &[u8], table: &[i64]) -> Cursor {
     }
     let all = from.word(line, b"all");
     if all.same {
-        let variables = all.count(line, Scheme::VARIABLES);
+        let variables = all.count(line, Scheme::MAX_VARIABLES);
         return numbers(variables.next, line, table, square(variables.count + 1));
     }
     let sums = from.word(line, b"sums");
-    let variables = sums.count(line, Scheme::VARIABLES);
+    let variables = sums.count(line, Scheme::MAX_VARIABLES);
     let next = variables.next.unsigned(line, check(table) as u64);
     rows(next, line, table, variables.count + 1)
 }

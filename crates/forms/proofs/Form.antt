@@ -1,8 +1,7 @@
 -- Laws of forms: value and entry of sums and multiples, the places that a form names, the table of one product of places, and
 -- the law of a form's table: Σ Σ entry i j · y i · y j is twice the form's value.
-use Prim.Native.Nat.{ℕ, suc, _≤_, _<_}
+use Prim.Native.Nat.{ℕ, suc, _<_}
 use mathlib.Core.Path.{_≡_, refl, sym, _∙_, ap, ap₂}
-use mathlib.Core.Logic.{_⊎_, ⊎-elim}
 use mathlib.Core.List.{List, [], _∷_, _++_, map, flatMap}
 use mathlib.Core.Bool.{Bool, true, false, cond, _&&_, _||_, and-false, and-comm, or-comm}
 use native.Mathlib.Omega.{arith}
@@ -12,10 +11,10 @@ use borrow.Author.Tests.{eq-eqb, ne-eqb}
 use Rattle.integers.specs.Lists.{All, joinBelow}
 use Rattle.integers.specs.Sum.{sumBelow, sumOver}
 use Rattle.integers.specs.Quadratic.{quadratic, Semidefinite}
-use Rattle.integers.proofs.Lists.{*-bit, T-and, All-append, All-map, All-join}
+use Rattle.integers.proofs.Lists.{*-bit, T-and, All-append, All-join}
 use Rattle.integers.proofs.Ring.{*ℤ-distribˡ}
 use Rattle.integers.proofs.Solver.{quote, atoms, ring}
-use Rattle.integers.proofs.Sum.{sumBelow-0, sumBelow-cong, sumBelow-first, sumBelow-only, sumOver-append, sumOver-0, sumOver-*ˡ, sumOver-map, sumOver-flatMap, sumOver-join}
+use Rattle.integers.proofs.Sum.{sumBelow-0, sumBelow-cong, sumBelow-first, sumBelow-only, sumOver-append, sumOver-*ˡ, sumOver-map, sumOver-flatMap, sumOver-join}
 use Rattle.integers.proofs.Quadratic.{quadratic-+, quadratic-sumOver}
 use Rattle.forms.specs.Form.{Monomial, Form, mono, place, places, times, value, coefficientOf, single, entry}
 
@@ -45,10 +44,6 @@ single-swap p q c i j = ap (λ b. cond b c (pos 0)) (and-comm (eqb i p) (eqb j q
 pub value-[] : (y : ℕ → ℤ) → value y [] ≡ pos 0
 unfolding value sumOver
 value-[] y = refl
-
-pub value-∷ : (y : ℕ → ℤ) (m : Monomial) (f : Form) → value y (m ∷ f) ≡ m .c *ℤ y (m .p) *ℤ y (m .q) +ℤ value y f
-unfolding value sumOver
-value-∷ y m f = refl
 
 pub value-append : (y : ℕ → ℤ) (f g : Form) → value y (f ++ g) ≡ value y f +ℤ value y g
 unfolding value
@@ -144,21 +139,6 @@ below-times {n} k {f} h = record { all = go f (h .all) }
     go : (f : Form) → All (Inside n) f → All (Inside n) (map (λ m. mono (m .p) (m .q) (k *ℤ m .c)) f)
     go [] h = tt
     go (m ∷ f) h = (h .0, go f (h .1))
-
--- a larger side
-pub below-wider : {n : ℕ} (k : ℕ) {f : Form} → n ≤ k → Below n f → Below k f
-below-wider {n} k {f} l h = record { all = All-map (Inside n) (Inside k) (λ m (a, b). (omega arith, omega arith)) f (h .all) }
-
--- a table is 0 in the rows and columns of places that its form does not name
-pub entry-outside : {n : ℕ} {f : Form} → Below n f → (i j : ℕ) → (n ≤ i) ⊎ (n ≤ j) → entry f i j ≡ pos 0
-unfolding entry
-entry-outside {n} {f} h i j l = ⊎-elim (λ k. row i j k) (λ k. entry-symmetric f i j ∙ row j i k) l
-  where
-    row : (i j : ℕ) → n ≤ i → sumOver f (entryOf i j) ≡ pos 0
-    row i j l =
-        sumOver-0 f (entryOf i j)
-        (All-map (Inside n) (λ m. entryOf i j m ≡ pos 0)
-        (λ m (a, b). ap₂ _+ℤ_ (single-row (m .p) (m .q) (m .c) i j (λ e. omega arith)) (single-row (m .q) (m .p) (m .c) i j (λ e. omega arith))) f (h .all))
 
 -- ---- the law of a form's table
 

@@ -44,7 +44,7 @@ coefficientOf f p q = sumOver f (λ m. cond (eqb p (m .p) && eqb q (m .q) || eqb
 abbrev pub single : ℕ → ℕ → ℤ → ℕ → ℕ → ℤ
 single p q c i j = cond (eqb i p && eqb j q) c (pos 0)
 
--- the table of a form: a monomial adds c at (p, q) and c at (q, p). So (0,0) holds twice the constant, (0,i) and (i,0) the
--- linear coefficient, (i,i) twice the coefficient of the square, (i,j) and (j,i) the coefficient of the product
+-- the table of a form: a monomial adds c at (p, q) and c at (q, p). So a diagonal entry is twice the coefficient of 1 or of a
+-- square, and any other entry is the coefficient itself, on both sides of the diagonal
 unfoldable pub entry : Form → ℕ → ℕ → ℤ
 entry f i j = sumOver f (λ m. single (m .p) (m .q) (m .c) i j +ℤ single (m .q) (m .p) (m .c) i j)

@@ -25,3 +25,25 @@ cleared k t = replicate k (pos 0) ++ drop k t
 pub record Bounded (n b : ℕ) (t : List ℤ) : Type 0 where
   pub long : n * n ≤ length t
   pub low : (k : ℕ) → k < n * n → natAbs (getD t k (pos 0)) ≤ b
+
+-- ---- how large a table's numbers may be before something is added, so that all sums are within 64 bits
+
+-- what is added to a number at once is at most this
+abbrev pub maxAdded : ℕ
+maxAdded = 1_000_000_000_000_000_000
+
+-- before one number is added
+abbrev pub maxBeforeNumber : ℕ
+maxBeforeNumber = 5 * maxAdded
+
+-- before a monomial, which may add to a number twice
+abbrev pub maxBeforeMonomial : ℕ
+maxBeforeMonomial = 4 * maxAdded
+
+-- before a form that adds at most maxAdded to a number
+abbrev pub maxBeforeForm : ℕ
+maxBeforeForm = 3 * maxAdded
+
+-- before two such forms
+abbrev pub maxBeforeForms : ℕ
+maxBeforeForms = 2 * maxAdded

@@ -3,7 +3,7 @@ ghost use Prim.Native.Nat.{_≤_, _<_};
 ghost use lib.IntN.{pos, natAbs, _*ℤ_};
 ghost use lib.ListN.{length, getD};
 ghost use Rattle.forms.specs.Form.{mono};
-ghost use Rattle.forms.specs.Store.{addAt, addMonomial, cleared, Bounded};
+ghost use Rattle.forms.specs.Store.{addAt, addMonomial, cleared, Bounded, maxAdded, maxBeforeNumber, maxBeforeMonomial};
 
 // The lent run of numbers that a call works in.
 pub struct WorkingTable;
@@ -27,8 +27,8 @@ pub fn clear(t: &mut [i64], n: usize)
 // Adds `c` to the number at `at`.
 fn add_at(t: &mut [i64], at: usize, c: i64)
     requires { ⌜ at < length (now t) ⌝ }
-    requires { ⌜ natAbs (getD (now t) at (pos 0)) ≤ 5000000000000000000 ⌝ }
-    requires { ⌜ natAbs c ≤ 1000000000000000000 ⌝ }
+    requires { ⌜ natAbs (getD (now t) at (pos 0)) ≤ maxBeforeNumber ⌝ }
+    requires { ⌜ natAbs c ≤ maxAdded ⌝ }
     ensures { λ _. ⌜ now (t .exit) ≡ addAt at c (now (t .entry)) ⌝ }
 {
     t[at] = t[at] + c;
@@ -36,9 +36,9 @@ fn add_at(t: &mut [i64], at: usize, c: i64)
 
 // Adds the monomial `c` times place `p` times place `q` into a table of side `side`: `c` at (p, q) and `c` at (q, p).
 pub fn add_monomial(t: &mut [i64], side: usize, p: usize, q: usize, c: i64)
-    requires { ⌜ Bounded side 4000000000000000000 (now t) ⌝ }
+    requires { ⌜ Bounded side maxBeforeMonomial (now t) ⌝ }
     requires { ⌜ (p < side) × (q < side) ⌝ }
-    requires { ⌜ natAbs c ≤ 1000000000000000000 ⌝ }
+    requires { ⌜ natAbs c ≤ maxAdded ⌝ }
     ensures { λ _. ⌜ now (t .exit) ≡ addMonomial side (mono p q c) (now (t .entry)) ⌝ }
 {
     add_at(t, p * side + q, c);
@@ -47,9 +47,9 @@ pub fn add_monomial(t: &mut [i64], side: usize, p: usize, q: usize, c: i64)
 
 // Adds the monomial `k` times `c` times place `p` times place `q`.
 pub fn add_multiple(t: &mut [i64], side: usize, p: usize, q: usize, k: i64, c: i64)
-    requires { ⌜ Bounded side 4000000000000000000 (now t) ⌝ }
+    requires { ⌜ Bounded side maxBeforeMonomial (now t) ⌝ }
     requires { ⌜ (p < side) × (q < side) ⌝ }
-    requires { ⌜ natAbs (k *ℤ c) ≤ 1000000000000000000 ⌝ }
+    requires { ⌜ natAbs (k *ℤ c) ≤ maxAdded ⌝ }
     ensures { λ _. ⌜ now (t .exit) ≡ addMonomial side (mono p q (k *ℤ c)) (now (t .entry)) ⌝ }
 {
     add_monomial(t, side, p, q, k * c);

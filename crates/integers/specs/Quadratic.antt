@@ -21,6 +21,6 @@ Semidefinite n a = (x : ℕ → ℤ) → pos 0 ≤ℤ quadratic n a x
 unfoldable pub offDiagonal : ℕ → (ℕ → ℕ → ℤ) → ℕ → ℤ
 offDiagonal n a i = sumBelow n (except i (λ j. abs (a i j)))
 
--- each diagonal entry is at least the sum of the absolute values of the rest of its row
+-- no row's off-diagonal sum is above its diagonal entry
 abbrev pub DiagonallyDominant : ℕ → (ℕ → ℕ → ℤ) → Type 0
 DiagonallyDominant n a = (i : ℕ) → i < n → offDiagonal n a i ≤ℤ a i i

@@ -86,8 +86,8 @@ module _ (s : List ℕ) (reg : Register) (from : ℕ) (part : PlanRead) (e : par
     unfolding planInJob
     plan-went = went (planInJob reg (drop from s)) _ _ plan-shown (readPart-numbered (planPart reg) (drop from s)) h
 
-    plan-gave : part .plan ≡ plan-went .0 .gave
-    plan-gave = ap (λ (r : PlanRead). r .plan) (e ∙ ap planRead (plan-went .1))
+    plan-read : part .plan ≡ plan-went .0 .parsed
+    plan-read = ap (λ (r : PlanRead). r .plan) (e ∙ ap planRead (plan-went .1))
 
     module _ (sch : Scheme) (cert : Certificate) where
       pub plan-past : from + part .position < length s → refusedRead 12 4 (from + part .position) ≡ jobRead (fromPlan s reg sch cert from)
@@ -96,9 +96,9 @@ module _ (s : List ℕ) (reg : Register) (from : ℕ) (part : PlanRead) (e : par
 
       pub plan-last : length s ≤ from + part .position → (b : ℤ) → b ≡ bound cert → acceptedRead reg (part .plan) b ≡ jobRead (fromPlan s reg sch cert from)
       unfolding follow
-      plan-last l b d = go (plan-went .0) (plan-went .1) plan-gave
+      plan-last l b d = go (plan-went .0) (plan-went .1) plan-read
         where
-          go : (read : Progress ℕ) → planInJob reg (drop from s) ≡ accepted read (part .position) → part .plan ≡ read .gave →
+          go : (read : Progress ℕ) → planInJob reg (drop from s) ≡ accepted read (part .position) → part .plan ≡ read .parsed →
               acceptedRead reg (part .plan) b ≡ jobRead (fromPlan s reg sch cert from)
           go read q g = rw (q, le-ltb (from + part .position) (length s) l, g, d)
 
@@ -124,7 +124,7 @@ module _ (s : List ℕ) (reg : Register) (sch : Scheme) (from : ℕ) (part : Che
     certificate-went = went third _ _ certificate-shown (job-numbered (coefficient reg) reg sch (drop from s)) h
 
     abbrev pub certificateOf : Certificate
-    certificateOf = certificate-went .0 .gave
+    certificateOf = certificate-went .0 .parsed
 
     pub bound-is : part .bound ≡ bound certificateOf
     bound-is = ap (λ (r : CheckRead). r .bound) (e ∙ ap checkRead (certificate-went .1))
@@ -161,24 +161,24 @@ module _ (s : List ℕ) (reg : Register) (from : ℕ) (part : SchemeRead) (e : p
     unfolding schemeInJob
     scheme-went = went second _ _ scheme-shown (readPart-numbered (schemePart reg) (drop from s)) h
 
-    scheme-gave : part .scheme ≡ scheme-went .0 .gave
-    scheme-gave = ap (λ (r : SchemeRead). r .scheme) (e ∙ ap schemeRead (scheme-went .1))
+    scheme-read : part .scheme ≡ scheme-went .0 .parsed
+    scheme-read = ap (λ (r : SchemeRead). r .scheme) (e ∙ ap schemeRead (scheme-went .1))
 
     pub scheme-valid : R.Valid reg → S.Valid reg (part .scheme)
-    scheme-valid v = rw scheme-gave (SchemeAccept.valid-accepted reg v (drop from s) _ _ (scheme-went .1) .0)
+    scheme-valid v = rw scheme-read (SchemeAccept.valid-accepted reg v (drop from s) _ _ (scheme-went .1) .0)
 
     pub then-certificate : jobRead (fromCertificate s reg (part .scheme) (from + part .position)) ≡ jobRead (fromScheme s reg from)
     unfolding follow
-    then-certificate = go (scheme-went .0) (scheme-went .1) scheme-gave
+    then-certificate = go (scheme-went .0) (scheme-went .1) scheme-read
       where
-        go : (read : Progress Scheme) → second ≡ accepted read (part .position) → part .scheme ≡ read .gave →
+        go : (read : Progress Scheme) → second ≡ accepted read (part .position) → part .scheme ≡ read .parsed →
             jobRead (fromCertificate s reg (part .scheme) (from + part .position)) ≡ jobRead (fromScheme s reg from)
         go read q g = rw (q, g)
 
     pub then-residual : (lent : List ℤ) → tableFromCertificate s reg (part .scheme) (from + part .position) lent ≡ tableFromScheme s reg from lent
-    then-residual lent = go (scheme-went .0) (scheme-went .1) scheme-gave
+    then-residual lent = go (scheme-went .0) (scheme-went .1) scheme-read
       where
-        go : (read : Progress Scheme) → second ≡ accepted read (part .position) → part .scheme ≡ read .gave →
+        go : (read : Progress Scheme) → second ≡ accepted read (part .position) → part .scheme ≡ read .parsed →
             tableFromCertificate s reg (part .scheme) (from + part .position) lent ≡ tableFromScheme s reg from lent
         go read q g = rw (q, g)
 
@@ -202,24 +202,24 @@ module _ (s : List ℕ) (part : RegisterRead) (e : part ≡ registerRead (regist
     unfolding registerInJob
     register-went = went (registerInJob s) _ _ register-shown (readPart-numbered registerPart s) h
 
-    register-gave : part .register ≡ register-went .0 .gave
-    register-gave = ap (λ (r : RegisterRead). r .register) (e ∙ ap registerRead (register-went .1))
+    register-read : part .register ≡ register-went .0 .parsed
+    register-read = ap (λ (r : RegisterRead). r .register) (e ∙ ap registerRead (register-went .1))
 
     pub register-valid : R.Valid (part .register)
-    register-valid = rw register-gave (RegisterAccept.valid-accepted s _ _ (register-went .1) .0)
+    register-valid = rw register-read (RegisterAccept.valid-accepted s _ _ (register-went .1) .0)
 
     pub then-scheme : jobRead (fromScheme s (part .register) (part .position)) ≡ jobRead (outcome s)
     unfolding outcome follow
-    then-scheme = go (register-went .0) (register-went .1) register-gave
+    then-scheme = go (register-went .0) (register-went .1) register-read
       where
-        go : (read : Progress Register) → registerInJob s ≡ accepted read (part .position) → part .register ≡ read .gave →
+        go : (read : Progress Register) → registerInJob s ≡ accepted read (part .position) → part .register ≡ read .parsed →
             jobRead (fromScheme s (part .register) (part .position)) ≡ jobRead (outcome s)
         go read q g = rw (q, g, zero-add)
 
     pub then-table : (lent : List ℤ) → tableFromScheme s (part .register) (part .position) lent ≡ tableAfter s lent
     unfolding tableAfter
-    then-table lent = go (register-went .0) (register-went .1) register-gave
+    then-table lent = go (register-went .0) (register-went .1) register-read
       where
-        go : (read : Progress Register) → registerInJob s ≡ accepted read (part .position) → part .register ≡ read .gave →
+        go : (read : Progress Register) → registerInJob s ≡ accepted read (part .position) → part .register ≡ read .parsed →
             tableFromScheme s (part .register) (part .position) lent ≡ tableAfter s lent
         go read q g = rw (q, g)

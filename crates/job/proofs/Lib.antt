@@ -6,3 +6,5 @@ pub mod Sound
 pub mod Call
 pub mod Accept
 pub mod Prefix
+pub mod Counting
+pub mod Ranges

@@ -14,7 +14,7 @@ use Rattle.register.specs.declared.Register.{Register}
 use Rattle.scheme.specs.declared.Scheme.{Scheme}
 use Rattle.certificate.specs.Certificate.{Certificate}
 use Rattle.certificate.specs.Residual.{carries}
-use Rattle.certificate.specs.Format.{certificatePart, commandsInJob, judged, certificateInJob}
+use Rattle.certificate.specs.Format.{certificatePart, commandsInJob, dominanceChecked, certificateInJob}
 
 -- a reader's number and position, by what reading leads to
 
@@ -46,13 +46,13 @@ part-within {S} P s = go (readPart P s) refl
     go (accepted read end) e = readFrom-end P s (P .start) 0 e .1
 
 pub certificate-within : (c : ℕ → ℤ) (reg : Register) (sch : Scheme) (s : List ℕ) → positionOf (certificateInJob c reg sch s) ≤ length s
-unfolding certificateInJob commandsInJob judged
+unfolding certificateInJob commandsInJob dominanceChecked
 certificate-within c reg sch s = go (commandsInJob reg sch s) (part-within (certificatePart reg sch) s)
   where
     by : (p : Progress Certificate) (end : ℕ) (b : Bool) → end ≤ length s → positionOf {S = Progress Certificate} (cond b (accepted p end) (refused 9 (end - 1))) ≤ length s
     by p end true l = l
     by p end false l = omega arith
 
-    go : (x : Reading (Progress Certificate)) → positionOf x ≤ length s → positionOf (judged c reg sch x) ≤ length s
+    go : (x : Reading (Progress Certificate)) → positionOf x ≤ length s → positionOf (dominanceChecked c reg sch x) ≤ length s
     go (refused number at) l = l
-    go (accepted p end) l = by p end (carries c reg sch (p .gave)) l
+    go (accepted p end) l = by p end (carries c reg sch (p .parsed)) l

@@ -27,7 +27,7 @@ use Rattle.plan.proofs.Prefix.{plan-prefix, plan-end}
 use Rattle.job.specs.Outcome.{Parts, Outcome, refuses, accepts, follow, outcome}
 
 -- an accepted register has no more terms than the limit
-few-terms : (s : List ℕ) (p : Progress Register) (end : ℕ) → registerInJob s ≡ accepted p end → p .gave .terms ≤ maxTerms
+few-terms : (s : List ℕ) (p : Progress Register) (end : ℕ) → registerInJob s ≡ accepted p end → p .parsed .terms ≤ maxTerms
 few-terms s p end e = valid-accepted s p end e .0 .within .terms-within
 
 module _ {S : Type 0} (part from : ℕ) where
@@ -61,11 +61,11 @@ module _ (K : ℕ) (s : List ℕ) where
   unfolding outcome
   outcome-prefix k =
       follow-same 1 0 _ _ _ _ (register-prefix K s (omega arith)) λ one end1 e1.
-      let reg = one .gave in
+      let reg = one .parsed in
       let few = few-terms s one end1 e1 in
       let l1 = register-end s e1 in
       follow-same 2 (0 + end1) _ _ _ _ (part-prefix (schemeInJob reg) 867 (scheme-prefix reg few) (0 + end1) (omega arith)) λ two end2 e2.
-      let sch = two .gave in
+      let sch = two .parsed in
       let l2 = scheme-end reg few _ e2 in
       follow-same 3 (0 + end1 + end2) _ _ _ _ (part-prefix (certificateInJob (coefficient reg) reg sch) 22_100 (certificate-prefix reg sch (coefficient reg)) (0 + end1 + end2) (omega arith)) λ three end3 e3.
       let l3 = certificate-end reg sch (coefficient reg) _ e3 in
@@ -78,13 +78,13 @@ pub accepted-length : (s : List ℕ) (p : Parts) → outcome s ≡ accepts p →
 unfolding outcome
 accepted-length s p e =
     follow-accepts 1 0 _ _ p e λ one end1 e1 e.
-    let reg = one .gave in
+    let reg = one .parsed in
     let few = few-terms s one end1 e1 in
     let l1 = register-end s e1 in
     follow-accepts 2 (0 + end1) _ _ p e λ two end2 e2 e.
     let l2 = scheme-end reg few _ e2 in
     follow-accepts 3 (0 + end1 + end2) _ _ p e λ three end3 e3 e.
-    let l3 = certificate-end reg (two .gave) (coefficient reg) _ e3 in
+    let l3 = certificate-end reg (two .parsed) (coefficient reg) _ e3 in
     follow-accepts 4 (0 + end1 + end2 + end3) _ _ p e λ four end4 e4 e.
     let l4 = plan-end reg _ e4 in
     omega (arith, ends (0 + end1 + end2 + end3 + end4) _ e)

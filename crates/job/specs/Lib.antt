@@ -2,4 +2,5 @@
 pub mod Outcome
 pub mod Tally
 pub mod Answer
+pub mod Counting
 pub mod Valid

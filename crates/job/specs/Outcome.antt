@@ -43,17 +43,17 @@ abbrev pub fromPlan : List ℕ → Register → Scheme → Certificate → ℕ �
 fromPlan s reg sch cert from =
     follow 4 from (planInJob reg (drop from s)) λ four end.
     cond (ltb end (length s)) (refuses 12 4 end)
-    (accepts (record { register = reg; scheme = sch; certificate = cert; plan = four .gave }))
+    (accepts (record { register = reg; scheme = sch; certificate = cert; plan = four .parsed }))
 
 abbrev pub fromCertificate : List ℕ → Register → Scheme → ℕ → Outcome
 fromCertificate s reg sch from =
-    follow 3 from (certificateInJob (coefficient reg) reg sch (drop from s)) λ three end. fromPlan s reg sch (three .gave) end
+    follow 3 from (certificateInJob (coefficient reg) reg sch (drop from s)) λ three end. fromPlan s reg sch (three .parsed) end
 
 abbrev pub fromScheme : List ℕ → Register → ℕ → Outcome
-fromScheme s reg from = follow 2 from (schemeInJob reg (drop from s)) λ two end. fromCertificate s reg (two .gave) end
+fromScheme s reg from = follow 2 from (schemeInJob reg (drop from s)) λ two end. fromCertificate s reg (two .parsed) end
 
 unfoldable pub outcome : List ℕ → Outcome
-outcome s = follow 1 0 (registerInJob s) λ one end. fromScheme s (one .gave) end
+outcome s = follow 1 0 (registerInJob s) λ one end. fromScheme s (one .parsed) end
 
 -- the bound, the cost of the plan, and the gap
 
@@ -67,21 +67,21 @@ costOf p = cost (coefficient (p .register)) (p .register) (p .plan)
 abbrev pub gapOf : Parts → ℤ
 gapOf p = costOf p -ℤ boundOf p
 
--- the table after a job: R where `3F` is reached without 1–8, also after 9, 12 or a refused plan, and else as it was
+-- the table after a job: R once the certificate's commands are read to their end, whatever follows; else unchanged
 
 abbrev pub tableFromCertificate : List ℕ → Register → Scheme → ℕ → List ℤ → List ℤ
 tableFromCertificate s reg sch from lent = withResidual reg sch (commandsInJob reg sch (drop from s)) lent
 
 abbrev pub tableAfterScheme : List ℕ → Register → ℕ → Reading (Progress Scheme) → List ℤ → List ℤ
 tableAfterScheme s reg from (refused number at) lent = lent
-tableAfterScheme s reg from (accepted p end) lent = tableFromCertificate s reg (p .gave) (from + end) lent
+tableAfterScheme s reg from (accepted p end) lent = tableFromCertificate s reg (p .parsed) (from + end) lent
 
 abbrev pub tableFromScheme : List ℕ → Register → ℕ → List ℤ → List ℤ
 tableFromScheme s reg from lent = tableAfterScheme s reg from (schemeInJob reg (drop from s)) lent
 
 abbrev pub tableAfterRegister : List ℕ → Reading (Progress Register) → List ℤ → List ℤ
 tableAfterRegister s (refused number at) lent = lent
-tableAfterRegister s (accepted p end) lent = tableFromScheme s (p .gave) end lent
+tableAfterRegister s (accepted p end) lent = tableFromScheme s (p .parsed) end lent
 
 unfoldable pub tableAfter : List ℕ → List ℤ → List ℤ
 tableAfter s lent = tableAfterRegister s (registerInJob s) lent

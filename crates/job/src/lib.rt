@@ -55,12 +55,12 @@ pub struct JobAnswer {
 
 impl Tally {
     // Where a count stays.
-    pub const COUNT: u32 = 4_294_967_295;
+    pub const MAX_COUNT: u32 = 4_294_967_295;
 
     fn raised(count: u32) -> u32
         ensures { λ r. ⌜ r ≡ oneMore count ⌝ }
     {
-        if count < Tally::COUNT {
+        if count < Tally::MAX_COUNT {
             return count + 1;
         }
         count

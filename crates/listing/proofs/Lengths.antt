@@ -17,7 +17,7 @@ use Rattle.register.specs.declared.Register.{Register}
 use Rattle.register.specs.Register.{tank, minute}
 use Rattle.register.specs.Valid.{Within}
 use Rattle.sets.specs.Sets.{isMember}
-use Rattle.wire.specs.Text.{line}
+use Rattle.text.specs.Text.{line}
 use Rattle.text.specs.Fields.{field, sign}
 use Rattle.text.proofs.Digits.{digits-short}
 use Rattle.text.proofs.Lines.{length-integer, length-two, length-three}

@@ -12,12 +12,13 @@ use lib.ListN.{length, getD, drop}
 use lib.Pow.{pow-mono}
 use borrow.Author.Tests.{ltb-true, ltb-false}
 use Rattle.integers.specs.Lists.{All, joinBelow}
-use Rattle.integers.proofs.Lists.{flag, All-join}
+use Rattle.integers.proofs.Lists.{flag, All-append, All-join}
 use Rattle.integers.proofs.Join.{join-cong, length-join, getD-join}
 use Rattle.integers.proofs.Entries.{below-or-last}
 use Rattle.sets.specs.Sets.{isMember}
-use Rattle.text.proofs.Unique.{texts, texts-append, texts-join, texts-one, texts-none, texts-determine}
+use Rattle.text.proofs.Unique.{line-without, texts, texts-append, texts-join, texts-one, texts-none, texts-determine}
 use Rattle.register.specs.declared.Register.{Register}
+use Rattle.register.specs.Limits.{maxMinute}
 use Rattle.register.specs.Register.{tank, minute}
 use Rattle.register.specs.Valid.{Valid}
 use Rattle.register.specs.Encoding.{encodeRegister}
@@ -117,7 +118,7 @@ module _ (r r′ : Register) (e : choices r ≡ choices r′) where
 
 module _ (r : Register) (v : Valid r) where
   abbrev place : ℕ → ℕ
-  place i = tank r i * 1440 + minute r i
+  place i = tank r i * (maxMinute + 1) + minute r i
 
   next : (i : ℕ) → suc i < r .choices → place i < place (suc i)
   next i l =
@@ -185,7 +186,7 @@ module _ (r r′ : Register) (v : Valid r′) (n : r .choices ≡ r′ .choices)
           here .0 refl
 
 module _ (r r′ : Register) (v : Valid r) (v′ : Valid r′) (plan plan′ : ℕ) where
-  same-plan : planLines r plan ≡ planLines r′ plan′ → SamePlan r plan r′ plan′
+  pub same-plan : planLines r plan ≡ planLines r′ plan′ → SamePlan r plan r′ plan′
   same-plan e =
       let lines = texts-determine (choices r ++ feeds r plan) (choices r′ ++ feeds r′ plan′) (plan-lines r plan ∙ e ∙ sym (plan-lines r′ plan′)) in
       let (c, f) = apart (choices r) (choices r′) (feeds r plan) (feeds r′ plan′) (choices-have r) (choices-have r′) (feeds-have r plan) (feeds-have r′ plan′) lines in
@@ -205,12 +206,27 @@ module _ (r r′ : Register) (v : Valid r) (v′ : Valid r′) (plan plan′ : �
       equal false true f g = g refl
       equal false false f g = refl
 
-  same-lines : SamePlan r plan r′ plan′ → planLines r plan ≡ planLines r′ plan′
+  pub same-lines : SamePlan r plan r′ plan′ → planLines r plan ≡ planLines r′ plan′
   unfolding choiceLines fedLines
   same-lines s = ap₂ _++_
       (join-cong (r .choices) _ _ (λ i l. ap₂ (choiceLine i) (s .tanks i l) (s .minutes i l)) ∙ ap (λ n. joinBelow n (λ i. choiceLine i (tank r′ i) (minute r′ i))) (s .choices))
       (join-cong (r .choices) _ _ (λ i l. ap₂ (λ b x. cond b x []) (s .fed i l) (ap₂ fedLine (s .tanks i l) (s .minutes i l)))
       ∙ ap (λ n. joinBelow n (λ i. cond (isMember i plan′) (fedLine (tank r′ i) (minute r′ i)) [])) (s .choices))
+
+-- the letter of the `B` line stands nowhere in the `T` and `F` lines
+pub lines-without : (r : Register) (plan : ℕ) → All (λ b. b ≡ 0x42 → ⊥) (planLines r plan)
+unfolding choiceLines fedLines
+lines-without r plan =
+    All-append Other (choiceLines r) (fedLines r plan)
+    (All-join Other (r .choices) _ (λ i l. line-without 0x42 0x54 (pos i ∷ pos (tank r i) ∷ pos (minute r i) ∷ []) (omega arith) (λ e. omega arith)))
+    (All-join Other (r .choices) _ (λ i l. one (isMember i plan) (tank r i) (minute r i)))
+  where
+    Other : ℕ → Type 0
+    Other b = b ≡ 0x42 → ⊥
+
+    one : (b : Bool) (t m : ℕ) → All Other (cond b (fedLine t m) [])
+    one true t m = line-without 0x42 0x46 (pos t ∷ pos m ∷ []) (omega arith) (λ e. omega arith)
+    one false t m = tt
 
 -- "Whoever wrote the scheme and the certificate, the same register and plan give the same lines": the `T` and `F` lines of two
 -- accepted jobs are equal just where both jobs have the same choices and feed the same ones.
@@ -219,7 +235,9 @@ pub line-for-line : (s s′ : List ℕ) (p p′ : Parts) → outcome s ≡ accep
 line-for-line s s′ p p′ e e′ =
     let r = p .register in
     let r′ = p′ .register in
-    (same-plan r r′ (accepted-valid s p e) (accepted-valid s′ p′ e′) (p .plan) (p′ .plan), same-lines r r′ (accepted-valid s p e) (accepted-valid s′ p′ e′) (p .plan) (p′ .plan))
+    let v = accepted-valid s p e .register in
+    let v′ = accepted-valid s′ p′ e′ .register in
+    (same-plan r r′ v v′ (p .plan) (p′ .plan), same-lines r r′ v v′ (p .plan) (p′ .plan))
 
 -- in particular where parts 1 and 4 are the same
 pub same-parts : (p p′ : Parts) → p .register ≡ p′ .register → p .plan ≡ p′ .plan → planLines (p .register) (p .plan) ≡ planLines (p′ .register) (p′ .plan)

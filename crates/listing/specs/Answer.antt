@@ -5,33 +5,22 @@ use mathlib.Core.List.{List}
 use lib.Dec.{ltb, eqb}
 use lib.IntN.{ℤ}
 use lib.ListN.{length}
-use Rattle.wire.specs.Number.{withFront}
+use Rattle.wire.specs.declared.WriterAnswer.{WriterAnswer}
+use Rattle.wire.specs.Writer.{refusedAnswer, bytesAnswer, withFront}
 use Rattle.forms.specs.Table.{tableNumbers}
 use Rattle.job.specs.declared.JobRead.{JobRead}
 use Rattle.job.specs.Outcome.{outcome, tableAfter}
-use Rattle.listing.specs.declared.ListingAnswer.{ListingAnswer}
 use Rattle.listing.specs.Listing.{acceptedLines, refusalLine, listing}
 
 -- a buffer of so many bytes is enough for every listing: 32 lines `T`, 32 lines `F` and a line `B` of numbers of 64 bits
 abbrev pub listingRoom : ℕ
 listingRoom = 4_096
 
--- its only refusal is 11; part and position 0
-abbrev pub refusedAnswer : ListingAnswer
-refusedAnswer = record { number = 11; part = 0; position = 0; count = 0 }
+-- of the job's bytes, the lent table and the lent buffer: its only refusal is 11, part and position 0. A table below 4,225
+-- numbers is found before the job is read, a short buffer after that
 
-abbrev pub writtenAnswer : ℕ → ListingAnswer
-writtenAnswer count = record { number = 0; part = 0; position = 0; count = count }
-
--- bytes to be written into a lent buffer: a buffer below them is refused 11
-unfoldable pub bytesAnswer : List ℕ → List ℕ → ListingAnswer
-bytesAnswer bytes lent = cond (ltb (length lent) (length bytes)) refusedAnswer (writtenAnswer (length bytes))
-
--- of the job's bytes, the lent table and the lent buffer: a table below 4,225 numbers is found before all else, a short buffer
--- after all else
-
-unfoldable pub listingAnswer : List ℕ → List ℤ → List ℕ → ListingAnswer
-listingAnswer job table buffer = cond (ltb (length table) tableNumbers) refusedAnswer (bytesAnswer (listing (outcome job)) buffer)
+unfoldable pub listingAnswer : List ℕ → List ℤ → List ℕ → WriterAnswer
+listingAnswer job table buffer = cond (ltb (length table) tableNumbers) (refusedAnswer 11 0 0) (bytesAnswer (listing (outcome job)) buffer)
 
 unfoldable pub listingTable : List ℕ → List ℤ → List ℤ
 listingTable job table = cond (ltb (length table) tableNumbers) table (tableAfter job table)

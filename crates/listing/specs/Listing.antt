@@ -5,7 +5,7 @@ use mathlib.Core.List.{List, [], _∷_, _++_}
 use lib.IntN.{ℤ, pos}
 use Rattle.integers.specs.Lists.{joinBelow}
 use Rattle.sets.specs.Sets.{isMember}
-use Rattle.wire.specs.Text.{line}
+use Rattle.text.specs.Text.{line}
 use Rattle.register.specs.declared.Register.{Register}
 use Rattle.register.specs.Register.{tank, minute}
 use Rattle.job.specs.Outcome.{Outcome, refuses, accepts, boundOf, costOf, gapOf}
@@ -37,7 +37,7 @@ boundLine bound cost gap = line 0x42 (bound ∷ cost ∷ gap ∷ [])
 unfoldable pub acceptedLines : Register → ℕ → ℤ → ℤ → ℤ → List ℕ
 acceptedLines r plan bound cost gap = planLines r plan ++ boundLine bound cost gap
 
--- a refusal prints only R, number, position
+-- the one line of a refused job
 abbrev pub refusalLine : ℕ → ℕ → List ℕ
 refusalLine number at = line 0x52 (pos number ∷ pos at ∷ [])
 

@@ -3,42 +3,26 @@ use forms::WorkingTable;
 use job::JobRead;
 use job::read_job;
 use register::Register;
+use wire::WriterAnswer;
 ghost use mathlib.Core.Path.{_≡_};
 ghost use mathlib.Core.Bool.{cond};
 ghost use mathlib.Core.List.{[], _++_};
 ghost use Prim.Native.Nat.{_+_, _≤_};
 ghost use lib.ListN.{length, take, drop};
-ghost use Rattle.forms.specs.Table.{tableNumbers};
 ghost use Rattle.job.specs.Outcome.{outcome};
 ghost use Rattle.register.specs.Limits.{maxChoices};
 ghost use Rattle.register.specs.Valid.{Within};
-ghost use Rattle.wire.specs.Number.{written, withFront};
+ghost use Rattle.wire.specs.Number.{written};
+ghost use Rattle.wire.specs.Writer.{bytesAnswer, withFront};
 ghost use Rattle.listing.specs.Listing.{choiceLine, choiceLines, fedLine, fedLines, acceptedLines, listing};
-ghost use Rattle.listing.specs.Answer.{listingRoom, linesOf, refusedAnswer, bytesAnswer, listingAnswer, listingTable, listingBuffer};
+ghost use Rattle.listing.specs.Answer.{listingRoom, linesOf, listingAnswer, listingTable, listingBuffer};
 
-// The answer of the call: 11, or zeros and how many bytes were written.
-#[repr(C)]
-pub struct ListingAnswer {
-    pub number: u8,
-    pub part: u8,
-    pub position: usize,
-    pub count: usize,
-}
+// The listing of a job.
+pub struct Listing;
 
-impl ListingAnswer {
+impl Listing {
     // No listing has more bytes.
-    pub const BYTES: usize = 4096;
-
-    fn refused() -> ListingAnswer
-        ensures { λ r. ⌜ r ≡ refusedAnswer ⌝ }
-    {
-        ListingAnswer {
-            number: 11,
-            part: 0,
-            position: 0,
-            count: 0,
-        }
-    }
+    pub const MAX_BYTES: usize = 4096;
 }
 
 // Writes the `T` line of a choice. Returns the position after it.
@@ -150,41 +134,35 @@ fn put_lines(read: JobRead, out: &mut [u8]) -> usize
 }
 
 // Writes the lines into the lent buffer, if it is long enough. They are put together in an array of our own first.
-fn write_lines(read: JobRead, buffer: &mut [u8]) -> ListingAnswer
+fn write_lines(read: JobRead, buffer: &mut [u8]) -> WriterAnswer
     requires { ⌜ Within (read .register) ⌝ }
     ensures { λ r. ⌜ r ≡ bytesAnswer (linesOf read) (now (buffer .entry)) ⌝ }
     ensures { λ _. ⌜ now (buffer .exit) ≡ withFront (linesOf read) (now (buffer .entry)) ⌝ }
-    ensures { λ _. ⌜ length (linesOf read) ≤ listingRoom ⌝ }
 {
-    let mut lines = [0u8; ListingAnswer::BYTES];
+    let mut lines = [0u8; Listing::MAX_BYTES];
     let count = put_lines(read, &mut lines);
     if buffer.len() < count {
-        return ListingAnswer::refused();
+        return WriterAnswer::refused(11, 0, 0);
     }
     copy_front(&lines, count, buffer);
-    ListingAnswer {
-        number: 0,
-        part: 0,
-        position: 0,
-        count: count,
-    }
+    WriterAnswer::written(count)
 }
 
-// The listing of a job. The table is as after the job itself. The last clause is for callers: a buffer of 4,096 bytes has room
-// for every listing, so with it and a table long enough nothing is refused.
+// The listing of a job. The table is as after the job itself. The last clause is for callers: with a table long enough and a
+// buffer of 4,096 bytes nothing is refused.
 #[no_mangle]
 pub extern "C" fn feedcheck_listing(
     job: &[u8],
     table: &mut [i64],
     buffer: &mut [u8],
-) -> ListingAnswer
+) -> WriterAnswer
     ensures { λ r. ⌜ r ≡ listingAnswer (now (job .entry)) (now (table .entry)) (now (buffer .entry)) ⌝ }
     ensures { λ _. ⌜ now (table .exit) ≡ listingTable (now (job .entry)) (now (table .entry)) ⌝ }
     ensures { λ _. ⌜ now (buffer .exit) ≡ listingBuffer (now (job .entry)) (now (table .entry)) (now (buffer .entry)) ⌝ }
-    ensures { λ _. ⌜ (tableNumbers ≤ length (now (table .entry)) → length (listing (outcome (now (job .entry)))) ≤ listingRoom) ⌝ }
+    ensures { λ _. ⌜ length (listing (outcome (now (job .entry)))) ≤ listingRoom ⌝ }
 {
     if table.len() < WorkingTable::NUMBERS {
-        return ListingAnswer::refused();
+        return WriterAnswer::refused(11, 0, 0);
     }
     let read = read_job(job, table);
     write_lines(read, buffer)

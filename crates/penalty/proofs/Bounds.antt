@@ -9,14 +9,14 @@ use Rattle.forms.specs.Form.{times}
 use Rattle.forms.specs.Table.{tableNumbers}
 use Rattle.forms.proofs.Store.{norm1, norm1-append, norm1-join, norm1-times}
 use Rattle.register.specs.declared.Register.{Register}
-use Rattle.register.specs.Limits.{maxBase, maxTerms, maxCoefficient}
+use Rattle.register.specs.Limits.{maxCoefficient}
 use Rattle.register.specs.Register.{coefficient}
 use Rattle.register.specs.Valid.{Within}
 use Rattle.scheme.specs.declared.Scheme.{Scheme}
 use Rattle.scheme.specs.Scheme.{maxProducts, left, right, side}
-use Rattle.scheme.specs.Function.{g}
+use Rattle.scheme.specs.Function.{g, maxG}
 use Rattle.scheme.specs.Valid.{Valid}
-use Rattle.penalty.specs.Weights.{weight}
+use Rattle.penalty.specs.Weights.{weight, maxProductWeight}
 use Rattle.penalty.specs.Penalty.{bracket, bracketOf, penaltyOf, h}
 use Rattle.scheme.proofs.Table.{norm1-g}
 use Rattle.penalty.proofs.Weights.{weight-small}
@@ -32,24 +32,24 @@ norm1-h c r s = norm1-append (g c r s) _
 
 module _ (r : Register) (s : Scheme) (within : Within r) where
   -- the first penalties
-  pub penalties-norm : (n : ℕ) → norm1 (joinBelow n (penaltyOf (coefficient r) r s)) ≤ 16 * (maxTerms * maxCoefficient) * n
+  pub penalties-norm : (n : ℕ) → norm1 (joinBelow n (penaltyOf (coefficient r) r s)) ≤ 16 * maxProductWeight * n
   penalties-norm n =
-      norm1-join n (16 * (maxTerms * maxCoefficient)) (penaltyOf (coefficient r) r s)
+      norm1-join n (16 * maxProductWeight) (penaltyOf (coefficient r) r s)
       (λ i l. small (r .choices + i))
     where
-      small : (k : ℕ) → norm1 (times (weight (coefficient r) r s k) (bracketOf (r .choices) s k)) ≤ 16 * (maxTerms * maxCoefficient)
+      small : (k : ℕ) → norm1 (times (weight (coefficient r) r s k) (bracketOf (r .choices) s k)) ≤ 16 * maxProductWeight
       small k =
           rw norm1-times
           (omega (arith, mul-le-mul (weight-small r s k within) (norm1-bracket k (left (r .choices) s k) (right (r .choices) s k))))
 
-  pub g-norm : norm1 (g (coefficient r) r s) ≤ 2 * (maxBase + maxTerms * maxCoefficient)
+  pub g-norm : norm1 (g (coefficient r) r s) ≤ maxG
   g-norm = omega (arith, norm1-g (coefficient r) r s maxCoefficient (λ t l. within .terms t l .coefficient-within), within .base, within .terms-within)
 
-  pub h-norm : s .products ≤ maxProducts → norm1 (h (coefficient r) r s) ≤ 2 * (maxBase + maxTerms * maxCoefficient) + maxProducts * (16 * (maxTerms * maxCoefficient))
+  pub h-norm : s .products ≤ maxProducts → norm1 (h (coefficient r) r s) ≤ maxG + maxProducts * (16 * maxProductWeight)
   h-norm l = omega (arith, norm1-h (coefficient r) r s, g-norm, penalties-norm (s .products))
 
 -- a weight as the code has it
-pub weight-read-small : (r : Register) (s : Scheme) (k x : ℕ) → Within r → pos x ≡ weight (coefficient r) r s k → x ≤ maxTerms * maxCoefficient
+pub weight-read-small : (r : Register) (s : Scheme) (k x : ℕ) → Within r → pos x ≡ weight (coefficient r) r s k → x ≤ maxProductWeight
 weight-read-small r s k x within e = rw (← e) at (weight-small r s k within)
 
 -- a table of side N + 1 is at most 4,225 numbers

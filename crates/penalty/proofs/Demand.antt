@@ -75,20 +75,20 @@ module _ (register scheme : List ℕ) (lent : List ℤ) where
     where
       both : tableNumbers ≤ length lent → (x : Reading (Progress Register)) → registerByItself register ≡ x → afterRegister x scheme ≡ answer 0 0 0 → Made register scheme lent
       both l (refused n at) r f = let z : _≡_ {A = ℕ} 1 0 = ap (λ a. a .part) f in absurd (omega arith)
-      both l (accepted p end) r f = of-scheme (schemeByItself (p .gave) scheme) refl f
+      both l (accepted p end) r f = of-scheme (schemeByItself (p .parsed) scheme) refl f
         where
-          of-scheme : (y : Reading (Progress Scheme)) → schemeByItself (p .gave) scheme ≡ y → afterScheme y ≡ answer 0 0 0 → Made register scheme lent
+          of-scheme : (y : Reading (Progress Scheme)) → schemeByItself (p .parsed) scheme ≡ y → afterScheme y ≡ answer 0 0 0 → Made register scheme lent
           of-scheme (refused n at) s f = let z : _≡_ {A = ℕ} 2 0 = ap (λ a. a .part) f in absurd (omega arith)
           of-scheme (accepted q end′) s f =
               let o = opened-by register scheme p end q end′ r s in
               record {
-                reg = p .gave;
-                sch = q .gave;
-                register-is = register-bytes register scheme (p .gave) (q .gave) o;
-                scheme-is = scheme-bytes register scheme (p .gave) (q .gave) o;
+                reg = p .parsed;
+                sch = q .parsed;
+                register-is = register-bytes register scheme (p .parsed) (q .parsed) o;
+                scheme-is = scheme-bytes register scheme (p .parsed) (q .parsed) o;
                 register-valid = o .register-valid;
                 scheme-valid = o .scheme-valid;
-                holds = made-holds register scheme lent l (p .gave) (q .gave) o;
+                holds = made-holds register scheme lent l (p .parsed) (q .parsed) o;
               }
 
       go : Dec (length lent < tableNumbers) → Made register scheme lent
@@ -105,7 +105,7 @@ module _ (register scheme : List ℕ) (lent : List ℤ) where
 
       both : (x : Reading (Progress Register)) → (afterRegister x scheme .number ≡ 0 → ⊥) → tableAfterRegister x scheme lent ≡ lent
       both (refused n at) d = refl
-      both (accepted p end) d = of-scheme (p .gave) (schemeByItself (p .gave) scheme) d
+      both (accepted p end) d = of-scheme (p .parsed) (schemeByItself (p .parsed) scheme) d
 
       go : Dec (length lent < tableNumbers) → penaltyTable register scheme lent ≡ lent
       go (yes l) = rw (lt-ltb (length lent) tableNumbers l)

@@ -1,3 +1,4 @@
+pub mod Induced
 pub mod Weights
 pub mod Sets
 pub mod Penalty

@@ -27,11 +27,12 @@ use Rattle.scheme.specs.Filling.{Filling, factor, induced}
 use Rattle.scheme.specs.Function.{g}
 use Rattle.scheme.specs.Valid.{Valid, Split}
 use Rattle.scheme.proofs.Function.{value-g}
-use Rattle.scheme.proofs.Filling.{induced-consistent, induced-cost}
+use Rattle.scheme.proofs.Filling.{induced-consistent}
 use Rattle.penalty.specs.Weights.{uses, weight}
 use Rattle.penalty.specs.Penalty.{bracket, bracketOf, penaltyOf, h}
 use Rattle.penalty.specs.Carried.{carried}
 use Rattle.scheme.proofs.Table.{split-of, g-below}
+use Rattle.penalty.proofs.Induced.{induced-cost}
 use Rattle.penalty.proofs.Weights.{contribution-*}
 use Rattle.penalty.proofs.Sets.{Broken, both, monomial-or}
 

@@ -15,11 +15,11 @@ use Rattle.integers.proofs.Join.{join-cong}
 use Rattle.integers.proofs.Order.{natAbs-*-≤}
 use Rattle.integers.proofs.Machine.{fits-signed, read-signed, cast-read}
 use Rattle.forms.specs.Form.{Form, mono, place, times}
-use Rattle.forms.specs.Store.{addForm, Bounded}
+use Rattle.forms.specs.Store.{addForm, Bounded, maxBeforeMonomial, maxBeforeForm}
 use Rattle.forms.proofs.Store.{norm1, addForm-join, bounded-addForm, bounded-weaken}
 use Rattle.forms.proofs.Times.{times-join}
 use Rattle.register.specs.declared.Register.{Register}
-use Rattle.register.specs.Limits.{maxCoefficient}
+use Rattle.register.specs.Limits.{maxBase, maxCoefficient}
 use Rattle.register.specs.Register.{coefficient}
 use Rattle.register.specs.Valid.{Within}
 use Rattle.scheme.specs.declared.Scheme.{Scheme}
@@ -27,6 +27,7 @@ use Rattle.scheme.specs.Scheme.{side, splitLeft, splitRight}
 use Rattle.scheme.specs.Function.{term, termOf, g}
 use Rattle.scheme.specs.Valid.{Valid}
 use Rattle.scheme.proofs.Table.{terms-below, norm1-terms}
+use Rattle.penalty.specs.Operands.{maxFactor}
 
 -- ---- the form
 
@@ -47,13 +48,13 @@ times-g k c r s =
 
 -- ---- how large it is
 
-module _ (k : ℤ) (r : Register) (s : Scheme) (small : natAbs k ≤ 1_000_000) (within : Within r) where
-  pub scaled-small : (t : ℕ) → t < r .terms → natAbs (k *ℤ coefficient r t) ≤ 1_000_000 * maxCoefficient
-  scaled-small t l = natAbs-*-≤ k (coefficient r t) 1_000_000 maxCoefficient small (within .terms t l .coefficient-within)
+module _ (k : ℤ) (r : Register) (s : Scheme) (small : natAbs k ≤ maxFactor) (within : Within r) where
+  pub scaled-small : (t : ℕ) → t < r .terms → natAbs (k *ℤ coefficient r t) ≤ maxFactor * maxCoefficient
+  scaled-small t l = natAbs-*-≤ k (coefficient r t) maxFactor maxCoefficient small (within .terms t l .coefficient-within)
 
   -- the first terms
-  pub scaled-norm : (n : ℕ) → n ≤ r .terms → norm1 (joinBelow n (termOf (λ t. k *ℤ coefficient r t) s)) ≤ 1_000_000 * maxCoefficient * 2 * n
-  scaled-norm n l = norm1-terms (λ t. k *ℤ coefficient r t) r s (1_000_000 * maxCoefficient) scaled-small n l
+  pub scaled-norm : (n : ℕ) → n ≤ r .terms → norm1 (joinBelow n (termOf (λ t. k *ℤ coefficient r t) s)) ≤ maxFactor * maxCoefficient * 2 * n
+  scaled-norm n l = norm1-terms (λ t. k *ℤ coefficient r t) r s (maxFactor * maxCoefficient) scaled-small n l
 
 -- ---- a table to which it is added
 
@@ -63,8 +64,8 @@ firstTerms k r s t = joinBelow t (termOf (λ t. k *ℤ coefficient r t) s)
 
 -- the table after t terms has room for one more
 pub terms-room : (k : ℤ) (r : Register) (s : Scheme) (n t : ℕ) (table table₀ : List ℤ) → Within r → Valid r s → n ≡ side (r .choices) s →
-    Bounded n 3_000_000_000_000_000_000 table₀ → natAbs k ≤ 1_000_000 → t ≤ r .terms → table ≡ addForm n (firstTerms k r s t) table₀ →
-    Bounded n 4_000_000_000_000_000_000 table
+    Bounded n maxBeforeForm table₀ → natAbs k ≤ maxFactor → t ≤ r .terms → table ≡ addForm n (firstTerms k r s t) table₀ →
+    Bounded n maxBeforeMonomial table
 terms-room k r s n t table table₀ within valid e h small l d =
     rw d
     (bounded-weaken (bounded-addForm (rw e (terms-below (λ t. k *ℤ coefficient r t) r s valid t l)) h)
@@ -83,9 +84,9 @@ pub record Product (k x : ℤ) : Type 0 where
   pub narrow : SFits w32 x
   pub fits : SFits w64 (k *ℤ toZ w64 (ofZ w64 (toZ w32 (ofZ w32 x))))
   pub reads : toZ w64 (ofZ w64 (k *ℤ toZ w64 (ofZ w64 (toZ w32 (ofZ w32 x))))) ≡ k *ℤ x
-  pub low : natAbs (k *ℤ x) ≤ 1_000_000_000_000_000
+  pub low : natAbs (k *ℤ x) ≤ maxFactor * maxBase
 
-pub product : (k x : ℤ) → natAbs k ≤ 1_000_000 → natAbs x ≤ 1_000_000_000 → Product k x
+pub product : (k x : ℤ) → natAbs k ≤ maxFactor → natAbs x ≤ maxBase → Product k x
 product k x a b = record {
   narrow = narrow;
   fits = rw same (fits-signed w64 (k *ℤ x) (omega (arith, low)));
@@ -96,8 +97,8 @@ product k x a b = record {
     narrow : SFits w32 x
     narrow = fits-signed w32 x (omega arith)
 
-    low : natAbs (k *ℤ x) ≤ 1_000_000_000_000_000
-    low = natAbs-*-≤ k x 1_000_000 1_000_000_000 a b
+    low : natAbs (k *ℤ x) ≤ maxFactor * maxBase
+    low = natAbs-*-≤ k x maxFactor maxBase a b
 
     same : k *ℤ toZ w64 (ofZ w64 (toZ w32 (ofZ w32 x))) ≡ k *ℤ x
     same = ap (λ y. k *ℤ y) (cast-read w32 w64 x (omega arith) narrow)

@@ -15,7 +15,7 @@ use Rattle.integers.specs.Sum.{sumBelow}
 use Rattle.integers.proofs.Order.{abs-nonneg}
 use Rattle.integers.proofs.Sum.{sumBelow-nonneg, natAbs-sum}
 use Rattle.register.specs.declared.Register.{Register}
-use Rattle.register.specs.Limits.{maxTerms, maxCoefficient}
+use Rattle.register.specs.Limits.{maxCoefficient}
 use Rattle.register.specs.Register.{coefficient}
 use Rattle.register.specs.Valid.{Within}
 use Rattle.scheme.specs.declared.Scheme.{Scheme}
@@ -24,7 +24,7 @@ use Rattle.scheme.specs.Valid.{Products, Split, Valid}
 use Rattle.integers.proofs.Lists.{T-or}
 use Rattle.scheme.proofs.Table.{split-of}
 use Rattle.scheme.proofs.Variables.{upward-choice, upward-product, left-falls, variable-ind}
-use Rattle.penalty.specs.Weights.{reaches, uses, contribution, weight}
+use Rattle.penalty.specs.Weights.{reaches, uses, contribution, weight, maxProductWeight}
 use Rattle.penalty.specs.Operands.{Lent, Falling}
 
 -- ---- which products a variable reaches
@@ -92,7 +92,7 @@ module _ (n : ℕ) (s : Scheme) (products : Products n s) where
             | inr (inr x) ↦ reaches-cases k v l m .1 (inr (inr (b x u)))
           ]
 
-  -- a variable reaches product k just when it is k, or k is an operand of a product that it reaches
+  -- a variable reaches product k just when it is k or reaches a product of which k is left or right
   pub reaches-iff : (k v : ℕ) → n ≤ k → k < variables n s → v < variables n s → T (reaches n s k v) ↔ ((v ≡ k) ⊎ OperandOf n s (λ j. reaches n s j v) k)
   reaches-iff k v a m l = (down v l, (λ t. ⊎-elim (λ e. rw e (reaches-self k a m)) up t))
     where
@@ -123,7 +123,7 @@ module _ (n : ℕ) (s : Scheme) (products : Products n s) where
 
 -- ---- which products a term uses
 
--- in the paper's words: a term uses product k if k is in its split, or is an operand of a product that it uses
+-- the scope paper's own definition of use, with the split in place of `reaches`, holds of `uses`
 pub uses-iff : (r : Register) (s : Scheme) → Valid r s → (t k : ℕ) → t < r .terms → r .choices ≤ k → k < variables (r .choices) s →
     T (uses (r .choices) s k t) ↔ (((k ≡ splitLeft s t) ⊎ (k ≡ splitRight s t)) ⊎ OperandOf (r .choices) s (λ j. uses (r .choices) s j t) k)
 unfolding uses
@@ -213,10 +213,10 @@ weight-nonneg c r s k = sumBelow-nonneg (r .terms) _ (λ t l. contribution-nonne
 
 -- of a register within the limits, also of the first terms alone
 module _ (r : Register) (s : Scheme) (k : ℕ) (within : Within r) where
-  pub contributions-small : (t : ℕ) → t ≤ r .terms → natAbs (sumBelow t (contribution (coefficient r) (r .choices) s k)) ≤ maxTerms * maxCoefficient
+  pub contributions-small : (t : ℕ) → t ≤ r .terms → natAbs (sumBelow t (contribution (coefficient r) (r .choices) s k)) ≤ maxProductWeight
   contributions-small t l =
       omega (arith, within .terms-within, natAbs-sum t maxCoefficient (contribution (coefficient r) (r .choices) s k) (λ i m. contribution-small (coefficient r) (r .choices) s k i maxCoefficient (within .terms i (omega arith) .coefficient-within)))
 
-  pub weight-small : natAbs (weight (coefficient r) r s k) ≤ maxTerms * maxCoefficient
+  pub weight-small : natAbs (weight (coefficient r) r s k) ≤ maxProductWeight
   unfolding weight
   weight-small = contributions-small (r .terms) (le-refl (r .terms))

@@ -1,10 +1,11 @@
 -- The rows of the paper's worked set that speak of the penalty form.
+use Prim.Native.Nat.{ℕ, _+_}
 use mathlib.Core.Path.{_≡_, refl}
-use mathlib.Core.List.{List, [], _∷_, map}
-use mathlib.Core.Bool.{Bool, true, false}
-use lib.IntN.{ℤ, pos, negsuc}
+use mathlib.Core.List.{[], _∷_, map}
+use mathlib.Core.Bool.{Bool, true, false, cond}
+use lib.IntN.{pos, negsuc, _+ℤ_, _*ℤ_}
 use lib.ListN.{getD}
-use Rattle.integers.specs.Integer.{abs}
+use Rattle.integers.specs.Integer.{abs, bit}
 use Rattle.integers.specs.Lists.{joinBelow}
 use Rattle.integers.specs.Sum.{sumBelow, sumOver}
 use Rattle.forms.specs.Form.{value, entry, times}
@@ -17,21 +18,23 @@ use Rattle.scheme.proofs.Example.{exampleScheme, builtScheme}
 use Rattle.penalty.specs.Weights.{reaches, uses, weight}
 use Rattle.penalty.specs.Penalty.{bracket, h}
 
--- W5: the bracket where (z_k, z_l, z_r) is 000, 001, .. 111; here k, l, r are 2, 0, 1
-
-abbrev pub row : Bool → Bool → Bool → Filling
-row k l r v = getD (l ∷ r ∷ k ∷ []) v false
-
-abbrev pub bracketAt : Filling → ℤ
-bracketAt z = value (factor z) (bracket 2 0 1)
-
-abbrev pub fillings : List Filling
-fillings = row false false false ∷ row false false true ∷ row false true false ∷ row false true true ∷ row true false false ∷ row true false true ∷ row true true false ∷ row true true true ∷ []
-
-pub w5 : map bracketAt fillings
-    ≡ pos 0 ∷ pos 0 ∷ pos 0 ∷ pos 1 ∷ pos 3 ∷ pos 1 ∷ pos 1 ∷ pos 0 ∷ []
+-- W5: the bracket where (z_k, z_l, z_r) is 000, 001, .. 111, in this order
+pub w5 : (k l r : ℕ) (z : Filling) → value (factor z) (bracket k l r)
+    ≡ getD (pos 0 ∷ pos 0 ∷ pos 0 ∷ pos 1 ∷ pos 3 ∷ pos 1 ∷ pos 1 ∷ pos 0 ∷ []) (cond (z k) 4 0 + cond (z l) 2 0 + cond (z r) 1 0) (pos 0)
 unfolding value bracket sumOver
-w5 = refl
+w5 k l r z = eight (z k) (z l) (z r)
+  where
+    eight : (a b c : Bool) →
+        (pos 3 *ℤ pos 1 *ℤ bit a +ℤ (negsuc 1 *ℤ bit a *ℤ bit b +ℤ (negsuc 1 *ℤ bit a *ℤ bit c +ℤ (pos 1 *ℤ bit b *ℤ bit c +ℤ pos 0))))
+        ≡ getD (pos 0 ∷ pos 0 ∷ pos 0 ∷ pos 1 ∷ pos 3 ∷ pos 1 ∷ pos 1 ∷ pos 0 ∷ []) (cond a 4 0 + cond b 2 0 + cond c 1 0) (pos 0)
+    eight false false false = refl
+    eight false false true = refl
+    eight false true false = refl
+    eight false true true = refl
+    eight true false false = refl
+    eight true false true = refl
+    eight true true false = refl
+    eight true true true = refl
 
 -- W6: P_3 = 5
 pub w6 : weight (coefficient exampleRegister) exampleRegister builtScheme 3 ≡ pos 5

@@ -29,14 +29,14 @@ afterScheme (accepted p end) = answer 0 0 0
 
 abbrev pub afterRegister : Reading (Progress Register) → List ℕ → PenaltyAnswer
 afterRegister (refused number at) scheme = answer number 1 at
-afterRegister (accepted p end) scheme = afterScheme (schemeByItself (p .gave) scheme)
+afterRegister (accepted p end) scheme = afterScheme (schemeByItself (p .parsed) scheme)
 
 -- of the bytes of parts 1 and 2 and the lent run: a table below 4,225 numbers is found before all else
 unfoldable pub penaltyAnswer : List ℕ → List ℕ → List ℤ → PenaltyAnswer
 penaltyAnswer register scheme lent =
     cond (ltb (length lent) tableNumbers) (answer 11 0 0) (afterRegister (registerByItself register) scheme)
 
--- the table of h at the front of a lent run; numbers past (N + 1)² don't change
+-- the table of h at the front of a lent run; the rest of it is kept
 abbrev pub withPenalty : Register → Scheme → List ℤ → List ℤ
 withPenalty reg sch = withTable (side (reg .choices) sch) (entry (h (coefficient reg) reg sch))
 
@@ -44,11 +44,11 @@ withPenalty reg sch = withTable (side (reg .choices) sch) (entry (h (coefficient
 
 abbrev pub tableAfterScheme : Register → Reading (Progress Scheme) → List ℤ → List ℤ
 tableAfterScheme reg (refused number at) lent = lent
-tableAfterScheme reg (accepted p end) lent = withPenalty reg (p .gave) lent
+tableAfterScheme reg (accepted p end) lent = withPenalty reg (p .parsed) lent
 
 abbrev pub tableAfterRegister : Reading (Progress Register) → List ℕ → List ℤ → List ℤ
 tableAfterRegister (refused number at) scheme lent = lent
-tableAfterRegister (accepted p end) scheme lent = tableAfterScheme (p .gave) (schemeByItself (p .gave) scheme) lent
+tableAfterRegister (accepted p end) scheme lent = tableAfterScheme (p .parsed) (schemeByItself (p .parsed) scheme) lent
 
 unfoldable pub penaltyTable : List ℕ → List ℕ → List ℤ → List ℤ
 penaltyTable register scheme lent =

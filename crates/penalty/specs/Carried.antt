@@ -3,6 +3,6 @@ use Prim.Native.Nat.{ℕ}
 use Rattle.sets.specs.Sets.{setOf}
 use Rattle.scheme.specs.Filling.{Filling}
 
--- z carries the plan that feeds exactly the choices with z_i = 1, of n choices
+-- of n choices, those that are 1 in z
 unfoldable pub carried : ℕ → Filling → ℕ
 carried n z = setOf n z

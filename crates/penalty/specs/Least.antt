@@ -14,8 +14,7 @@ pub record Least {A : Type 0} (f : A → ℤ) (m : ℤ) : Type 0 where
   pub reached : f witness ≡ m
   pub lowest : (a : A) → m ≤ℤ f a
 
--- the least value of f over every filling is the least cost over every plan, and every filling that reaches it carries
--- a plan of exactly that cost
+-- f over fillings and the cost over plans have the same least value, and where f takes it, so does the cost of the plan carried
 pub record SameLeast (c : ℕ → ℤ) (r : Register) (f : Filling → ℤ) : Type 0 where
   pub least : ℤ
   pub overFillings : Least f least

@@ -1,4 +1,4 @@
--- What the code is lent of a scheme: the operands of its products.
+-- What the code is lent of a scheme, the operands of its products, and how often it adds g.
 use Prim.Native.Nat.{ℕ, _+_, _-_, _≤_, _<_}
 use mathlib.Core.Path.{_≡_}
 use mathlib.Core.List.{List}
@@ -17,3 +17,8 @@ pub record Lent (n : ℕ) (s : Scheme) (lefts rights : List ℕ) : Type 0 where
 pub record Falling (n v : ℕ) (lefts rights : List ℕ) : Type 0 where
   pub there : v < n + maxProducts
   pub falls : (u : ℕ) → n ≤ u → u ≤ v → (getD lefts (u - n) 0 < u) × (getD rights (u - n) 0 < u)
+
+-- a factor times which g is added is at most this. No limit of the paper's: any number at least a certificate's largest scale
+-- would serve, as long as a table has room for g times it (`maxBeforeForms`)
+abbrev pub maxFactor : ℕ
+maxFactor = 100_000_000

@@ -27,6 +27,6 @@ bracketOf n s k = bracket k (left n s k) (right n s k)
 abbrev pub penaltyOf : (ℕ → ℤ) → Register → Scheme → ℕ → Form
 penaltyOf c r s i = let k = r .choices + i in times (weight c r s k) (bracketOf (r .choices) s k)
 
--- h(z) = g(z) + the sum over k of P_k times the bracket
+-- h: g and the penalties of all products
 unfoldable pub h : (ℕ → ℤ) → Register → Scheme → Form
 h c r s = g c r s ++ joinBelow (s .products) (penaltyOf c r s)

@@ -15,15 +15,15 @@ ghost use Rattle.integers.specs.Integer.{abs};
 ghost use Rattle.integers.specs.Lists.{joinBelow};
 ghost use Rattle.forms.specs.Form.{times, entry};
 ghost use Rattle.forms.specs.Table.{tableNumbers, withTable};
-ghost use Rattle.forms.specs.Store.{addForm, Bounded};
+ghost use Rattle.forms.specs.Store.{addForm, Bounded, maxAdded, maxBeforeMonomial, maxBeforeForm, maxBeforeForms};
 ghost use Rattle.register.specs.Limits.{maxCoefficient};
 ghost use Rattle.register.specs.Register.{coefficient};
 ghost use Rattle.register.specs.Valid.{Valid as ValidRegister};
 ghost use Rattle.scheme.specs.Scheme.{variables, side as sideOf};
 ghost use Rattle.scheme.specs.Function.{term, termOf, g};
 ghost use Rattle.scheme.specs.Valid.{Valid};
-ghost use Rattle.penalty.specs.Weights.{reaches, weight};
-ghost use Rattle.penalty.specs.Operands.{Lent, Falling};
+ghost use Rattle.penalty.specs.Weights.{reaches, weight, maxProductWeight};
+ghost use Rattle.penalty.specs.Operands.{Lent, Falling, maxFactor};
 ghost use Rattle.penalty.specs.Penalty.{bracket, penaltyOf, h};
 ghost use Rattle.penalty.specs.Answer.{penaltyAnswer, penaltyTable};
 
@@ -38,8 +38,8 @@ pub struct PenaltyAnswer {
 // Whether variable v is product k, or k is an operand of v, or of an operand of v, and so on down. There are n choices, and the
 // products' operands are lent.
 fn reaches<'a>(
-    lefts: &'a [u8; Scheme::PRODUCTS],
-    rights: &'a [u8; Scheme::PRODUCTS],
+    lefts: &'a [u8; Scheme::MAX_PRODUCTS],
+    rights: &'a [u8; Scheme::MAX_PRODUCTS],
     n: usize,
     k: usize,
     v: usize,
@@ -67,20 +67,20 @@ fn reaches<'a>(
 }
 
 // The magnitude of a term's coefficient, once, where the left or the right variable of its split reaches the product.
-fn once(left: bool, right: bool, size: u64) -> u64
-    requires { ⌜ size ≤ maxCoefficient ⌝ }
-    ensures { λ r. ⌜ r ≡ cond left size (cond right size 0) ⌝ }
+fn magnitude_if_used(left: bool, right: bool, magnitude: u64) -> u64
+    requires { ⌜ magnitude ≤ maxCoefficient ⌝ }
+    ensures { λ r. ⌜ r ≡ cond left magnitude (cond right magnitude 0) ⌝ }
 {
     if left {
-        return size;
+        return magnitude;
     }
-    if right { size } else { 0 }
+    if right { magnitude } else { 0 }
 }
 
 // What a term adds to the weight of product k, by its split l and r and its coefficient c.
 fn contribution<'a>(
-    lefts: &'a [u8; Scheme::PRODUCTS],
-    rights: &'a [u8; Scheme::PRODUCTS],
+    lefts: &'a [u8; Scheme::MAX_PRODUCTS],
+    rights: &'a [u8; Scheme::MAX_PRODUCTS],
     n: usize,
     k: usize,
     l: u8,
@@ -95,10 +95,10 @@ fn contribution<'a>(
 {
     let left = reaches(lefts, rights, n, k, l as usize);
     let right = reaches(lefts, rights, n, k, r as usize);
-    once(left, right, wire::magnitude(c as i64))
+    magnitude_if_used(left, right, wire::magnitude(c as i64))
 }
 
-// The weight of product k: the sum of |coefficient| over the terms that use it, each once.
+// The weight of product k: each term that uses it adds its |coefficient| one time.
 fn weight(register: Register, scheme: Scheme, k: usize) -> u64
     requires { ⌜ ValidRegister register ⌝ }
     requires { ⌜ Valid register scheme ⌝ }
@@ -120,9 +120,9 @@ fn weight(register: Register, scheme: Scheme, k: usize) -> u64
 
 // Adds c times variable l times variable r, variable l once when they are one.
 pub fn add_term(table: &mut [i64], side: usize, l: usize, r: usize, c: i64)
-    requires { ⌜ Bounded side 4_000_000_000_000_000_000 (now table) ⌝ }
+    requires { ⌜ Bounded side maxBeforeMonomial (now table) ⌝ }
     requires { ⌜ (l + 1 < side) × (r + 1 < side) ⌝ }
-    requires { ⌜ natAbs c ≤ 1_000_000_000_000_000_000 ⌝ }
+    requires { ⌜ natAbs c ≤ maxAdded ⌝ }
     ensures { λ _. ⌜ now (table .exit) ≡ addForm side (term l r c) (now (table .entry)) ⌝ }
 {
     if l == r {
@@ -137,8 +137,8 @@ pub fn add_terms(register: Register, scheme: Scheme, table: &mut [i64], side: us
     requires { ⌜ ValidRegister register ⌝ }
     requires { ⌜ Valid register scheme ⌝ }
     requires { ⌜ side ≡ sideOf (register .choices) scheme ⌝ }
-    requires { ⌜ Bounded side 3_000_000_000_000_000_000 (now table) ⌝ }
-    requires { ⌜ natAbs scale ≤ 1_000_000 ⌝ }
+    requires { ⌜ Bounded side maxBeforeForm (now table) ⌝ }
+    requires { ⌜ natAbs scale ≤ maxFactor ⌝ }
     ensures { λ _. ⌜ now (table .exit) ≡
         addForm side (joinBelow (register .terms) (termOf (λ t. scale *ℤ coefficient register t) scheme)) (now (table .entry)) ⌝ }
 {
@@ -158,8 +158,8 @@ pub fn add_function(register: Register, scheme: Scheme, table: &mut [i64], side:
     requires { ⌜ ValidRegister register ⌝ }
     requires { ⌜ Valid register scheme ⌝ }
     requires { ⌜ side ≡ sideOf (register .choices) scheme ⌝ }
-    requires { ⌜ Bounded side 2_000_000_000_000_000_000 (now table) ⌝ }
-    requires { ⌜ natAbs scale ≤ 1_000_000 ⌝ }
+    requires { ⌜ Bounded side maxBeforeForms (now table) ⌝ }
+    requires { ⌜ natAbs scale ≤ maxFactor ⌝ }
     ensures { λ _. ⌜ now (table .exit) ≡ addForm side (times scale (g (coefficient register) register scheme)) (now (table .entry)) ⌝ }
 {
     let base = register.base;
@@ -169,9 +169,9 @@ pub fn add_function(register: Register, scheme: Scheme, table: &mut [i64], side:
 
 // Adds w times the bracket of product k, whose operands are l and r.
 fn add_bracket(table: &mut [i64], side: usize, k: usize, l: usize, r: usize, w: i64)
-    requires { ⌜ Bounded side 3_000_000_000_000_000_000 (now table) ⌝ }
+    requires { ⌜ Bounded side maxBeforeForm (now table) ⌝ }
     requires { ⌜ (k + 1 < side) × (l < k) × (r < k) ⌝ }
-    requires { ⌜ natAbs w ≤ 1_000_000_000_000 ⌝ }
+    requires { ⌜ natAbs w ≤ maxProductWeight ⌝ }
     ensures { λ _. ⌜ now (table .exit) ≡ addForm side (times w (bracket k l r)) (now (table .entry)) ⌝ }
 {
     add_multiple(table, side, 0, k + 1, w, 3);
@@ -185,7 +185,7 @@ fn add_penalties(register: Register, scheme: Scheme, table: &mut [i64], side: us
     requires { ⌜ ValidRegister register ⌝ }
     requires { ⌜ Valid register scheme ⌝ }
     requires { ⌜ side ≡ sideOf (register .choices) scheme ⌝ }
-    requires { ⌜ Bounded side 2_000_000_000_000_000_000 (now table) ⌝ }
+    requires { ⌜ Bounded side maxBeforeForms (now table) ⌝ }
     ensures { λ _. ⌜ now (table .exit) ≡
         addForm side (joinBelow (scheme .products) (penaltyOf (coefficient register) register scheme)) (now (table .entry)) ⌝ }
 {
@@ -201,7 +201,7 @@ fn add_penalties(register: Register, scheme: Scheme, table: &mut [i64], side: us
     }
 }
 
-// Makes the table hold the penalty form h. Numbers past (N + 1)² don't change.
+// Makes the table hold the penalty form h. The rest of the table is kept.
 pub fn penalty_form(register: Register, scheme: Scheme, table: &mut [i64])
     requires { ⌜ ValidRegister register ⌝ }
     requires { ⌜ Valid register scheme ⌝ }

@@ -1,33 +1,16 @@
--- The answer of the call and its buffer, by whether the bytes fit the buffer, and by what the answers of the register and of the
--- scheme say.
-use Prim.Native.Nat.{ℕ, _≤_, _<_}
+-- The answer of the call and its buffer, by what the answers of the register and of the scheme say.
+use Prim.Native.Nat.{ℕ}
 use mathlib.Core.Path.{_≡_}
 use mathlib.Core.List.{List}
-use lib.ListN.{length}
-use borrow.Author.Tests.{lt-ltb, le-ltb}
 use Rattle.register.specs.declared.Register.{Register}
 use Rattle.scheme.specs.declared.Scheme.{Scheme}
 use Rattle.scheme.specs.declared.SchemeAnswer.{SchemeAnswer}
 use Rattle.scheme.proofs.Opened.{Opened, Refused, in-register, in-scheme}
-use Rattle.plain.specs.Answer.{answer, bytesAnswer, ownBytes, plainAnswer, plainBuffer}
-use Rattle.wire.specs.Number.{written, withFront}
-use Rattle.wire.proofs.Written.{written-front}
-
--- ---- bytes and a lent buffer
-
-module _ (bytes lent : List ℕ) where
-  pub bytes-short : length lent < length bytes → (answer 11 0 0 0 ≡ bytesAnswer bytes lent) × (lent ≡ withFront bytes lent)
-  unfolding bytesAnswer
-  bytes-short l = let e = lt-ltb (length lent) (length bytes) l in (rw e, rw e)
-
-  pub bytes-fit : length bytes ≤ length lent → (answer 0 0 0 (length bytes) ≡ bytesAnswer bytes lent) × (written lent 0 bytes ≡ withFront bytes lent)
-  unfolding bytesAnswer
-  bytes-fit l = let e = le-ltb (length lent) (length bytes) l in (rw e, rw e (written-front lent bytes l))
-
--- ---- the two parts
+use Rattle.plain.specs.Answer.{ownBytes, plainAnswer, plainBuffer}
+use Rattle.wire.specs.Writer.{refusedAnswer, bytesAnswer, withFront}
 
 pub part-refused : (t s lent : List ℕ) (a : SchemeAnswer) → Refused t s a →
-    (answer (a .number) (a .part) (a .position) 0 ≡ plainAnswer t s lent) × (lent ≡ plainBuffer t s lent)
+    (refusedAnswer (a .number) (a .part) (a .position) ≡ plainAnswer t s lent) × (lent ≡ plainBuffer t s lent)
 unfolding plainAnswer plainBuffer
 part-refused t s lent a (in-register e p) = (rw (e, p), rw e)
 part-refused t s lent a (in-scheme q end e d p) = (rw (e, d, p), rw (e, d))

@@ -4,7 +4,7 @@ use mathlib.Core.Path.{_≡_, refl}
 use mathlib.Core.Bool.{Bool, true, false, cond}
 use mathlib.Core.List.{List, [], _∷_}
 use native.Mathlib.Omega.{arith}
-use lib.Dec.{eqb, lt→ltb}
+use lib.Dec.{eqb}
 use lib.IntN.{ℤ, pos, negsuc, natAbs}
 use lib.ListN.{length, length-append}
 use Rattle.integers.specs.Lists.{All, joinBelow}
@@ -13,10 +13,9 @@ use Rattle.register.specs.declared.Register.{Register}
 use Rattle.scheme.specs.declared.Scheme.{Scheme}
 use Rattle.scheme.specs.Scheme.{variables}
 use Rattle.certificate.specs.Limits.{maxMultiplier}
-use Rattle.certificate.specs.Rules.{byKey, arity, ruleOf}
 use Rattle.certificate.specs.Valid.{Allowed}
 use Rattle.plain.specs.Plain.{halfRowSum, linearLeft, unlessZero, cancelling, plain}
-use Rattle.certificate.proofs.Commands.{command, allowed-command}
+use Rattle.certificate.proofs.Commands.{command, command-31, command-38, command-39}
 
 -- ---- how many commands
 
@@ -69,16 +68,13 @@ module _ (n : ℕ) (s : Scheme) where
   allowed-unlessZero kind i m ok = cond-cases (All (Allowed n s)) (eqb m 0) [] (command kind i m ∷ []) (λ _. tt) (λ _. (ok, tt))
 
   pub allowed-31 : (i m : ℕ) → i < N → m ≤ maxMultiplier → All (Allowed n s) (unlessZero 0x31 i m)
-  unfolding ruleOf byKey arity
-  allowed-31 i m h l = allowed-unlessZero 0x31 i m (allowed-command n s 0x31 i m (omega arith) (omega arith) refl l (lt→ltb i N h) tt tt)
+  allowed-31 i m h l = allowed-unlessZero 0x31 i m (command-31 n s i m h l)
 
   allowed-38 : (i m : ℕ) → i < N → m ≤ maxMultiplier → All (Allowed n s) (unlessZero 0x38 i m)
-  unfolding ruleOf byKey arity
-  allowed-38 i m h l = allowed-unlessZero 0x38 i m (allowed-command n s 0x38 i m (omega arith) (omega arith) refl l (lt→ltb i N h) tt tt)
+  allowed-38 i m h l = allowed-unlessZero 0x38 i m (command-38 n s i m h l)
 
   allowed-39 : (i m : ℕ) → i < N → m ≤ maxMultiplier → All (Allowed n s) (unlessZero 0x39 i m)
-  unfolding ruleOf byKey arity
-  allowed-39 i m h l = allowed-unlessZero 0x39 i m (allowed-command n s 0x39 i m (omega arith) (omega arith) refl l (lt→ltb i N h) tt tt)
+  allowed-39 i m h l = allowed-unlessZero 0x39 i m (command-39 n s i m h l)
 
   pub allowed-cancelling : (i : ℕ) (x : ℤ) → i < N → natAbs x ≤ maxMultiplier → All (Allowed n s) (cancelling i x)
   unfolding cancelling

@@ -1,4 +1,4 @@
--- The bytes of our own certificate: ten for each command, none for a multiplier of 0, at most 1,294 in all.
+-- The bytes of our own certificate: ten for each command, none for a multiplier of 0, and the room that is enough for all.
 use Prim.Native.Nat.{ℕ, suc, _+_, _*_, _≤_}
 use native.Mathlib.Omega.{arith}
 use mathlib.Core.Path.{_≡_, refl}
@@ -23,7 +23,7 @@ use Rattle.certificate.proofs.Commands.{command}
 use Rattle.plain.specs.Plain.{halfRowSum, linearLeft, unlessZero, cancelling, plain}
 use Rattle.certificate.specs.Encoding.{encodeScale, encodeMultiplier}
 use Rattle.plain.specs.Encoding.{encodeMultipliers, encodeWith, encodePlain}
-use Rattle.plain.specs.Answer.{ownBytes}
+use Rattle.plain.specs.Answer.{ownBytes, ownRoom}
 use Rattle.plain.proofs.Commands.{plain-count}
 
 -- ---- commands of ten bytes
@@ -93,6 +93,5 @@ module _ (c : ℕ → ℤ) (r : Register) (s : Scheme) where
   unfolding encodePlain
   length-plain = length-encodeWith (plain c r s .scale) (plain c r s .target) (plain c r s .multipliers) ten-plain
 
--- a buffer of 1,294 bytes is always enough
-pub plain-bytes : (r : Register) (s : Scheme) → R.Valid r → Valid r s → length (ownBytes r s) ≤ 1_294
+pub plain-bytes : (r : Register) (s : Scheme) → R.Valid r → Valid r s → length (ownBytes r s) ≤ ownRoom
 plain-bytes r s register scheme = omega (arith, length-plain (coefficient r) r s, plain-count (coefficient r) r s, variables-within r register s scheme)

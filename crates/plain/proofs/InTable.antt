@@ -17,7 +17,7 @@ use Rattle.integers.proofs.Join.{join-cong}
 use Rattle.integers.proofs.Order.{natAbs-sub}
 use Rattle.integers.proofs.Sum.{sumBelow-cong, natAbs-sum}
 use Rattle.forms.specs.Form.{place, entry}
-use Rattle.forms.specs.Table.{withTable}
+use Rattle.forms.specs.Table.{tableNumbers, withTable}
 use Rattle.forms.proofs.Store.{place-inside, bounded-entry, bounded-weaken}
 use Rattle.forms.proofs.Table.{withTable-at}
 use Rattle.register.specs.Register.{coefficient}
@@ -28,12 +28,13 @@ use Rattle.penalty.proofs.Bounds.{g-norm}
 use Rattle.register.specs.declared.Register.{Register}
 use Rattle.scheme.specs.declared.Scheme.{Scheme}
 use Rattle.scheme.specs.Scheme.{variables, side}
-use Rattle.scheme.specs.Function.{g}
+use Rattle.scheme.specs.Sets.{maxVariables}
+use Rattle.scheme.specs.Function.{g, maxG}
 use Rattle.plain.specs.Plain.{halfRowSum, linearLeft, unlessZero, cancelling, subtractedConstant, plain}
 use Rattle.plain.specs.Encoding.{encodeWith, encodePlain}
-use Rattle.plain.specs.InTable.{maxEntry, Small, entryIn, productsIn, halfIn, leftIn, subtractedIn, commandsIn, encodeIn}
+use Rattle.plain.specs.InTable.{Small, entryIn, productsIn, halfIn, leftIn, subtractedIn, commandsIn, encodeIn}
 use Rattle.plain.proofs.Coefficients.{rowSum-entry, linearLeft-entry}
-use Rattle.plain.proofs.Sizes.{negPart-small}
+use Rattle.plain.proofs.Sizes.{maxHalf, maxLeft, maxSubtracted, negPart-small}
 
 -- ---- how large they are
 
@@ -51,38 +52,38 @@ module _ (n : ℕ) (t : List ℤ) (ok : Small n t) where
     pub index-inside : i * (n + 1) + j < length t
     index-inside = rw add-one (omega (arith, place-inside (suc n) i j (omega arith) (omega arith), ok .low .long))
 
-    pub index-small : i * (n + 1) + j < 4_225
+    pub index-small : i * (n + 1) + j < tableNumbers
     index-small =
-        let narrow : suc n ≤ 65 = omega (arith, ok .few) in
+        let narrow : suc n ≤ suc maxVariables = omega (arith, ok .few) in
         rw add-one (omega (arith, place-inside (suc n) i j (omega arith) (omega arith), mul-le-mul narrow narrow))
 
-  pub entry-low : (i j : ℕ) → i ≤ n → j ≤ n → natAbs (entryIn n t i j) ≤ maxEntry
+  pub entry-low : (i j : ℕ) → i ≤ n → j ≤ n → natAbs (entryIn n t i j) ≤ maxG
   entry-low i j k l = ok .low .low (i * suc n + j) (place-inside (suc n) i j (omega arith) (omega arith))
 
   module _ (i : ℕ) (l : i < n) where
-    pub row-small : (j : ℕ) → j ≤ n → natAbs (rowTo n t i j) ≤ maxEntry * j
+    pub row-small : (j : ℕ) → j ≤ n → natAbs (rowTo n t i j) ≤ maxG * j
     unfolding except abs
     row-small j h =
-        natAbs-sum j maxEntry (except i (λ k. abs (productsIn n t i k)))
-        (λ k m. cond-cases (λ x. natAbs x ≤ maxEntry) (eqb k i) (pos 0) (abs (productsIn n t i k)) (λ _. omega arith) (λ _. entry-low (place i) (place k) (omega arith) (omega arith)))
+        natAbs-sum j maxG (except i (λ k. abs (productsIn n t i k)))
+        (λ k m. cond-cases (λ x. natAbs x ≤ maxG) (eqb k i) (pos 0) (abs (productsIn n t i k)) (λ _. omega arith) (λ _. entry-low (place i) (place k) (omega arith) (omega arith)))
 
-    pub half-small : halfIn n t i ≤ 80_384_000_000
+    pub half-small : halfIn n t i ≤ maxHalf
     unfolding halfIn offDiagonal
     half-small = omega (arith, row-small n (omega arith), ok .few)
 
-    pub left-small : natAbs (leftIn n t i) ≤ 82_896_000_000
+    pub left-small : natAbs (leftIn n t i) ≤ maxLeft
     unfolding leftIn
     left-small = omega (arith, natAbs-sub (entryIn n t 0 (place i)) (pos (halfIn n t i)), entry-low 0 (place i) (omega arith) (omega arith), half-small)
 
-  pub subtracted-small : (j : ℕ) → j ≤ n → natAbs (subtractedTo n t j) ≤ 82_896_000_000 * 64
+  pub subtracted-small : (j : ℕ) → j ≤ n → natAbs (subtractedTo n t j) ≤ maxSubtracted
   subtracted-small j h =
       omega (
         arith,
-        natAbs-sum j 82_896_000_000 (λ i. pos (negPart (leftIn n t i))) (λ i l. omega (arith, negPart-small (leftIn n t i), left-small i (omega arith))),
+        natAbs-sum j maxLeft (λ i. pos (negPart (leftIn n t i))) (λ i l. omega (arith, negPart-small (leftIn n t i), left-small i (omega arith))),
         ok .few,
       )
 
-  pub total-small : natAbs (subtractedIn n t) ≤ 82_896_000_000 * 64
+  pub total-small : natAbs (subtractedIn n t) ≤ maxSubtracted
   unfolding subtractedIn
   total-small = subtracted-small n (omega arith)
 

@@ -13,3 +13,4 @@ pub mod Encoded
 pub mod Writing
 pub mod Answers
 pub mod ReadBack
+pub mod Call

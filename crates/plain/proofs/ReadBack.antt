@@ -3,12 +3,11 @@
 use Prim.Native.Nat.{ℕ, _≤_}
 use native.Mathlib.Omega.{arith}
 use mathlib.Core.Path.{_≡_, refl, sym, _∙_, ap}
-use mathlib.Core.List.{List, [], _∷_, _++_, map, flatMap}
+use mathlib.Core.List.{List, [], _∷_, map, flatMap}
 use lib.IntN.{ℤ}
-use lib.ListN.{length, take, drop}
-use lib.Seq.{take-append-seam}
-use Rattle.wire.proofs.Written.{written-front}
+use lib.ListN.{length}
 use Rattle.wire.specs.Part.{accepted}
+use Rattle.wire.proofs.Writer.{HandedBack, bytes-back, bytes-enough}
 use Rattle.forms.specs.Table.{tableNumbers}
 use Rattle.register.specs.declared.Register.{Register}
 use Rattle.register.specs.Register.{coefficient}
@@ -25,10 +24,10 @@ use Rattle.certificate.proofs.Accept.{encoding-accepted}
 use Rattle.certificate.proofs.Answers as C
 use Rattle.plain.specs.Plain.{plain}
 use Rattle.plain.specs.Encoding.{encodeMultipliers, encodeWith, encodePlain}
-use Rattle.plain.specs.Answer.{answer, ownBytes, plainAnswer, plainBuffer}
+use Rattle.plain.specs.Answer.{ownBytes, ownRoom, plainAnswer, plainBuffer}
 use Rattle.plain.proofs.Valid.{plain-valid, plain-bound}
 use Rattle.plain.proofs.Encoded.{plain-bytes}
-use Rattle.plain.proofs.Answers.{bytes-fit, parts-accepted}
+use Rattle.plain.proofs.Answers.{parts-accepted}
 
 -- ---- a certificate without squares
 
@@ -74,22 +73,15 @@ module _ (reg : Register) (sch : Scheme) (register : R.Valid reg) (scheme : Vali
 -- ---- over bytes
 
 module _ (t s : List ℕ) (reg : Register) (sch : Scheme) (o : Opened t s reg sch) where
-  -- the bytes that the call hands back in front of a buffer of at least 1,294 bytes
-  pub handed-back : (lent : List ℕ) → 1_294 ≤ length lent →
-      (plainAnswer t s lent ≡ answer 0 0 0 (length (ownBytes reg sch))) × (take (plainAnswer t s lent .count) (plainBuffer t s lent) ≡ ownBytes reg sch)
-  handed-back lent l = (answered, ap (λ a. take (a .count) (plainBuffer t s lent)) answered ∙ ap (take (length bytes)) held ∙ take-append-seam bytes (drop (length bytes) lent))
-    where
-      bytes : List ℕ
-      bytes = ownBytes reg sch
+  -- where the call answers 0, it hands them back
+  pub handed-back : (lent : List ℕ) → plainAnswer t s lent .number ≡ 0 → HandedBack (ownBytes reg sch) lent (plainAnswer t s lent) (plainBuffer t s lent)
+  handed-back lent = let p = parts-accepted t s lent reg sch o in bytes-back (ownBytes reg sch) lent _ _ (p .0) (p .1)
 
-      fit : length bytes ≤ length lent
-      fit = omega (arith, plain-bytes reg sch (o .register-valid) (o .scheme-valid))
-
-      answered : plainAnswer t s lent ≡ answer 0 0 0 (length bytes)
-      answered = parts-accepted t s lent reg sch o .0 ∙ sym (bytes-fit bytes lent fit .0)
-
-      held : plainBuffer t s lent ≡ bytes ++ drop (length bytes) lent
-      held = parts-accepted t s lent reg sch o .1 ∙ sym (bytes-fit bytes lent fit .1) ∙ written-front lent bytes fit
+  -- it does where there is room for the longest
+  pub enough : (lent : List ℕ) → ownRoom ≤ length lent → plainAnswer t s lent .number ≡ 0
+  enough lent l =
+      let p = parts-accepted t s lent reg sch o in
+      bytes-enough (ownBytes reg sch) lent _ _ (p .0) (p .1) (omega (arith, plain-bytes reg sch (o .register-valid) (o .scheme-valid)))
 
   -- the check accepts them, and the bound is T
   pub own-accepted : (lent : List ℤ) → tableNumbers ≤ length lent →

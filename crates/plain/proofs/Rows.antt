@@ -3,13 +3,11 @@ use Prim.Native.Nat.{ℕ, zero, suc, _+_, _*_, _/_, _<_}
 use mathlib.Core.Path.{_≡_, sym, _∙_, ap, ap₂, fun-ext}
 use native.Mathlib.Omega.{arith}
 use native.Mathlib.Decide.{ℕ-discrete}
-use lib.Dec.{T}
 use lib.IntN.{ℤ, pos, negsuc, natAbs, _+ℤ_, _*ℤ_, +ℤ-idl, +ℤ-idr}
 use lib.Signed.{_≤ℤ_, ≤ℤ-refl}
 use Rattle.integers.specs.Integer.{abs}
 use Rattle.integers.specs.Sum.{sumOver, except}
-use Rattle.integers.specs.Quadratic.{offDiagonal, DiagonallyDominant}
-use Rattle.integers.proofs.Lists.{allBelow-by}
+use Rattle.integers.specs.Quadratic.{offDiagonal}
 use Rattle.integers.proofs.Order.{pos-mono}
 use Rattle.integers.proofs.Sum.{sumBelow-0, sumBelow-cong, sumBelow-first, except-same, except-other}
 use Rattle.forms.specs.Form.{place, entry}
@@ -17,7 +15,8 @@ use Rattle.register.specs.declared.Register.{Register}
 use Rattle.scheme.specs.declared.Scheme.{Scheme}
 use Rattle.scheme.specs.Scheme.{variables}
 use Rattle.scheme.specs.Function.{g}
-use Rattle.certificate.specs.Residual.{shifted, R, rowHolds, carries}
+use Rattle.certificate.specs.Residual.{shifted, R}
+use Rattle.certificate.specs.Valid.{Carries}
 use Rattle.plain.proofs.Coefficients.{rowSum-entry}
 use Rattle.integers.proofs.Gerschgorin.{offDiagonal-nonneg}
 use Rattle.plain.specs.Plain.{halfRowSum, plain}
@@ -67,13 +66,9 @@ module _ (c : ℕ → ℤ) (r : Register) (s : Scheme) where
   unfolding R plain sumOver
   plain-R = fun-ext λ i. fun-ext λ j. +ℤ-idr (ours i j)
 
-  pub plain-dominant : DiagonallyDominant (suc N) (R c r s (plain c r s))
-  plain-dominant = rw plain-R go
+  pub plain-carries : Carries c r s (plain c r s)
+  plain-carries = rw plain-R go
     where
       go : (i : ℕ) → i < suc N → offDiagonal (suc N) ours i ≤ℤ ours i i
       go zero h = row-0
       go (suc i) h = row-variable i (omega arith)
-
-  pub plain-carries : T (carries c r s (plain c r s))
-  unfolding carries rowHolds
-  plain-carries = allBelow-by (suc N) _ (λ i h. plain-dominant i h .le)

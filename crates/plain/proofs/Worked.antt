@@ -37,7 +37,7 @@ pub w7 : plain (coefficient exampleRegister) exampleRegister builtScheme ≡ wit
 unfolding plain subtractedConstant linearLeft halfRowSum unlessZero cancelling coefficientOf g joinBelow term sumBelow sumOver offDiagonal except abs
 w7 = refl
 
--- it carries T, and with both at 2 in place of 3 it doesn't
+-- it carries T, and with a smaller multiplier in both it doesn't
 pub w7-carries : map (λ m. carries (coefficient exampleRegister) exampleRegister builtScheme (with31 m)) (3 ∷ 2 ∷ []) ≡ true ∷ false ∷ []
 unfolding carries allBelow rowHolds R shifted reformulated nullForms subtractedForms nullPart subtractedPart ruleOf byKey flatMap times entry g joinBelow term sumBelow sumOver offDiagonal except abs
 w7-carries = refl

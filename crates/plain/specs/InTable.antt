@@ -10,18 +10,15 @@ use Rattle.integers.specs.Quadratic.{offDiagonal}
 use Rattle.forms.specs.Form.{place}
 use Rattle.forms.specs.Store.{Bounded}
 use Rattle.scheme.specs.Sets.{maxVariables}
+use Rattle.scheme.specs.Function.{maxG}
 use Rattle.certificate.specs.Certificate.{Multiplier}
 use Rattle.plain.specs.Plain.{unlessZero, cancelling}
 use Rattle.plain.specs.Encoding.{encodeWith}
 
--- an entry of the table of g is at most twice |base cost| and the sum of all |coefficients|
-abbrev pub maxEntry : ℕ
-maxEntry = 2_512_000_000
-
 -- at most 64 variables, and numbers as small as those of g
 pub record Small (n : ℕ) (t : List ℤ) : Type 0 where
   pub few : n ≤ maxVariables
-  pub low : Bounded (suc n) maxEntry t
+  pub low : Bounded (suc n) maxG t
 
 abbrev pub entryIn : ℕ → List ℤ → ℕ → ℕ → ℤ
 entryIn n t i j = getD t (i * suc n + j) (pos 0)

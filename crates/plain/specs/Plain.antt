@@ -16,7 +16,7 @@ use Rattle.scheme.specs.Scheme.{variables}
 use Rattle.scheme.specs.Function.{g}
 use Rattle.certificate.specs.Certificate.{Multiplier, Certificate}
 
--- the multiplier of `31` for i: half the sum of |coefficient of z_i z_j in g| over j ≠ i, rounded up
+-- the multiplier of `31` for i: ⌈½ Σ_{j≠i} |g's coefficient of z_i z_j|⌉
 unfoldable pub halfRowSum : (ℕ → ℤ) → Register → Scheme → ℕ → ℕ
 halfRowSum c reg sch i =
     let products : ℕ → ℕ → ℤ = λ j k. coefficientOf (g c reg sch) (place j) (place k) in
@@ -39,7 +39,7 @@ cancelling i (negsuc m) = unlessZero 0x39 i (suc m)
 unfoldable pub subtractedConstant : (ℕ → ℤ) → Register → Scheme → ℤ
 subtractedConstant c reg sch = sumBelow (variables (reg .choices) sch) (λ i. pos (negPart (linearLeft c reg sch i)))
 
--- s = 1; `31` for each i, rising; then, rising, `38` or `39`; T makes (0,0) zero. No squares
+-- first all `31`, then all `38` and `39`, both in the order of the variables; T is what they leave of the base cost
 unfoldable pub plain : (ℕ → ℤ) → Register → Scheme → Certificate
 plain c reg sch = let N = variables (reg .choices) sch in record {
   scale = 1;

@@ -4,6 +4,7 @@ use register::Register;
 use register::feedcheck_register;
 use scheme::Scheme;
 use scheme::feedcheck_scheme;
+use wire::WriterAnswer;
 ghost use mathlib.Core.Path.{_≡_};
 ghost use mathlib.Core.Bool.{cond};
 ghost use Prim.Native.Nat.{ℕ, _+_, _*_, _≤_, _<_};
@@ -21,20 +22,12 @@ ghost use Rattle.scheme.specs.Scheme.{side};
 ghost use Rattle.scheme.specs.Function.{g};
 ghost use Rattle.scheme.specs.Valid.{Valid};
 ghost use Rattle.plain.specs.Plain.{unlessZero, cancelling};
-ghost use Rattle.wire.specs.Number.{written, withFront};
+ghost use Rattle.wire.specs.Number.{written};
+ghost use Rattle.wire.specs.Writer.{bytesAnswer, withFront};
 ghost use Rattle.certificate.specs.Encoding.{encodeScale};
 ghost use Rattle.plain.specs.Encoding.{encodeMultipliers};
 ghost use Rattle.plain.specs.InTable.{Small, entryIn, productsIn, halfIn, leftIn, subtractedIn, diagonalsIn, linearsIn, commandsIn, encodeIn};
-ghost use Rattle.plain.specs.Answer.{ownBytes, bytesAnswer, plainAnswer, plainBuffer};
-
-// The answer of the call: a refusal's number, part and position, or zeros and how many bytes were written.
-#[repr(C)]
-pub struct PlainAnswer {
-    pub number: u8,
-    pub part: u8,
-    pub position: usize,
-    pub count: usize,
-}
+ghost use Rattle.plain.specs.Answer.{ownBytes, plainAnswer, plainBuffer};
 
 // The number in row i and column j of a table for n variables.
 fn entry_in(table: &[i64], n: usize, i: usize, j: usize) -> i64
@@ -46,7 +39,7 @@ fn entry_in(table: &[i64], n: usize, i: usize, j: usize) -> i64
 }
 
 // |coefficient of variable i times variable j|, 0 where they are one.
-fn beside(table: &[i64], n: usize, i: usize, j: usize) -> u64
+fn off_diagonal_term(table: &[i64], n: usize, i: usize, j: usize) -> u64
     requires { ⌜ Small n (now table) ⌝ }
     requires { ⌜ (i < n) × (j < n) ⌝ }
     ensures { λ r. ⌜ pos r ≡ except i (λ k. abs (productsIn n (now (table .entry)) i k)) j ⌝ }
@@ -66,7 +59,7 @@ fn half_row_sum(table: &[i64], n: usize, i: usize) -> u64
     let mut total: u64 = 0;
     let mut j = 0;
     while j < n {
-        total += beside(table, n, i, j);
+        total += off_diagonal_term(table, n, i, j);
         j += 1;
     }
     (total + 1) / 2
@@ -227,7 +220,7 @@ fn function_table(register: Register, scheme: Scheme) -> [i64; WorkingTable::NUM
 }
 
 // Writes our own certificate of a register and a scheme, if the buffer is long enough.
-fn plain_certificate(register: Register, scheme: Scheme, out: &mut [u8]) -> PlainAnswer
+fn plain_certificate(register: Register, scheme: Scheme, out: &mut [u8]) -> WriterAnswer
     requires { ⌜ ValidRegister register ⌝ }
     requires { ⌜ Valid register scheme ⌝ }
     ensures { λ r. ⌜ r ≡ bytesAnswer (ownBytes register scheme) (now (out .entry)) ⌝ }
@@ -238,25 +231,15 @@ fn plain_certificate(register: Register, scheme: Scheme, out: &mut [u8]) -> Plai
     let table = function_table(register, scheme);
     let count = 14 + 10 * command_count(&table, n);
     if out.len() < count {
-        return PlainAnswer {
-            number: 11,
-            part: 0,
-            position: 0,
-            count: 0,
-        };
+        return WriterAnswer::refused(11, 0, 0);
     }
     put_certificate(&table, n, base as i64, out);
-    PlainAnswer {
-        number: 0,
-        part: 0,
-        position: 0,
-        count: count,
-    }
+    WriterAnswer::written(count)
 }
 
 // The certificate of our own for a register and a scheme, each as a run of bytes by itself.
 #[no_mangle]
-pub extern "C" fn feedcheck_plain(register: &[u8], scheme: &[u8], out: &mut [u8]) -> PlainAnswer
+pub extern "C" fn feedcheck_plain(register: &[u8], scheme: &[u8], out: &mut [u8]) -> WriterAnswer
     ensures { λ r. ⌜ r ≡ plainAnswer (now (register .entry)) (now (scheme .entry)) (now (out .entry)) ⌝ }
     ensures { λ _. ⌜ now (out .exit) ≡ plainBuffer (now (register .entry)) (now (scheme .entry)) (now (out .entry)) ⌝ }
 {
@@ -264,12 +247,7 @@ pub extern "C" fn feedcheck_plain(register: &[u8], scheme: &[u8], out: &mut [u8]
     let second = feedcheck_scheme(register, scheme);
     let number = second.number;
     if number != 0 {
-        return PlainAnswer {
-            number: number,
-            part: second.part,
-            position: second.position,
-            count: 0,
-        };
+        return WriterAnswer::refused(number, second.part, second.position);
     }
     plain_certificate(first.register, second.scheme, out)
 }

@@ -34,13 +34,38 @@ module _ (reg : Register) (p : ℕ) (named : p < 2 ^ reg .choices) (wide : p < 2
       let none : refusalOf (reg .choices) s ≡ 0 = rw (b, le-ltb (length s) 5 (omega arith), q, lt-leb (2 ^ reg .choices) p named) in
       plan-ends reg s (omega arith) none ∙ rw q
 
+  -- and by themselves
+  pub whole-accepted : (s : List ℕ) → s ≡ encodePlan p → planByItself reg s ≡ accepted (done p) (length s)
+  unfolding planByItself byItself
+  whole-accepted s e =
+      let long : length s ≡ 5 = ap length e ∙ length-encodePlan p in
+      rw (front-accepted s [] (e ∙ sym (append-nil _)), long)
+
 -- what is accepted at the front of a run of bytes: the plan, five bytes, its choices all there
 pub record Front (reg : Register) (s : List ℕ) (read : Progress ℕ) (end : ℕ) : Type 0 where
-  pub read-is : read ≡ done (read .gave)
+  pub read-is : read ≡ done (read .parsed)
   pub end-is : end ≡ 5
-  pub named : read .gave < 2 ^ reg .choices
-  pub wide : read .gave < 2 ^ 32
-  pub bytes-are : s ≡ encodePlan (read .gave) ++ drop 5 s
+  pub named : read .parsed < 2 ^ reg .choices
+  pub wide : read .parsed < 2 ^ 32
+  pub bytes-are : s ≡ encodePlan (read .parsed) ++ drop 5 s
+
+-- what holds of the plan at a command that is not refused holds of a plan that is accepted
+module _ (reg : Register) (s : List ℕ) (P : Progress ℕ → ℕ → Type 0) (h : (length s ≡ 0 → ⊥) → refusalOf (reg .choices) s ≡ 0 → P (done (natAt 4 s 1)) 5) where
+  accepted-by : {read : Progress ℕ} {end : ℕ} → planInJob reg s ≡ accepted read end → P read end
+  accepted-by {read} {end} q = go (ℕ-discrete (length s) 0) (ℕ-discrete (refusalOf (reg .choices) s) 0)
+    where
+      go : Dec (length s ≡ 0) → Dec (refusalOf (reg .choices) s ≡ 0) → P read end
+      go (yes l) z = let r = plan-missing reg s l in let z : _≡_ {A = ℕ} 0 1 = cc in absurd (omega arith)
+      go (no l) (no d) = let r = plan-refused reg s _ l refl d in let z : _≡_ {A = ℕ} 0 1 = cc in absurd (omega arith)
+      go (no l) (yes z) =
+          let r = plan-ends reg s l z in
+          let f : done (natAt 4 s 1) ≡ read = cc in
+          let g : _≡_ {A = ℕ} 5 end = cc in
+          rw (f, g) at (h l z)
+
+-- the choices of an accepted plan are all there, of a list of any numbers
+pub accepted-named : (reg : Register) (s : List ℕ) {read : Progress ℕ} {end : ℕ} → planInJob reg s ≡ accepted read end → read .parsed < 2 ^ reg .choices
+accepted-named reg s = accepted-by reg s (λ read end. read .parsed < 2 ^ reg .choices) (plan-named reg s)
 
 module _ (reg : Register) (s : List ℕ) (b : Bytes s) where
   front : (length s ≡ 0 → ⊥) → refusalOf (reg .choices) s ≡ 0 → Front reg s (done (natAt 4 s 1)) 5
@@ -54,29 +79,17 @@ module _ (reg : Register) (s : List ℕ) (b : Bytes s) where
   }
 
   pub accepted-front : {read : Progress ℕ} {end : ℕ} → planInJob reg s ≡ accepted read end → Front reg s read end
-  accepted-front {read} {end} q = go (ℕ-discrete (length s) 0) (ℕ-discrete (refusalOf (reg .choices) s) 0)
-    where
-      go : Dec (length s ≡ 0) → Dec (refusalOf (reg .choices) s ≡ 0) → Front reg s read end
-      go (yes l) z = let r = plan-missing reg s l in let z : _≡_ {A = ℕ} 0 1 = cc in absurd (omega arith)
-      go (no l) (no d) = let r = plan-refused reg s _ l refl d in let z : _≡_ {A = ℕ} 0 1 = cc in absurd (omega arith)
-      go (no l) (yes z) =
-          let r = plan-ends reg s l z in
-          let f : done (natAt 4 s 1) ≡ read = cc in
-          let g : _≡_ {A = ℕ} 5 end = cc in
-          rw (f, g) at (front l z)
+  accepted-front = accepted-by reg s (Front reg s) front
 
   -- a run of bytes by itself
-  pub accepts-plan : (p : ℕ) → (planByItself reg s ≡ accepted (done p) (length s)) ↔ ((p < 2 ^ reg .choices) × (p < 2 ^ 32) × (s ≡ encodePlan p))
-  unfolding planByItself planInJob byItself
-  accepts-plan p = (bytes, accepts)
-    where
-      bytes : planByItself reg s ≡ accepted (done p) (length s) → (p < 2 ^ reg .choices) × (p < 2 ^ 32) × (s ≡ encodePlan p)
-      bytes q =
-          let f = accepted-front (byItself-end (planPart reg) s (done p) (length s) q .0) in
-          let e : drop 5 s ≡ [] = rw (← (f .end-is)) (drop-length s) in
-          (f .named, f .wide, f .bytes-are ∙ rw (e, append-nil))
+  pub whole-front : {read : Progress ℕ} {end : ℕ} → planByItself reg s ≡ accepted read end → (read .parsed < 2 ^ reg .choices) × (read .parsed < 2 ^ 32) × (s ≡ encodePlan (read .parsed))
+  unfolding planByItself planInJob
+  whole-front {read} {end} q =
+      let (inJob, whole) = byItself-end (planPart reg) s read end q in
+      let f = accepted-front inJob in
+      let five : length s ≡ 5 = sym whole ∙ f .end-is in
+      let e : drop 5 s ≡ [] = rw (← five) (drop-length s) in
+      (f .named, f .wide, f .bytes-are ∙ rw (e, append-nil))
 
-      accepts : (p < 2 ^ reg .choices) × (p < 2 ^ 32) × (s ≡ encodePlan p) → planByItself reg s ≡ accepted (done p) (length s)
-      accepts (named, wide, e) =
-          let long : length s ≡ 5 = ap length e ∙ length-encodePlan p in
-          rw (front-accepted reg p named wide s [] (e ∙ sym (append-nil _)), long)
+  pub accepts-plan : (p : ℕ) → (planByItself reg s ≡ accepted (done p) (length s)) ↔ ((p < 2 ^ reg .choices) × (p < 2 ^ 32) × (s ≡ encodePlan p))
+  accepts-plan p = (whole-front, λ (named, wide, e). whole-accepted reg p named wide s e)

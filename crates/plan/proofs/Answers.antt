@@ -1,10 +1,14 @@
 -- What the calls answer, from what their callees answer.
-use mathlib.Core.Path.{_≡_, sym, _∙_, ap}
+use mathlib.Core.Path.{_≡_, refl, sym, _∙_, ap}
 use mathlib.Core.List.{List}
-use Prim.Native.Nat.{ℕ, _<_, _≤_}
+use Prim.Native.Nat.{ℕ, _^_, _<_, _≤_}
 use native.Mathlib.Omega.{arith}
+use native.Mathlib.Decide.{ℕ-discrete}
+use lib.IntN.{ℤ}
 use lib.ListN.{length}
+use lib.Pow.{pow-mono}
 use borrow.Author.Tests.{lt-ltb, le-ltb}
+use Rattle.wire.specs.Number.{Bytes}
 use Rattle.wire.specs.Part.{Reading, refused, accepted, byItself}
 use Rattle.wire.specs.Rows.{Progress}
 use Rattle.wire.proofs.Part.{NumberedReading, readPart-numbered, byItself-numbered}
@@ -13,11 +17,16 @@ use Rattle.register.specs.declared.RegisterAnswer.{RegisterAnswer}
 use Rattle.register.specs.Register.{coefficient}
 use Rattle.register.specs.Format.{registerByItself}
 use Rattle.register.specs.Answer.{registerAnswer}
+use Rattle.register.specs.Valid as R
+use Rattle.register.specs.Encoding.{encodeRegister}
+use Rattle.register.proofs.Accept as RA
 use Rattle.plan.specs.declared.PlanRead.{PlanRead}
 use Rattle.plan.specs.Plan.{cost}
 use Rattle.plan.specs.Format.{planPart, planInJob, planByItself}
 use Rattle.plan.specs.Answer.{refusedRead, planRead, refusedCost, acceptedCost, planAnswer, registerThenPlan, costAnswer}
-use Rattle.register.proofs.Opened.{opened-refused, opened}
+use Rattle.plan.specs.Encoding.{encodePlan}
+use Rattle.register.proofs.Opened.{Opened, opened-refused, opened}
+use Rattle.plan.proofs.Accept.{whole-accepted as plan-accepted, whole-front}
 
 -- The plan by itself, from the plan in a job.
 
@@ -80,3 +89,46 @@ module _ (reg : Register) (s : List ℕ) (fourth : PlanRead) (e : fourth ≡ pla
       go : (x : Reading (Progress ℕ)) → fourth ≡ planRead x → NumberedReading x → acceptedCost (cost (coefficient reg) reg (fourth .plan)) ≡ planAnswer reg x
       go (refused n at) f d = absurd (d (sym (ap (λ r. r .number) f) ∙ h))
       go (accepted p end) f d = rw (ap (λ r. r .plan) f)
+
+-- ---- by what the call answers
+
+-- an answer of no refusal: both parts are read
+pub record Costed (s plan : List ℕ) : Type 0 where
+  pub reg : Register
+  pub read : Progress ℕ
+  pub end : ℕ
+  pub first : Opened s reg
+  pub reads : planByItself reg plan ≡ accepted read end
+  pub answers : costAnswer s plan ≡ acceptedCost (cost (coefficient reg) reg (read .parsed))
+
+pub costed : (s plan : List ℕ) → costAnswer s plan .number ≡ 0 → Costed s plan
+unfolding planByItself planInJob
+costed s plan z = by (ℕ-discrete (first .number) 0)
+  where
+    first : RegisterAnswer
+    first = registerAnswer (registerByItself s)
+
+    go : Opened s (first .register) → (x : Reading (Progress ℕ)) → planByItself (first .register) plan ≡ x → NumberedReading x → costAnswer s plan ≡ planAnswer (first .register) x → Costed s plan
+    go o (refused n at) e d a = absurd (d (sym (ap (λ r. r .number) a) ∙ z))
+    go o (accepted p end) e d a = record { reg = first .register; read = p; end = end; first = o; reads = e; answers = a }
+
+    by : Dec (first .number ≡ 0) → Costed s plan
+    by (no h) = absurd (h (ap (λ r. r .number) (first-refused s first refl plan h) ∙ z))
+    by (yes h) =
+        go (opened s first refl h) (planByItself (first .register) plan) refl
+        (byItself-numbered plan (planInJob (first .register) plan) (readPart-numbered (planPart (first .register)) plan)) (sym (then-plan s first refl plan h))
+
+-- the bytes of a valid register and of a plan whose choices are all there are given the plan's cost
+pub cost-encodings : (s plan : List ℕ) (reg : Register) (p : ℕ) → R.Valid reg → s ≡ encodeRegister reg → p < 2 ^ reg .choices → plan ≡ encodePlan p → costAnswer s plan ≡ acceptedCost (cost (coefficient reg) reg p)
+unfolding costAnswer
+cost-encodings s plan reg p v e named e′ =
+    let wide : p < 2 ^ 32 = omega (arith, named, pow-mono (v .within .choices-within)) in
+    rw (RA.encoding-accepted s reg v e, plan-accepted reg p named wide plan e′)
+
+-- and no other bytes are given a cost
+module _ (s plan : List ℕ) (b : Bytes s) (b′ : Bytes plan) (c : Costed s plan) where
+  pub costed-register : s ≡ encodeRegister (c .reg)
+  costed-register = RA.accepted-iff s (c .reg) b .0 (c .first .reads) .1
+
+  pub costed-plan : (c .read .parsed < 2 ^ c .reg .choices) × (plan ≡ encodePlan (c .read .parsed))
+  costed-plan = let (named, _, e) = whole-front (c .reg) plan b′ (c .reads) in (named, e)

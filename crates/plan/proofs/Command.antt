@@ -19,7 +19,7 @@ use Rattle.plan.specs.Format.{planChecks, planPart, planInJob}
 
 -- what has been read: the plan
 abbrev pub done : ℕ → Progress ℕ
-done plan = record { previous = 0x40; gave = plan }
+done plan = record { previous = 0x40; parsed = plan }
 
 -- the checks of the plan at the front of a run of bytes, where there are n choices, and its refusal
 

@@ -22,7 +22,7 @@ use Rattle.plan.specs.Answer.{refusedCost, acceptedCost, costAnswer}
 abbrev answer : List ℕ × List ℕ → CostAnswer
 answer runs = costAnswer (runs .0) (runs .1)
 
--- W2: plans 0, 3, 7 cost 10, 0, 5
+-- W2: the empty plan, the example's plan and the full one
 pub w2 : map (λ p. answer (registerBytes, encodePlan p)) (0 ∷ 3 ∷ 7 ∷ []) ≡ map acceptedCost (pos 10 ∷ pos 0 ∷ pos 5 ∷ [])
 unfolding costAnswer cost sumBelow isSubset encodePlan bytesOf planByItself planInJob planChecks registerByItself registerInJob byItself readPart readFrom run follow step command commandChecks checksAt afterAt operandsAt total natAt little refusal rowOf fresh baseChecks choiceChecks termChecks endChecks comesBefore
 w2 = refl

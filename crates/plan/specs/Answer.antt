@@ -19,7 +19,7 @@ refusedRead number at = record { number = number; position = at; plan = 0 }
 
 abbrev pub planRead : Reading (Progress ℕ) → PlanRead
 planRead (refused number at) = refusedRead number at
-planRead (accepted p end) = record { number = 0; position = end; plan = p .gave }
+planRead (accepted p end) = record { number = 0; position = end; plan = p .parsed }
 
 -- of the cost call: number, part and position of a refusal, other fields 0; or zeros and the cost
 
@@ -32,12 +32,12 @@ acceptedCost z = record { number = 0; part = 0; position = 0; cost = z }
 -- by what reading the plan leads to, with its register
 abbrev pub planAnswer : Register → Reading (Progress ℕ) → CostAnswer
 planAnswer reg (refused number at) = refusedCost number 4 at
-planAnswer reg (accepted p end) = acceptedCost (cost (coefficient reg) reg (p .gave))
+planAnswer reg (accepted p end) = acceptedCost (cost (coefficient reg) reg (p .parsed))
 
 -- by what reading the register leads to: the plan's bytes are opened where the register is accepted, its end included
 abbrev pub registerThenPlan : List ℕ → Reading (Progress Register) → CostAnswer
 registerThenPlan plan (refused number at) = refusedCost number 1 at
-registerThenPlan plan (accepted p end) = planAnswer (p .gave) (planByItself (p .gave) plan)
+registerThenPlan plan (accepted p end) = planAnswer (p .parsed) (planByItself (p .parsed) plan)
 
 -- the bytes of parts 1 and 4, each a run of bytes by itself
 unfoldable pub costAnswer : List ℕ → List ℕ → CostAnswer

@@ -12,7 +12,7 @@ use Rattle.register.specs.declared.Register.{Register}
 unfoldable pub planChecks : (n plan : ℕ) → List Check
 planChecks n plan = check 5 (leb (2 ^ n) plan) ∷ []
 
--- `40` u32, bit i set when choice i is fed. The job ends there
+-- `40`: a set of choices as four bytes, one bit each; nothing follows it
 abbrev pub planRow : Register → Row ℕ
 planRow reg = record {
   byte = 0x40;

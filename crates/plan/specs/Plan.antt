@@ -16,7 +16,6 @@ pub record Plan (n : ℕ) : Type 0 where
 abbrev pub termCost : ℤ → Register → ℕ → ℕ → ℤ
 termCost c r plan t = cond (isSubset (mask r t) plan) c (pos 0)
 
--- cost(plan) = base cost + the sum of the coefficients of the terms whose named choices are all fed; c t is the coefficient
--- of term t
+-- the cost of a plan: the base cost and what each term adds; c t is the coefficient of term t
 unfoldable pub cost : (ℕ → ℤ) → Register → ℕ → ℤ
 cost c r plan = r .base +ℤ sumBelow (r .terms) (λ t. termCost (c t) r plan t)

@@ -46,21 +46,28 @@ encode-determines r r′ v v′ e =
     let a = register-accepted r [] v in
     let b = rw (← e) at (register-accepted r′ [] v′) in
     let c : reached 0x1F r ≡ reached 0x1F r′ = cc in
-    ap (λ p. p .gave) c
+    ap (λ p. p .parsed) c
+
+-- the bytes of a valid register are accepted
+pub encoding-accepted : (s : List ℕ) (r : Register) → Valid r → s ≡ encodeRegister r → registerByItself s ≡ accepted (reached 0x1F r) (length s)
+unfolding registerByItself byItself
+encoding-accepted s r v e =
+    let q : registerInJob s ≡ accepted (reached 0x1F r) (length s) = ap registerInJob (e ∙ sym (append-nil (encodeRegister r))) ∙ register-accepted r [] v ∙ ap (λ x. accepted (reached 0x1F r) (length x)) (sym e) in
+    rw (q, le-ltb (length s) (length s) (omega arith))
 
 -- ---- in a job
 
 module _ (s : List ℕ) (p : Progress Register) (end : ℕ) (e : registerInJob s ≡ accepted p end) where
-  pub valid-accepted : Valid (p .gave) × (p .previous ≡ 0x1F)
+  pub valid-accepted : Valid (p .parsed) × (p .previous ≡ 0x1F)
   valid-accepted = let h = ended s p end e in (h .valid, h .previous)
 
-  pub bytes-accepted : Bytes s → s ≡ encodeRegister (p .gave) ++ drop end s
+  pub bytes-accepted : Bytes s → s ≡ encodeRegister (p .parsed) ++ drop end s
   bytes-accepted b = ended s p end e .bytes b
 
-  pub end-accepted : Bytes s → end ≡ length (encodeRegister (p .gave))
+  pub end-accepted : Bytes s → end ≡ length (encodeRegister (p .parsed))
   unfolding registerInJob readPart
   end-accepted b =
-      let q = ap length (bytes-accepted b) ∙ length-append (encodeRegister (p .gave)) (drop end s) in
+      let q = ap length (bytes-accepted b) ∙ length-append (encodeRegister (p .parsed)) (drop end s) in
       omega (arith, readFrom-end registerPart s (registerPart .start) 0 e, simp length-drop at q)
 
 module _ (s : List ℕ) (r : Register) (b : Bytes s) where
@@ -70,18 +77,13 @@ module _ (s : List ℕ) (r : Register) (b : Bytes s) where
   -- ---- by itself
 
   pub accepted-iff : (registerByItself s ≡ accepted (reached 0x1F r) (length s)) ↔ (Valid r × (s ≡ encodeRegister r))
-  unfolding registerByItself registerInJob byItself
-  accepted-iff = (to, from)
+  unfolding registerByItself registerInJob
+  accepted-iff = (to, λ h. encoding-accepted s r (h .0) (h .1))
     where
       to : registerByItself s ≡ accepted (reached 0x1F r) (length s) → Valid r × (s ≡ encodeRegister r)
       to e =
           let (q, _) = byItself-end registerPart s (reached 0x1F r) (length s) e in
           (valid-accepted s _ (length s) q .0, bytes-accepted s _ (length s) q b ∙ rw (drop-length, append-nil))
-
-      from : Valid r × (s ≡ encodeRegister r) → registerByItself s ≡ accepted (reached 0x1F r) (length s)
-      from (v, e) =
-          let q : registerInJob s ≡ accepted (reached 0x1F r) (length s) = job-iff (length s) .1 (v, (e ∙ rw (drop-length, append-nil), ap length e)) in
-          rw (q, le-ltb (length s) (length s) (omega arith))
 
   -- the answer of the call
   pub answer-iff : (registerAnswer (registerByItself s) ≡ record { number = 0; part = 0; position = 0; register = r }) ↔ (Valid r × (s ≡ encodeRegister r))
@@ -91,7 +93,7 @@ module _ (s : List ℕ) (r : Register) (b : Bytes s) where
       to : (x : Reading (Progress Register)) → registerByItself s ≡ x → registerAnswer x ≡ record { number = 0; part = 0; position = 0; register = r } → Valid r × (s ≡ encodeRegister r)
       to (refused n at) q e = let z : _≡_ {A = ℕ} 1 0 = ap (λ a. a .part) e in absurd (omega arith)
       to (accepted p end) q e =
-          let g : p .gave ≡ r = ap (λ a. a .register) e in
+          let g : p .parsed ≡ r = ap (λ a. a .register) e in
           let (j, l) = byItself-end registerPart s p end q in
           let f : p .previous ≡ 0x1F = valid-accepted s p end j .1 in
           accepted-iff .0 (q ∙ rw (l, ← f, ← g))

@@ -46,5 +46,5 @@ module _ (s : List ℕ) where
         go (refused n at) f d = absurd (d (sym (ap (λ r. r .number) f) ∙ h))
         go (accepted p end) f d =
             let q : part .position ≡ end = ap (λ r. r .position) f in
-            let m : part .register ≡ p .gave = ap (λ r. r .register) f in
+            let m : part .register ≡ p .parsed = ap (λ r. r .register) f in
             rw (m, le-ltb end (length s) (omega arith))

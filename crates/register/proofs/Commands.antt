@@ -17,7 +17,7 @@ use Rattle.register.specs.Format.{baseChecks, choiceChecks, termChecks, 
 
 -- what has been read so far
 abbrev pub reached : ℕ → Register → Progress Register
-reached previous r = record { previous = previous; gave = r }
+reached previous r = record { previous = previous; parsed = r }
 
 module _ (s : List ℕ) (previous : ℕ) (r : Register) (at : ℕ) where
   abbrev p : Progress Register
@@ -95,21 +95,21 @@ module _ (s : List ℕ) (previous : ℕ) (r : Register) (at : ℕ) where
 module _ (s : List ℕ) (at : ℕ) (p : Progress Register) {previous n m tank₀ minute₀ mask₀ : ℕ} (h : Shows p previous n m tank₀ minute₀ mask₀) where
   pub shown-base : getD s at 0 ≡ 0x10 → refusal (checksAt registerPart s p at)
       ≡ refusal (commandChecks (isAmong previous (0 ∷ [])) (length s - at) 5 (baseChecks (intAt w32 s (at + 1))))
-  shown-base e = rw (← (h .previous-is)) (ap refusal (checks-base s (p .previous) (p .gave) at e))
+  shown-base e = rw (← (h .previous-is)) (ap refusal (checks-base s (p .previous) (p .parsed) at e))
 
   pub shown-choice : getD s at 0 ≡ 0x11 → refusal (checksAt registerPart s p at)
       ≡ refusal (commandChecks (isAmong previous (0x10 ∷ 0x11 ∷ [])) (length s - at) 5 (choiceChecks n tank₀ minute₀ (natAt 2 s (at + 1)) (natAt 2 s (at + 1 + 2))))
   shown-choice e =
-      rw (← (h .previous-is), ← (h .tank-is), ← (h .minute-is), ← (h .choices-is)) (ap refusal (checks-choice s (p .previous) (p .gave) at e))
+      rw (← (h .previous-is), ← (h .tank-is), ← (h .minute-is), ← (h .choices-is)) (ap refusal (checks-choice s (p .previous) (p .parsed) at e))
 
   pub shown-term : getD s at 0 ≡ 0x12 → refusal (checksAt registerPart s p at)
       ≡ refusal (commandChecks (isAmong previous (0x10 ∷ 0x11 ∷ 0x12 ∷ [])) (length s - at) 9 (termChecks n m mask₀ (natAt 4 s (at + 1)) (intAt w32 s (at + 1 + 4))))
   shown-term e =
-      rw (← (h .previous-is), ← (h .mask-is), ← (h .choices-is), ← (h .terms-is)) (ap refusal (checks-term s (p .previous) (p .gave) at e))
+      rw (← (h .previous-is), ← (h .mask-is), ← (h .choices-is), ← (h .terms-is)) (ap refusal (checks-term s (p .previous) (p .parsed) at e))
 
   pub shown-end : getD s at 0 ≡ 0x1F → refusal (checksAt registerPart s p at)
       ≡ refusal (commandChecks (isAmong previous (0x10 ∷ 0x11 ∷ 0x12 ∷ [])) (length s - at) 1 (endChecks n))
-  shown-end e = rw (← (h .previous-is), ← (h .choices-is)) (ap refusal (checks-end s (p .previous) (p .gave) at e))
+  shown-end e = rw (← (h .previous-is), ← (h .choices-is)) (ap refusal (checks-end s (p .previous) (p .parsed) at e))
 
 -- ---- its size, and whether it ends the part
 

@@ -35,7 +35,7 @@ module _ (s : List ℕ) (first : RegisterAnswer) (e : first ≡ registerAnswer (
       go : (x : Reading (Progress Register)) → registerByItself s ≡ x → first ≡ registerAnswer x → NumberedReading x → Opened s (first .register)
       go (refused n at) q f d = absurd (d (sym (ap (λ r. r .number) f) ∙ h))
       go (accepted p end) q f d =
-          let r : first .register ≡ p .gave = ap (λ r. r .register) f in
+          let r : first .register ≡ p .parsed = ap (λ r. r .register) f in
           let (inJob, whole) = byItself-end registerPart s p end q in
           let (v, l) = valid-accepted s p end inJob in
           record { reads = q ∙ ap₂ accepted (rw (r, ← l)) whole; valid = rw r v }

@@ -18,9 +18,9 @@ use Rattle.register.proofs.Passes.{choice-passes, term-passes}
 -- the position of a command, by what has been read
 record Reach (p : Progress Register) (at : ℕ) : Type 0 where
   start : p .previous ≡ 0 → at ≡ 0
-  near : at ≤ 5 + 5 * p .gave .choices + 9 * p .gave .terms
-  choices : p .gave .choices ≤ maxChoices
-  terms : p .gave .terms ≤ maxTerms
+  near : at ≤ 5 + 5 * p .parsed .choices + 9 * p .parsed .terms
+  choices : p .parsed .choices ≤ maxChoices
+  terms : p .parsed .terms ≤ maxTerms
 
 -- the last position of a command
 abbrev far : ℕ

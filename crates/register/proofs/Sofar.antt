@@ -27,16 +27,16 @@ use Rattle.register.proofs.Bytes.{baseCommand, choiceCommand, termComma
 
 -- what has been read so far, up to a position
 pub record Sofar (s : List ℕ) (p : Progress Register) (at : ℕ) : Type 0 where
-  pub within : Within (p .gave)
-  pub no-term : (p .previous ≡ 0x12 → ⊥) → p .gave .terms ≡ 0
-  pub start : p .previous ≡ 0 → (p .gave ≡ fresh) × (at ≡ 0)
-  pub bytes : (p .previous ≡ 0 → ⊥) → Bytes s → s ≡ encodeBody (p .gave) ++ drop at s
+  pub within : Within (p .parsed)
+  pub no-term : (p .previous ≡ 0x12 → ⊥) → p .parsed .terms ≡ 0
+  pub start : p .previous ≡ 0 → (p .parsed ≡ fresh) × (at ≡ 0)
+  pub bytes : (p .previous ≡ 0 → ⊥) → Bytes s → s ≡ encodeBody (p .parsed) ++ drop at s
 
 -- and what was read in the end
 pub record Ended (s : List ℕ) (p : Progress Register) (end : ℕ) : Type 0 where
-  pub valid : Valid (p .gave)
+  pub valid : Valid (p .parsed)
   pub previous : p .previous ≡ 0x1F
-  pub bytes : Bytes s → s ≡ encodeRegister (p .gave) ++ drop end s
+  pub bytes : Bytes s → s ≡ encodeRegister (p .parsed) ++ drop end s
 
 pub starts : (s : List ℕ) → Sofar s (registerPart .start) 0
 unfolding fresh
@@ -59,7 +59,7 @@ module _ (s : List ℕ) (p : Progress Register) (at : ℕ) (h : Passes registerP
       go (no a) (no b) (yes e) d = term e
       go (no a) (no b) (no c) (yes e) = last e
       go (no a) (no b) (no c) (no d) =
-          absurd (omega (arith, checks-other s (p .previous) (p .gave) at a b c d, passed-checksAt registerPart s p at h))
+          absurd (omega (arith, checks-other s (p .previous) (p .parsed) at a b c d, passed-checksAt registerPart s p at h))
 
   -- the bytes read so far, with those of the command
   more : (front : List ℕ) (c : Command) {x : List ℕ} {k : ℕ} → Bytes s → commandAt registerPart s at ≡ c → encodeCommand registerPart c ≡ x → size registerPart (getD s at 0) ≡ k
@@ -69,12 +69,12 @@ module _ (s : List ℕ) (p : Progress Register) (at : ℕ) (h : Passes registerP
       q ∙ ap (λ (l : List ℕ). front ++ l) g ∙ sym (append-assoc front x (drop (at + k) s))
 
   -- no command with byte c was the one before
-  not-after : (b c : ℕ) → getD s at 0 ≡ b → registerPart .here (reached c (p .gave)) b ≡ false → p .previous ≡ c → ⊥
+  not-after : (b c : ℕ) → getD s at 0 ≡ b → registerPart .here (reached c (p .parsed)) b ≡ false → p .previous ≡ c → ⊥
   not-after b c e f q = false≢true (sym f ∙ rw (e, q) at (h .here))
 
   module _ (g : Sofar s p at) where
     abbrev r : Register
-    r = p .gave
+    r = p .parsed
 
     base-on : getD s at 0 ≡ 0x10 → Sofar s (reached 0x10 (withBase r (intAt w32 s (at + 1)))) (at + 5)
     unfolding fresh rowOf

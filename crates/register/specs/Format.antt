@@ -69,7 +69,7 @@ termRow = record {
   last = false;
 }
 
--- there is at least one choice; there may be no term
+-- a register has a choice; it needs no term
 unfoldable pub endChecks : ℕ → List Check
 endChecks n = check 3 (eqb n 0) ∷ []
 

@@ -9,7 +9,7 @@ maxChoices = 32
 abbrev pub maxTerms : ℕ
 maxTerms = 256
 
--- base cost within ±1,000,000,000; tank 1–9,999; minute 0–1,439; coefficient within ±1,000,000 and not 0
+-- the highest base cost, tank, minute and coefficient; base cost and coefficient may be as far below 0
 
 abbrev pub maxBase : ℕ
 maxBase = 1_000_000_000

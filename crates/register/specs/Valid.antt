@@ -22,7 +22,7 @@ pub record Rest (r : Register) : Type 0 where
   pub masks : (t : ℕ) → r .terms ≤ t → mask r t ≡ 0
   pub coefficients : (t : ℕ) → r .terms ≤ t → coefficient r t ≡ pos 0
 
--- tank 1–9,999; minute 0–1,439
+-- the ranges of a choice's numbers; a minute may be 0, a tank not
 pub record Choice (r : Register) (i : ℕ) : Type 0 where
   pub tank-above : 1 ≤ tank r i
   pub tank-within : tank r i ≤ maxTank
@@ -32,7 +32,7 @@ pub record Choice (r : Register) (i : ℕ) : Type 0 where
 abbrev pub Before : Register → ℕ → ℕ → Type 0
 Before r i j = (tank r i < tank r j) ⊎ ((tank r i ≡ tank r j) × (minute r i < minute r j))
 
--- coefficient within ±1,000,000 and not 0; the mask names choices of the register, at least one
+-- the coefficient has a range of both signs without 0; the mask names choices of the register, at least one
 pub record Term (r : Register) (t : ℕ) : Type 0 where
   pub coefficient-within : natAbs (coefficient r t) ≤ maxCoefficient
   pub coefficient-not-0 : 1 ≤ natAbs (coefficient r t)
@@ -51,7 +51,7 @@ pub record Within (r : Register) : Type 0 where
   pub terms : (t : ℕ) → t < r .terms → Term r t
   pub masks-rise : (t : ℕ) → suc t < r .terms → mask r t < mask r (suc t)
 
--- and there is at least one choice; there may be no term
+-- and a first choice is there, which the end command asks for
 pub record Valid (r : Register) : Type 0 where
   pub within : Within r
   pub some-choice : 1 ≤ r .choices

@@ -21,10 +21,10 @@ pub struct Register {
     pub base: i32,
     pub choices: usize,
     pub terms: usize,
-    pub tanks: [u16; Register::CHOICES],
-    pub minutes: [u16; Register::CHOICES],
-    pub masks: [u32; Register::TERMS],
-    pub coefficients: [i32; Register::TERMS],
+    pub tanks: [u16; Register::MAX_CHOICES],
+    pub minutes: [u16; Register::MAX_CHOICES],
+    pub masks: [u32; Register::MAX_TERMS],
+    pub coefficients: [i32; Register::MAX_TERMS],
 }
 
 // What reading the register at the front of a run of bytes leads to: a refusal's number and position, or 0, the position
@@ -45,19 +45,19 @@ pub struct RegisterAnswer {
 }
 
 impl Register {
-    pub const CHOICES: usize = 32;
+    pub const MAX_CHOICES: usize = 32;
 
-    pub const TERMS: usize = 256;
+    pub const MAX_TERMS: usize = 256;
 
     // The largest magnitude of the base cost.
-    pub const BASE: u64 = 1_000_000_000;
+    pub const MAX_BASE: u64 = 1_000_000_000;
 
-    pub const TANK: u16 = 9_999;
+    pub const MAX_TANK: u16 = 9_999;
 
-    pub const MINUTE: u16 = 1_439;
+    pub const MAX_MINUTE: u16 = 1_439;
 
     // The largest magnitude of a coefficient.
-    pub const COEFFICIENT: u64 = 1_000_000;
+    pub const MAX_COEFFICIENT: u64 = 1_000_000;
 
     pub fn fresh() -> Register
         ensures { λ r. ⌜ r ≡ fresh ⌝ }
@@ -66,10 +66,10 @@ impl Register {
             base: 0,
             choices: 0,
             terms: 0,
-            tanks: [0; Register::CHOICES],
-            minutes: [0; Register::CHOICES],
-            masks: [0; Register::TERMS],
-            coefficients: [0; Register::TERMS],
+            tanks: [0; Register::MAX_CHOICES],
+            minutes: [0; Register::MAX_CHOICES],
+            masks: [0; Register::MAX_TERMS],
+            coefficients: [0; Register::MAX_TERMS],
         }
     }
 }
@@ -112,18 +112,18 @@ fn last_of(n: usize) -> usize
 fn base_refusal(base: i32) -> u8
     ensures { λ r. ⌜ r ≡ refusal (baseChecks base) ⌝ }
 {
-    first_of(Register::BASE < wire::magnitude(base as i64), 4, 0)
+    first_of(Register::MAX_BASE < wire::magnitude(base as i64), 4, 0)
 }
 
 // The refusal of a choice after n others, the last of which is tank0 at minute0, or 0.
 fn choice_refusal(n: usize, tank0: u16, minute0: u16, tank: u16, minute: u16) -> u8
     ensures { λ r. ⌜ r ≡ refusal (choiceChecks n tank0 minute0 tank minute) ⌝ }
 {
-    let out = (tank == 0) | (Register::TANK < tank) | (Register::MINUTE < minute);
+    let out = (tank == 0) | (Register::MAX_TANK < tank) | (Register::MAX_MINUTE < minute);
     let later = (tank0 < tank) | ((tank0 == tank) & (minute0 < minute));
     let falls = !((n == 0) | later);
     first_of(
-        Register::CHOICES <= n,
+        Register::MAX_CHOICES <= n,
         3,
         first_of(out, 4, first_of(falls, 7, 0)),
     )
@@ -135,11 +135,11 @@ fn term_refusal(n: usize, m: usize, mask0: u32, mask: u32, coefficient: i32) -> 
     ensures { λ r. ⌜ r ≡ refusal (termChecks n m mask0 mask coefficient) ⌝ }
 {
     let size = wire::magnitude(coefficient as i64);
-    let out = (size == 0) | (Register::COEFFICIENT < size);
+    let out = (size == 0) | (Register::MAX_COEFFICIENT < size);
     let unnamed = (mask == 0) | (1u64 << n <= mask as u64);
     let falls = !((m == 0) | (mask0 < mask));
     let named = first_of(unnamed, 5, first_of(falls, 7, 0));
-    first_of(Register::TERMS <= m, 3, first_of(out, 4, named))
+    first_of(Register::MAX_TERMS <= m, 3, first_of(out, 4, named))
 }
 
 // The refusal of the base cost at a position, or 0.

@@ -56,27 +56,27 @@ module _ (reg : Register) (ok : R.Valid reg) where
       let a = scheme-accepted reg ok c [] v in
       let b = rw (← e) at (scheme-accepted reg ok c′ [] v′) in
       let d : reached 0x2F c ≡ reached 0x2F c′ = cc in
-      ap (λ p. p .gave) d
+      ap (λ p. p .parsed) d
 
   -- ---- in a job
 
   module _ (s : List ℕ) (p : Progress Scheme) (end : ℕ) (e : schemeInJob reg s ≡ accepted p end) where
-    pub valid-accepted : Valid reg (p .gave) × (p .previous ≡ 0x2F)
+    pub valid-accepted : Valid reg (p .parsed) × (p .previous ≡ 0x2F)
     valid-accepted = let h = ended s p end e in (h .valid, h .previous)
 
-    pub bytes-accepted : s ≡ encodeScheme n (p .gave) ++ drop end s
+    pub bytes-accepted : s ≡ encodeScheme n (p .parsed) ++ drop end s
     bytes-accepted = ended s p end e .bytes
 
-    pub end-accepted : end ≡ length (encodeScheme n (p .gave))
+    pub end-accepted : end ≡ length (encodeScheme n (p .parsed))
     unfolding schemeInJob readPart
     end-accepted =
-        let q = ap length bytes-accepted ∙ length-append (encodeScheme n (p .gave)) (drop end s) in
+        let q = ap length bytes-accepted ∙ length-append (encodeScheme n (p .parsed)) (drop end s) in
         omega (arith, readFrom-end (schemePart reg) s (schemePart reg .start) 0 e, simp length-drop at q)
 
     -- the bytes before the end
-    pub front-accepted : take end s ≡ encodeScheme n (p .gave)
+    pub front-accepted : take end s ≡ encodeScheme n (p .parsed)
     front-accepted =
-        ap (take end) bytes-accepted ∙ take-at (encodeScheme n (p .gave)) (drop end s) end (sym end-accepted)
+        ap (take end) bytes-accepted ∙ take-at (encodeScheme n (p .parsed)) (drop end s) end (sym end-accepted)
 
   module _ (s : List ℕ) (c : Scheme) where
     pub job-iff : (end : ℕ) → (schemeInJob reg s ≡ accepted (reached 0x2F c) end) ↔ (Valid reg c × ((s ≡ encodeScheme n c ++ drop end s) × (end ≡ length (encodeScheme n c))))

@@ -63,5 +63,5 @@ module _ (reg : Register) (s : List ℕ) where
         go (refused n at) f d = absurd (d (sym (ap (λ r. r .number) f) ∙ h))
         go (accepted p end) f d =
             let q : part .position ≡ end = ap (λ r. r .position) f in
-            let m : part .scheme ≡ p .gave = ap (λ r. r .scheme) f in
+            let m : part .scheme ≡ p .parsed = ap (λ r. r .scheme) f in
             rw (m, le-ltb end (length s) (omega arith))

@@ -21,7 +21,7 @@ use Rattle.scheme.proofs.Passes.{product-same, split-same, command-same
 
 -- what has been read so far
 abbrev pub reached : ℕ → Scheme → Progress Scheme
-reached previous sch = record { previous = previous; gave = sch }
+reached previous sch = record { previous = previous; parsed = sch }
 
 -- the operands of the command at a position
 
@@ -108,22 +108,22 @@ module _ (reg : Register) (s : List ℕ) (previous : ℕ) (sch : Scheme) (at : �
       ∙ command-same _ _ _ _ _ (split-same (variables (reg .choices) sch) (leftAt s at) (rightAt s at) (reg .terms) (sch .splits) _ _ _ (λ a b. sym (union-in h (leftAt s at) (rightAt s at) a b)))
 
 module _ (reg : Register) (s : List ℕ) (at : ℕ) (p : Progress Scheme) {previous n terms k splits mask₀ : ℕ} {sets : List ℕ} (h : Shows reg p previous n terms k splits mask₀ sets) where
-  sets-shown : SetsBelow (reg .choices) (p .gave) (variables (reg .choices) (p .gave)) sets
+  sets-shown : SetsBelow (reg .choices) (p .parsed) (variables (reg .choices) (p .parsed)) sets
   sets-shown =
-      rw (h .choices-is) (subst (λ k. SetsBelow n (p .gave) (n + k) sets) (sym (h .products-is)) (h .sets-are))
+      rw (h .choices-is) (subst (λ k. SetsBelow n (p .parsed) (n + k) sets) (sym (h .products-is)) (h .sets-are))
 
   pub shown-product : getD s at 0 ≡ 0x21 → refusal (checksAt (schemePart reg) s p at)
       ≡ refusal (commandChecks (isAmong previous (0 ∷ 0x21 ∷ [])) (length s - at) 3
       (productChecks k (n + k) (leftAt s at) (rightAt s at) (noneIs sets (n + k) (unionIn sets (leftAt s at) (rightAt s at)))))
   shown-product e =
-      rw (← (h .previous-is), ← (h .choices-is), ← (h .products-is)) (in-product reg s (p .previous) (p .gave) at sets sets-shown e)
+      rw (← (h .previous-is), ← (h .choices-is), ← (h .products-is)) (in-product reg s (p .previous) (p .parsed) at sets sets-shown e)
 
   pub shown-split : getD s at 0 ≡ 0x22 → refusal (checksAt (schemePart reg) s p at)
       ≡ refusal (commandChecks (isAmong previous (0 ∷ 0x21 ∷ 0x22 ∷ [])) (length s - at) 3
       (splitChecks terms splits (n + k) (leftAt s at) (rightAt s at) (unionIn sets (leftAt s at) (rightAt s at)) mask₀))
   shown-split e =
-      rw (← (h .previous-is), ← (h .choices-is), ← (h .products-is), ← (h .terms-is), ← (h .mask-is), ← (h .splits-is)) (in-split reg s (p .previous) (p .gave) at sets sets-shown e)
+      rw (← (h .previous-is), ← (h .choices-is), ← (h .products-is), ← (h .terms-is), ← (h .mask-is), ← (h .splits-is)) (in-split reg s (p .previous) (p .parsed) at sets sets-shown e)
 
   pub shown-end : getD s at 0 ≡ 0x2F → refusal (checksAt (schemePart reg) s p at)
       ≡ refusal (commandChecks (isAmong previous (0 ∷ 0x21 ∷ 0x22 ∷ [])) (length s - at) 1 (endChecks terms splits))
-  shown-end e = rw (← (h .previous-is), ← (h .terms-is), ← (h .splits-is)) (ap refusal (checks-end reg s (p .previous) (p .gave) at e))
+  shown-end e = rw (← (h .previous-is), ← (h .terms-is), ← (h .splits-is)) (ap refusal (checks-end reg s (p .previous) (p .parsed) at e))

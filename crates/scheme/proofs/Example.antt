@@ -18,7 +18,7 @@ exampleScheme = record {
   «split_rights» = 0 ∷ 1 ∷ 4 ∷ replicate 253 0;
 }
 
--- product 3 = (0, 1), splits (0, 0), (1, 1), (2, 3)
+-- the builder's scheme for the example's register: one product, and the last term split in two
 abbrev pub builtScheme : Scheme
 builtScheme = record {
   products = 1;

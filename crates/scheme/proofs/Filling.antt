@@ -1,26 +1,21 @@
--- The filling that a plan induces: each product is that of its operands, and g there is the plan's cost.
+-- The filling that a plan induces: each product is that of its operands.
 use mathlib.Core.Path.{_≡_, sym, _∙_, ap}
-use mathlib.Core.Bool.{cond, _&&_}
+use mathlib.Core.Bool.{_&&_}
 use Prim.Native.Nat.{ℕ, _≤_, _<_}
 use lib.Bits.{bitOr}
-use lib.IntN.{ℤ, pos, _+ℤ_, _*ℤ_}
+use lib.IntN.{_*ℤ_}
 use Rattle.integers.specs.Integer.{bit}
 use Rattle.integers.proofs.Lists.{bit-and}
 use Rattle.integers.proofs.Ring.{one-*ℤ}
-use Rattle.integers.proofs.Sum.{sumBelow-cong}
 use Rattle.sets.specs.Sets.{isSubset}
 use Rattle.sets.proofs.Sets.{subset-or}
-use Rattle.forms.specs.Form.{place, value}
-use Rattle.register.specs.declared.Register.{Register}
-use Rattle.plan.specs.Plan.{cost}
+use Rattle.forms.specs.Form.{place}
 use Rattle.scheme.specs.declared.Scheme.{Scheme}
 use Rattle.scheme.specs.Scheme.{left, right, variables}
 use Rattle.scheme.specs.Variables.{E}
 use Rattle.scheme.specs.Filling.{Filling, factor, induced}
-use Rattle.scheme.specs.Function.{g}
-use Rattle.scheme.specs.Valid.{Products, Valid}
+use Rattle.scheme.specs.Valid.{Products}
 use Rattle.scheme.proofs.Variables.{E-product}
-use Rattle.scheme.proofs.Function as F
 
 -- z_k = z_l z_r
 abbrev pub Consistent : ℕ → Scheme → Filling → ℕ → Type 0
@@ -37,11 +32,3 @@ module _ (n : ℕ) (s : Scheme) (plan : ℕ) where
 
   pub two-variables : (i j : ℕ) → factor (induced n s plan) (place i) *ℤ factor (induced n s plan) (place j) ≡ bit (isSubset (bitOr (E n s i) (E n s j)) plan)
   two-variables i j = bit-and (isSubset (E n s i) plan) (isSubset (E n s j) plan) ∙ ap bit (sym (subset-or (E n s i) (E n s j) plan))
-
--- g there is the plan's cost
-pub induced-cost : (c : ℕ → ℤ) (r : Register) (s : Scheme) → Valid r s → (plan : ℕ) → value (factor (induced (r .choices) s plan)) (g c r s) ≡ cost c r plan
-unfolding cost
-induced-cost c r s valid plan =
-    F.value-g (induced (r .choices) s plan) c r s
-    ∙ ap (λ x. r .base +ℤ x)
-    (sumBelow-cong (r .terms) _ _ (λ t h. ap (λ b. cond b (c t) (pos 0)) (sym (subset-or _ _ plan) ∙ ap (λ e. isSubset e plan) (valid .within .splits t (rw (valid .all-split) h) .fits))))

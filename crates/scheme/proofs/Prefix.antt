@@ -22,9 +22,9 @@ far = 3 * maxProducts + 3 * maxTerms
 module _ (reg : Register) (few : reg .terms ≤ maxTerms) where
   -- the position of a command, by what has been read
   record Reach (p : Progress Scheme) (at : ℕ) : Type 0 where
-    near : at ≤ 3 * p .gave .products + 3 * p .gave .splits
-    products : p .gave .products ≤ maxProducts
-    splits : p .gave .splits ≤ reg .terms
+    near : at ≤ 3 * p .parsed .products + 3 * p .parsed .splits
+    products : p .parsed .products ≤ maxProducts
+    splits : p .parsed .splits ≤ reg .terms
 
   limits : Limited (schemePart reg) Reach far 3 (far + 1)
   unfolding fresh total

@@ -26,14 +26,14 @@ use Rattle.scheme.proofs.Splits.{split-within}
 use Rattle.scheme.proofs.Bytes.{end-read, pair-read, body-product, body-split}
 
 pub record Sofar (reg : Register) (s : List ℕ) (p : Progress Scheme) (at : ℕ) : Type 0 where
-  pub within : Within reg (p .gave)
-  pub no-split : (p .previous ≡ 0x22 → ⊥) → p .gave .splits ≡ 0
-  pub bytes : s ≡ encodeBody (reg .choices) (p .gave) ++ drop at s
+  pub within : Within reg (p .parsed)
+  pub no-split : (p .previous ≡ 0x22 → ⊥) → p .parsed .splits ≡ 0
+  pub bytes : s ≡ encodeBody (reg .choices) (p .parsed) ++ drop at s
 
 pub record Ended (reg : Register) (s : List ℕ) (p : Progress Scheme) (end : ℕ) : Type 0 where
-  pub valid : Valid reg (p .gave)
+  pub valid : Valid reg (p .parsed)
   pub previous : p .previous ≡ 0x2F
-  pub bytes : s ≡ encodeScheme (reg .choices) (p .gave) ++ drop end s
+  pub bytes : s ≡ encodeScheme (reg .choices) (p .parsed) ++ drop end s
 
 pub starts : (reg : Register) (s : List ℕ) → Sofar reg s (schemePart reg .start) 0
 unfolding fresh joinBelow
@@ -54,7 +54,7 @@ module _ (reg : Register) (ok : R.Valid reg) (s : List ℕ) (p : Progress Scheme
       go (no a) (yes e) c = split e
       go (no a) (no b) (yes e) = last e
       go (no a) (no b) (no c) =
-          absurd (omega (arith, checks-other reg s (p .previous) (p .gave) at a b c, passed-checksAt (schemePart reg) s p at h))
+          absurd (omega (arith, checks-other reg s (p .previous) (p .parsed) at a b c, passed-checksAt (schemePart reg) s p at h))
 
   -- the bytes read so far, with those of the command
   more : (front x : List ℕ) (k : ℕ) → drop at s ≡ x ++ drop (at + k) s → s ≡ front ++ drop at s → s ≡ (front ++ x) ++ drop (at + k) s
@@ -62,7 +62,7 @@ module _ (reg : Register) (ok : R.Valid reg) (s : List ℕ) (p : Progress Scheme
 
   module _ (g : Sofar reg s p at) where
     abbrev sch : Scheme
-    sch = p .gave
+    sch = p .parsed
 
     abbrev n : ℕ
     n = reg .choices

@@ -33,7 +33,7 @@ part-iff reg ok s c = (to (schemeByItself reg s) refl, λ h. rw (accepted-iff re
     to : (x : Reading (Progress Scheme)) → schemeByItself reg s ≡ x → partAnswer x ≡ answered c → Valid reg c × (s ≡ encodeScheme (reg .choices) c)
     to (refused n at) q e = let z : _≡_ {A = ℕ} 2 0 = ap (λ a. a .part) e in absurd (omega arith)
     to (accepted p end) q e =
-        let g : p .gave ≡ c = ap (λ a. a .scheme) e in
+        let g : p .parsed ≡ c = ap (λ a. a .scheme) e in
         let (j, l) = byItself-end (schemePart reg) s p end q in
         let f : p .previous ≡ 0x2F = valid-accepted reg ok s p end j .1 in
         accepted-iff reg ok s c .0 (q ∙ rw (l, ← f, ← g))
@@ -50,4 +50,4 @@ answer-iff t s c b = (to (registerByItself t) refl, λ (reg, (h, k)). rw (A.acce
     to (accepted p end) q e =
         let (j, l) = byItself-end registerPart t p end q in
         let (v, f) = A.valid-accepted t p end j in
-        (p .gave, (A.accepted-iff t (p .gave) b .0 (q ∙ rw (l, ← f)), part-iff (p .gave) v s c .0 e))
+        (p .parsed, (A.accepted-iff t (p .parsed) b .0 (q ∙ rw (l, ← f)), part-iff (p .parsed) v s c .0 e))

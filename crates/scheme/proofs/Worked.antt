@@ -20,7 +20,7 @@ use Rattle.scheme.specs.Encoding.{encodeProduct, encodeSplit, encodeSche
 use Rattle.scheme.specs.Answer.{schemeAnswer}
 use Rattle.scheme.proofs.Whole.{answered}
 
--- W1: the sets of 3 and 4 are masks 3 and 7
+-- W1: the sets of the example's two products
 pub w1 : map (E 3 exampleScheme) (3 ∷ 4 ∷ []) ≡ 3 ∷ 7 ∷ []
 unfolding E upward upTo
 w1 = refl

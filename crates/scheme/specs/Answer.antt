@@ -19,10 +19,10 @@ pub record Shows (reg : Register) (p : Progress Scheme) (previous choices terms 
   pub previous-is : p .previous ≡ previous
   pub choices-is : reg .choices ≡ choices
   pub terms-is : reg .terms ≡ terms
-  pub products-is : p .gave .products ≡ products
-  pub splits-is : p .gave .splits ≡ splits
-  pub mask-is : mask reg (p .gave .splits) ≡ mask₀
-  pub sets-are : SetsBelow choices (p .gave) (choices + products) sets
+  pub products-is : p .parsed .products ≡ products
+  pub splits-is : p .parsed .splits ≡ splits
+  pub mask-is : mask reg (p .parsed .splits) ≡ mask₀
+  pub sets-are : SetsBelow choices (p .parsed) (choices + products) sets
 
 -- for the reader of a job: a refusal's number and position, or 0, the position past the end and the scheme
 
@@ -31,7 +31,7 @@ refusedRead number at = record { number = number; position = at; scheme = fresh 
 
 abbrev pub schemeRead : Reading (Progress Scheme) → SchemeRead
 schemeRead (refused number at) = refusedRead number at
-schemeRead (accepted p end) = record { number = 0; position = end; scheme = p .gave }
+schemeRead (accepted p end) = record { number = 0; position = end; scheme = p .parsed }
 
 -- of the call: number, part and position of a refusal, other fields 0; or zeros and the scheme
 
@@ -40,12 +40,12 @@ refusedAnswer number part at = record { number = number; part = part; position =
 
 abbrev pub partAnswer : Reading (Progress Scheme) → SchemeAnswer
 partAnswer (refused number at) = refusedAnswer number 2 at
-partAnswer (accepted p end) = record { number = 0; part = 0; position = 0; scheme = p .gave }
+partAnswer (accepted p end) = record { number = 0; part = 0; position = 0; scheme = p .parsed }
 
 -- the scheme by itself, once the register by itself is read
 abbrev pub answerAfter : Reading (Progress Register) → List ℕ → SchemeAnswer
 answerAfter (refused number at) s = refusedAnswer number 1 at
-answerAfter (accepted p end) s = partAnswer (schemeByItself (p .gave) s)
+answerAfter (accepted p end) s = partAnswer (schemeByItself (p .parsed) s)
 
 -- of the bytes of parts 1 and 2
 abbrev pub schemeAnswer : List ℕ → List ℕ → SchemeAnswer

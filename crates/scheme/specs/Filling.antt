@@ -12,7 +12,7 @@ use Rattle.scheme.specs.Variables.{E}
 abbrev pub Filling : Type 0
 Filling = ℕ → Bool
 
--- place 0 has factor 1, place i + 1 has z_i
+-- the factors of the places: 1, z_0, z_1, ..
 abbrev pub factor : Filling → ℕ → ℤ
 factor z = places (pos 1) (λ i. bit (z i))
 

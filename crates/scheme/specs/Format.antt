@@ -46,7 +46,7 @@ productRow reg = record {
   last = false;
 }
 
--- one split for each term: l ≤ r < N, and the union of E_l and E_r is the mask of the term
+-- a split is for a term that has none yet; both variables are there, in order, and their sets together are the term's mask
 unfoldable pub splitChecks : (terms splits N l r union mask : ℕ) → List Check
 splitChecks terms splits N l r union mask =
     check 3 (leb terms splits)

@@ -8,7 +8,7 @@ use Rattle.scheme.specs.declared.Scheme.{Scheme}
 abbrev pub maxProducts : ℕ
 maxProducts = 32
 
--- where there are n choices, product number k = n, n + 1, .. stands for variable l times variable r: its l, and its r
+-- the two operands of product k, where there are n choices; the first product has number n
 
 abbrev pub left : ℕ → Scheme → ℕ → ℕ
 left n s k = getD (s .lefts) (k - n) 0

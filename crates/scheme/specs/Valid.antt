@@ -24,7 +24,7 @@ pub record Rest (n : ℕ) (s : Scheme) : Type 0 where
   pub split-lefts : (t : ℕ) → s .splits ≤ t → splitLeft s t ≡ 0
   pub split-rights : (t : ℕ) → s .splits ≤ t → splitRight s t ≡ 0
 
--- product k stands for variable l times variable r, with l < r < k; its set equals no earlier variable's set
+-- product k: its operands are two variables before it, in order, and its set is not that of any variable before it
 pub record Product (n : ℕ) (s : Scheme) (k : ℕ) : Type 0 where
   pub ordered : left n s k < right n s k
   pub falls : right n s k < k
@@ -33,7 +33,7 @@ pub record Product (n : ℕ) (s : Scheme) (k : ℕ) : Type 0 where
 abbrev pub Products : ℕ → Scheme → Type 0
 Products n s = (k : ℕ) → n ≤ k → k < variables n s → Product n s k
 
--- the split of term t: l ≤ r < N, and the union of E_l and E_r is the mask
+-- the split of term t: two variables in order, or one twice, whose sets together are the term's mask
 pub record Split (reg : Register) (s : Scheme) (t : ℕ) : Type 0 where
   pub ordered : splitLeft s t ≤ splitRight s t
   pub there : splitRight s t < variables (reg .choices) s

@@ -27,6 +27,6 @@ module _ {A : Type 0} (n : ℕ) (s : Scheme) (choice : ℕ → A) (product : ℕ
   unfoldable pub upward : ℕ → A
   upward v = getD (upTo (suc v)) v (choice 0)
 
--- the set E of a choice is that choice; of a product, the union of its operands' sets
+-- the choices behind a variable, as a mask: one bit for a choice, those of both operands for a product
 unfoldable pub E : ℕ → Scheme → ℕ → ℕ
 E n s = upward n s (λ i. 2 ^ i) (λ v a b. bitOr a b)

@@ -24,10 +24,10 @@ ghost use Rattle.scheme.specs.Answer.{Shows, refusedRead, schemeRead, re
 pub struct Scheme {
     pub products: usize,
     pub splits: usize,
-    pub lefts: [u8; Scheme::PRODUCTS],
-    pub rights: [u8; Scheme::PRODUCTS],
-    pub split_lefts: [u8; Register::TERMS],
-    pub split_rights: [u8; Register::TERMS],
+    pub lefts: [u8; Scheme::MAX_PRODUCTS],
+    pub rights: [u8; Scheme::MAX_PRODUCTS],
+    pub split_lefts: [u8; Register::MAX_TERMS],
+    pub split_rights: [u8; Register::MAX_TERMS],
 }
 
 // What reading the scheme at the front of a run of bytes leads to: a refusal's number and position, or 0, the position past
@@ -48,10 +48,10 @@ pub struct SchemeAnswer {
 }
 
 impl Scheme {
-    pub const PRODUCTS: usize = 32;
+    pub const MAX_PRODUCTS: usize = 32;
 
     // Choices and products together.
-    pub const VARIABLES: usize = Register::CHOICES + Scheme::PRODUCTS;
+    pub const MAX_VARIABLES: usize = Register::MAX_CHOICES + Scheme::MAX_PRODUCTS;
 
     pub fn fresh() -> Scheme
         ensures { λ r. ⌜ r ≡ fresh ⌝ }
@@ -59,10 +59,10 @@ impl Scheme {
         Scheme {
             products: 0,
             splits: 0,
-            lefts: [0; Scheme::PRODUCTS],
-            rights: [0; Scheme::PRODUCTS],
-            split_lefts: [0; Register::TERMS],
-            split_rights: [0; Register::TERMS],
+            lefts: [0; Scheme::MAX_PRODUCTS],
+            rights: [0; Scheme::MAX_PRODUCTS],
+            split_lefts: [0; Register::MAX_TERMS],
+            split_rights: [0; Register::MAX_TERMS],
         }
     }
 }
@@ -124,11 +124,11 @@ fn is_new(sets: &[u32], count: usize, union: u32) -> bool
 }
 
 // The sets of n choices.
-pub fn choice_sets(n: usize) -> [u32; Scheme::VARIABLES]
+pub fn choice_sets(n: usize) -> [u32; Scheme::MAX_VARIABLES]
     requires { ⌜ n ≤ maxChoices ⌝ }
     ensures { λ r. ⌜ ((s : Scheme) → SetsBelow n s n r) ⌝ }
 {
-    let mut sets = [0; Scheme::VARIABLES];
+    let mut sets = [0; Scheme::MAX_VARIABLES];
     let mut i = 0;
     while i < n {
         sets[i] = 1u32 << i;
@@ -138,7 +138,7 @@ pub fn choice_sets(n: usize) -> [u32; Scheme::VARIABLES]
 }
 
 // The sets of all variables, where there are n choices.
-pub fn sets_of(n: usize, scheme: Scheme) -> [u32; Scheme::VARIABLES]
+pub fn sets_of(n: usize, scheme: Scheme) -> [u32; Scheme::MAX_VARIABLES]
     requires { ⌜ n ≤ maxChoices ⌝ }
     requires { ⌜ scheme .products ≤ maxProducts ⌝ }
     requires { ⌜ Products n scheme ⌝ }
@@ -163,7 +163,7 @@ fn product_refusal(sets: &[u32], n: usize, k: usize, l: u8, r: u8) -> u8
     let unnamed = (count <= l as usize) | (count <= r as usize);
     let known = !is_new(sets, count, union_of(sets, l, r));
     let named = first_of(unnamed, 5, first_of(r <= l, 6, first_of(known, 8, 0)));
-    first_of(Scheme::PRODUCTS <= k, 3, named)
+    first_of(Scheme::MAX_PRODUCTS <= k, 3, named)
 }
 
 // The refusal of the split l, r after others, for a term with this mask, where there are so many terms and variables, or 0.

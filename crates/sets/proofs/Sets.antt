@@ -9,8 +9,9 @@ use native.Mathlib.Decide.{decLt, ℕ-discrete}
 use lib.Arith.{bin-ind}
 use lib.Dec.{T, eqb, eqb→eq, eqb-refl, T-not}
 use lib.Bits.{bitAnd, bitOr, and-step, or-step, or-shr, and-zero-r, or-add-and, and-le-l, and-le-r, and-comm}
-use Rattle.integers.proofs.Lists.{T-and, T-ext}
-use Rattle.sets.specs.Sets.{isMember, isSubset, isProperSubset, setOf}
+use borrow.Author.Tests.{ne-eqb}
+use Rattle.integers.proofs.Lists.{T-and, T-true, T-ext}
+use Rattle.sets.specs.Sets.{isMember, isSubset, isProperSubset, ProperSubset, setOf}
 
 -- ---- membership
 
@@ -164,6 +165,14 @@ proper-union a b t = subset-union a b .0 (T-and (isSubset a b) (not (eqb a b)) .
 pub proper-other : (a b : ℕ) → T (isProperSubset a b) → a ≡ b → ⊥
 unfolding isProperSubset
 proper-other a b t e = T-not (eqb a b) (T-and (isSubset a b) (not (eqb a b)) .0 t .1) (rw e (eqb-refl b))
+
+-- the test of a proper subset is the condition on members
+pub proper-iff : (a b : ℕ) → T (isProperSubset a b) ↔ ProperSubset a b
+unfolding isProperSubset
+proper-iff a b = (
+  (λ t. (subset-members a b .0 (T-and (isSubset a b) (not (eqb a b)) .0 t .0), proper-other a b t)),
+  (λ h. T-and (isSubset a b) (not (eqb a b)) .1 (subset-members a b .1 (h .0), T-true (not (eqb a b)) .1 (rw (ne-eqb a b (h .1))))),
+)
 
 -- ---- one choice, and the choices below n
 

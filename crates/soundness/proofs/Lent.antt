@@ -71,7 +71,7 @@ cost-ten plan = rw (reads .terms, reads .base) refl
 pub lent-fails : (check : CheckCall) (plain : PlainCall) → Demand3 lentCall check plain → ⊥
 lent-fails check plain demand =
     let bytes : Bytes register = (omega arith, (omega arith, (omega arith, (omega arith, (omega arith, (omega arith, (omega arith, (omega arith, (omega arith, (omega arith, (omega arith, tt))))))))))) in
-    let d = demand .of-accepted register scheme bytes (omega arith, tt) (reads .accepts) zeros (omega (arith, length-replicate tableNumbers (pos 0))) .least in
+    let d = demand .of-accepted register scheme bytes (reads .accepts) zeros (omega (arith, length-replicate tableNumbers (pos 0))) .least in
     let zero : d .least ≡ pos 0 = sym (d .of-first .reached) ∙ value-zero (d .of-first .witness) in
     let ten : d .least ≡ pos 10 = sym (d .of-second .reached) ∙ cost-ten (d .of-second .witness) in
     let none : _≡_ {A = ℕ} 0 10 = ap natAbs (sym zero ∙ ten) in

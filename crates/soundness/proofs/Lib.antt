@@ -1,3 +1,7 @@
--- Demand 3 holds of our calls, and fails for a penalty call that hands back the table as it was lent.
+-- The statements hold of our calls; demand 3 fails for a penalty call that hands back the table as it was lent.
 pub mod Ours
 pub mod Lent
+pub mod Jobs
+pub mod Acceptance
+pub mod Refusals
+pub mod Writers

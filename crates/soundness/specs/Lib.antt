@@ -1,3 +1,9 @@
--- Demand 3, as a predicate of the penalty call, the check and the call that writes our own certificate.
+-- What the calls are held to, each statement a predicate of any such calls: what they accept, what a refusal says, what they
+-- write, demand 3, and what a farm reads of a job.
 pub mod Calls
+pub mod Parts
+pub mod Acceptance
+pub mod Refusals
+pub mod Writers
 pub mod Demand3
+pub mod Jobs

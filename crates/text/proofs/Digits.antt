@@ -11,7 +11,7 @@ use lib.Signed.{ltZ}
 use lib.IntN.{ℤ, pos, negsuc, natAbs}
 use borrow.Author.Tests.{lt-ltb, le-ltb, ltb-true, ltb-false}
 use Rattle.integers.proofs.Lists.{flag}
-use Rattle.wire.specs.Text.{digitsTo, digits, decimal}
+use Rattle.text.specs.Text.{digitsTo, digits, decimal}
 use Rattle.text.specs.Fields.{sign}
 
 to-one : (k n : ℕ) → n < 10 → digitsTo (suc k) n ≡ (48 + n) ∷ []

@@ -5,7 +5,7 @@ use mathlib.Core.Path.{_≡_, refl, sym, ap, _∙_}
 use mathlib.Core.List.{List, [], _∷_, _++_, append-assoc, append-nil, flatMap}
 use lib.ListN.{length, length-append}
 use lib.IntN.{ℤ, pos, natAbs}
-use Rattle.wire.specs.Text.{digits, decimal, line}
+use Rattle.text.specs.Text.{digits, decimal, line}
 use Rattle.text.specs.Fields.{field, sign}
 use Rattle.text.proofs.Digits.{decimal-sign}
 

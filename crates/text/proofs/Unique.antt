@@ -10,7 +10,7 @@ use lib.ListN.{length, getD, drop}
 use borrow.Author.Tests.{ltb-true, ltb-false}
 use Rattle.integers.specs.Lists.{All, joinBelow}
 use Rattle.integers.proofs.Lists.{flag, All-append, All-map}
-use Rattle.wire.specs.Text.{digits, decimal, line}
+use Rattle.text.specs.Text.{digits, decimal, line}
 use Rattle.text.proofs.Digits.{digits-one, digits-more}
 
 -- the first element and the others
@@ -44,19 +44,25 @@ digits-say (suc k) n l =
 pub digits-determine : (m n : ℕ) → digits m ≡ digits n → m ≡ n
 digits-determine m n e = sym (digits-say (suc m) m (omega arith)) ∙ ap (value 0) e ∙ digits-say (suc n) n (omega arith)
 
--- ---- a field's bytes are above the space
+-- ---- a field's bytes are above the space, and none is above the digits
 
-digits-above : (k n : ℕ) → n < k → All (λ b. 47 < b) (digits n)
-digits-above zero n l = absurd (omega arith)
-digits-above (suc k) n l =
+abbrev Digit : ℕ → Type 0
+Digit b = (47 < b) × (b < 58)
+
+digits-to : (k n : ℕ) → n < k → All Digit (digits n)
+digits-to zero n l = absurd (omega arith)
+digits-to (suc k) n l =
     flag (ltb n 10)
-    (λ t. subst (All (λ b. 47 < b)) (sym (digits-one n (ltb-true n 10 t))) (omega arith, tt))
+    (λ t. let h = ltb-true n 10 t in subst (All Digit) (sym (digits-one n h)) ((omega arith, omega arith), tt))
     (λ f.
     let h = ltb-false n 10 f in
-    subst (All (λ b. 47 < b)) (sym (digits-more n h)) (All-append (λ b. 47 < b) (digits (n / 10)) ((48 + n % 10) ∷ []) (digits-above k (n / 10) (omega arith)) (omega arith, tt)))
+    subst (All Digit) (sym (digits-more n h)) (All-append Digit (digits (n / 10)) ((48 + n % 10) ∷ []) (digits-to k (n / 10) (omega arith)) ((omega arith, omega arith), tt)))
+
+digits-are : (n : ℕ) → All Digit (digits n)
+digits-are n = digits-to (suc n) n (omega arith)
 
 high : (n : ℕ) → All (λ b. 47 < b) (digits n)
-high n = digits-above (suc n) n (omega arith)
+high n = All-map Digit (λ b. 47 < b) (λ b h. h .0) (digits n) (digits-are n)
 
 decimal-above : (z : ℤ) → All (λ b. 32 < b) (decimal z)
 unfolding decimal
@@ -117,6 +123,28 @@ pub line-determines : (a b : ℕ) (xs ys : List ℤ) (u v : List ℕ) → line a
 unfolding line
 line-determines a b xs ys u v e =
     (head-is e, fields-determine xs ys u v (sym (append-assoc (fields xs) (0x0A ∷ []) u) ∙ tail-is e ∙ append-assoc (fields ys) (0x0A ∷ []) v))
+
+-- ---- a byte above the digits that is not a line's letter stands nowhere in the line
+
+abbrev Low : ℕ → Type 0
+Low b = b < 58
+
+fields-low : (xs : List ℤ) → All Low (fields xs)
+unfolding flatMap decimal
+fields-low [] = tt
+fields-low (x ∷ xs) = (omega arith, All-append Low (decimal x) (fields xs) (low x) (fields-low xs))
+  where
+    digits-low : (n : ℕ) → All Low (digits n)
+    digits-low n = All-map Digit Low (λ b h. h .1) (digits n) (digits-are n)
+
+    low : (z : ℤ) → All Low (decimal z)
+    low (pos n) = digits-low n
+    low (negsuc n) = (omega arith, digits-low (suc n))
+
+pub line-without : (byte letter : ℕ) (xs : List ℤ) → 57 < byte → (letter ≡ byte → ⊥) → All (λ b. b ≡ byte → ⊥) (line letter xs)
+unfolding line
+line-without byte letter xs l d =
+    (d, All-map Low (λ b. b ≡ byte → ⊥) (λ b h e. absurd (omega arith)) (fields xs ++ (0x0A ∷ [])) (All-append Low (fields xs) (0x0A ∷ []) (fields-low xs) (omega arith, tt)))
 
 -- ---- a text of lines
 

@@ -2,7 +2,7 @@
 use Prim.Native.Nat.{ℕ}
 use mathlib.Core.List.{List, [], _∷_}
 use lib.IntN.{ℤ, pos, negsuc}
-use Rattle.wire.specs.Text.{decimal}
+use Rattle.text.specs.Text.{decimal}
 
 -- one space, and the number in decimal
 unfoldable pub field : ℤ → List ℕ

@@ -4,7 +4,7 @@ ghost use mathlib.Core.List.{[], _∷_};
 ghost use Prim.Native.Nat.{_+_, _≤_};
 ghost use lib.ListN.{length};
 ghost use lib.IntN.{pos};
-ghost use Rattle.wire.specs.Text.{digits, line};
+ghost use Rattle.text.specs.Text.{digits, line};
 ghost use Rattle.wire.specs.Number.{written};
 ghost use Rattle.text.specs.Fields.{field, sign};
 

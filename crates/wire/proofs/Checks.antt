@@ -3,13 +3,13 @@ use Prim.Native.Nat.{ℕ, _<_, _≤_}
 use native.Mathlib.Omega.{arith}
 use mathlib.Core.Path.{_≡_, refl, sym, _∙_}
 use mathlib.Core.Logic.{_⊎_, inl, inr}
-use mathlib.Core.Bool.{Bool, true, false, cond, _&&_}
+use mathlib.Core.Bool.{Bool, true, false, cond, _&&_, false≢true}
 use mathlib.Core.List.{List, [], _∷_, _++_}
 use lib.Dec.{T, leb, leb→le}
 use mir.Facts.{and-yes}
 use Rattle.integers.specs.Lists.{All}
 use borrow.Author.Tests.{ltb-false}
-use Rattle.wire.specs.Checks.{Check, refusal, commandChecks}
+use Rattle.wire.specs.Checks.{Check, refusal, commandChecks, Fails, NoLower}
 
 -- no check fails
 abbrev pub Passed : List Check → Type 0
@@ -19,22 +19,10 @@ Passed cs = All (λ c. c .fails ≡ false) cs
 abbrev pub Numbered : List Check → Type 0
 Numbered cs = All (λ c. 0 < c .number) cs
 
--- a check with this number fails
-abbrev pub Fails : ℕ → List Check → Type 0
-Fails n [] = ⊥
-Fails n (c ∷ cs) = ((c .fails ≡ true) × (c .number ≡ n)) ⊎ Fails n cs
-
--- the checks that fail have this number or a higher one
-abbrev pub NoLower : ℕ → List Check → Type 0
-NoLower n cs = All (λ c. c .fails ≡ true → n ≤ c .number) cs
-
 -- the numbers do not fall, and start at m or above
 abbrev pub risingFrom : ℕ → List Check → Bool
 risingFrom m [] = true
 risingFrom m (c ∷ cs) = leb m (c .number) && risingFrom (c .number) cs
-
-abbrev pub rising : List Check → Bool
-rising cs = risingFrom 0 cs
 
 pub refusal-none : (cs : List Check) → Numbered cs → refusal cs ≡ 0 → Passed cs
 unfolding refusal
@@ -95,8 +83,29 @@ lowest m (c ∷ cs) r =
     by false k q rest = (λ f. let z : _≡_ {A = ℕ} 0 1 = cc in absurd (omega arith), rest)
 
 -- within one command, the lowest number: where the numbers do not fall, no check that fails has a lower one than that which is refused
-pub refusal-lowest : (cs : List Check) (n : ℕ) → T (rising cs) → refusal cs ≡ n → NoLower n cs
-refusal-lowest cs n r e = rw e at (lowest 0 cs r)
+pub refusal-lowest : (m : ℕ) (cs : List Check) (n : ℕ) → T (risingFrom m cs) → refusal cs ≡ n → NoLower n cs
+refusal-lowest m cs n r e = rw e at (lowest m cs r)
+
+-- and only the lowest number is refused
+
+no-lower : (k n : ℕ) (cs : List Check) → NoLower k cs → Fails n cs → k ≤ n
+no-lower k n [] l f = absurd f
+no-lower k n (c ∷ cs) l (inl (t, e)) = rw e at (l .0 t)
+no-lower k n (c ∷ cs) l (inr f) = no-lower k n cs (l .1) f
+
+some-fails : (n : ℕ) (cs : List Check) → Fails n cs → Fails (refusal cs) cs
+unfolding refusal
+some-fails n [] f = absurd f
+some-fails n (c ∷ cs) f = by (c .fails) (c .number) f (some-fails n cs)
+  where
+    by : (b : Bool) (m : ℕ) → ((b ≡ true) × (m ≡ n)) ⊎ Fails n cs → (Fails n cs → Fails (refusal cs) cs) → ((b ≡ true) × (m ≡ cond b m (refusal cs))) ⊎ Fails (cond b m (refusal cs)) cs
+    by true m g rest = inl (refl, refl)
+    by false m (inl (t, e)) rest = absurd (false≢true t)
+    by false m (inr g) rest = inr (rest g)
+
+pub lowest-refusal : (m : ℕ) (cs : List Check) (n : ℕ) → T (risingFrom m cs) → Fails n cs → NoLower n cs → (refusal cs ≡ n) × (m ≤ n)
+lowest-refusal m cs n r f l =
+    (omega (arith, no-lower (refusal cs) n cs (lowest m cs r) f, no-lower n (refusal cs) cs l (some-fails n cs f)), no-lower m n cs (above m m (omega arith) cs r) f)
 
 -- ---- the checks of a command, where the common ones gave n
 

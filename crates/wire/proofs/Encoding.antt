@@ -14,6 +14,7 @@ use borrow.Author.Tests.{ltb-false, le-ltb}
 use Rattle.wire.specs.Number.{Bytes, bytesOf}
 use Rattle.wire.specs.Part.{Part, Reading, refused, accepted, operandsAt, total, size, afterAt, readFrom, readPart, byItself}
 use Rattle.wire.specs.Encoding.{Command, fields, Fit, encodeCommand, encode, Allowed, afterCommand, Accepts}
+use Rattle.wire.specs.Refused.{Reaches}
 use Rattle.wire.proofs.Number.{bytes-at, natAt-below, natAt-front, bytesOf-natAt, length-bytesOf}
 use Rattle.integers.proofs.Lists.{flag}
 use Rattle.wire.proofs.Part.{operands, Passes, Ways, by-ways, passed-checksAt, readFrom-goes, readFrom-ends, readFrom-end}
@@ -116,6 +117,24 @@ module _ {S : Type 0} (P : Part S) where
   passes s read at rest a e =
       let long : length s - at ≡ size P (getD s at 0) + length rest = sym (length-drop at s) ∙ ap length e ∙ rw (length-append, length-command (commandAt s at) (a .operands)) in
       record { inside = omega arith; here = a .here; room = omega arith; allowed = a .passes }
+
+  -- commands that are allowed one after the other are read from their bytes, and reading goes on after them
+  pub reads-through : (cs : List Command) (s : List ℕ) (read : S) (at : ℕ) (next : S) (post : List ℕ) → Reaches P read cs next → drop at s ≡ encode P cs ++ post → readFrom P s read at ≡ readFrom P s next (at + length (encode P cs))
+  unfolding encode flatMap afterAt
+  reads-through [] s read at next post r e = rw (r, add-zero)
+  reads-through (c ∷ cs) s read at next post r e =
+      let e′ : drop at s ≡ encodeCommand P c ++ (encode P cs ++ post) = e ∙ append-assoc (encodeCommand P c) (encode P cs) post in
+      let q : commandAt s at ≡ c = commandAt-reads s at c (encode P cs ++ post) (r .0 .operands) e′ in
+      subst (λ (c : Command). Reaches P read (c ∷ cs) next → drop at s ≡ encodeCommand P c ++ (encode P cs ++ post) → readFrom P s read at ≡ readFrom P s next (at + length (encodeCommand P c ++ encode P cs))) q
+      (first (λ read′ at′ r′ x. reads-through cs s read′ at′ next post r′ x)) r e′
+    where
+      first : ((read : S) (at : ℕ) → Reaches P read cs next → drop at s ≡ encode P cs ++ post → readFrom P s read at ≡ readFrom P s next (at + length (encode P cs)))
+          → Reaches P read (commandAt s at ∷ cs) next → drop at s ≡ encodeCommand P (commandAt s at) ++ (encode P cs ++ post)
+          → readFrom P s read at ≡ readFrom P s next (at + length (encodeCommand P (commandAt s at) ++ encode P cs))
+      first later r e =
+          let p = passes s read at (encode P cs ++ post) (r .0) e in
+          let n : length (encodeCommand P (commandAt s at)) ≡ size P (getD s at 0) = length-command (commandAt s at) (r .0 .operands) in
+          readFrom-goes P s read at (p .inside) (passed-checksAt P s read at p) (r .1 .0) ∙ later _ _ (r .1 .1) (after-first s at _ (encodeCommand P (commandAt s at)) _ n e) ∙ rw (length-append, n, add-assoc)
 
   pub complete-at : (cs : List Command) (s : List ℕ) (read : S) (at : ℕ) (end : S) (post : List ℕ) → Accepts P read cs end → drop at s ≡ encode P cs ++ post → readFrom P s read at ≡ accepted end (at + length (encode P cs))
   unfolding encode flatMap afterAt

@@ -5,12 +5,12 @@ use native.Mathlib.Omega.{arith}
 use mathlib.Core.Path.{_≡_, refl, sym, ap, _∙_}
 use mathlib.Core.List.{List, [], _∷_, _++_, append-assoc}
 use lib.ListN.{length, take, drop, getD, length-drop, length-take}
-use lib.Seq.{take-add, drop-drop, drop-cons, length-take-le, take-at, drop-at, sets, sets-eq, length-sets}
+use lib.Seq.{take-add, drop-drop, drop-cons, length-take-le, take-at, drop-at, sets, sets-eq}
 use lib.Arith.{mod-mul, digits-div, digits-mod}
 use lib.IntN.{ℤ}
 use mir.Syntax.{Width, w8, w16, w32, w64, w128}
 use mir.Val.{Fits, SFits, ofZ, bits}
-use mir.Facts.{toZ-ofZ, ofZ-toZ, sfits-toZ, fits-ofZ}
+use mir.Facts.{toZ-ofZ, ofZ-toZ, fits-ofZ}
 use Rattle.integers.proofs.Lists.{All-append}
 use Rattle.wire.specs.Number.{Bytes, little, natAt, intAt, bytesOf, putAt}
 
@@ -134,10 +134,6 @@ pub sets-append : (l : List ℕ) (i : ℕ) (xs ys : List ℕ) → sets l i (xs +
 sets-append l i [] ys = rw add-zero
 sets-append l i (x ∷ xs) ys = rw (sets-append _ (suc i) xs ys, add-suc, suc-add)
 
-pub length-putAt : (k : ℕ) (s : List ℕ) (at n : ℕ) → length (putAt k s at n) ≡ length s
-unfolding putAt
-length-putAt k s at n = length-sets s at (bytesOf k n)
-
 -- a number's low j bytes, and then the others
 pub putAt-split : (j k : ℕ) (s : List ℕ) (at n : ℕ) → putAt k (putAt j s at (n % 256 ^ j)) (at + j) (n / 256 ^ j) ≡ putAt (j + k) s at n
 unfolding putAt
@@ -167,23 +163,10 @@ bytes-bits w128 = refl
 natAt-fits : (w : Width) (s : List ℕ) (at : ℕ) → Bytes s → Fits w (natAt (bits w / 8) s at)
 natAt-fits w s at b = record { fits = rw bytes-bits at (natAt-below (bits w / 8) s at b) }
 
-pub intAt-fits : (w : Width) (s : List ℕ) (at : ℕ) → Bytes s → SFits w (intAt w s at)
-unfolding intAt
-intAt-fits w s at b = sfits-toZ (natAt-fits w s at b)
-
 -- the unsigned number of the signed one
 pub ofZ-intAt : (w : Width) (s : List ℕ) (at : ℕ) → Bytes s → ofZ w (intAt w s at) ≡ natAt (bits w / 8) s at
 unfolding intAt
 ofZ-intAt w s at b = ofZ-toZ (natAt-fits w s at b)
-
-pub bytesOf-intAt : (w : Width) (s : List ℕ) (at : ℕ) → Bytes s → at + bits w / 8 ≤ length s → bytesOf (bits w / 8) (ofZ w (intAt w s at)) ≡ take (bits w / 8) (drop at s)
-bytesOf-intAt w s at b h = rw (ofZ-intAt w s at b) (bytesOf-natAt (bits w / 8) s at b h)
-
--- the signed number whose bytes stand at a position
-pub intAt-front : (w : Width) (s : List ℕ) (at : ℕ) (z : ℤ) (rest : List ℕ) → drop at s ≡ bytesOf (bits w / 8) (ofZ w z) ++ rest → SFits w z → intAt w s at ≡ z
-unfolding intAt
-intAt-front w s at z rest e f =
-    rw (natAt-front (bits w / 8) s at (ofZ w z) rest e (rw bytes-bits (fits-ofZ f .fits))) (toZ-ofZ f)
 
 -- a signed number that is written reads back
 pub intAt-putAt : (w : Width) (s : List ℕ) (at : ℕ) (z : ℤ) → SFits w z → at + bits w / 8 ≤ length s → intAt w (putAt (bits w / 8) s at (ofZ w z)) at ≡ z

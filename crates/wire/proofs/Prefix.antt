@@ -132,10 +132,10 @@ rowOf-by Q (row ∷ rows) b none h =
 -- a command of a row takes at most M bytes, and keeps Reach or ends the part at E at most
 pub record Keeps {R : Type 0} (Reach : Progress R → ℕ → Type 0) (M E b : ℕ) (row : Row R) : Type 0 where
   pub small : suc (total (row .widths)) ≤ M
-  pub moves : (p : Progress R) (at : ℕ) (xs : List ℕ) → Reach p at → isAmong (p .previous) (row .follows) ≡ true → refusal (row .checks (p .gave) xs) ≡ 0
-      → cond (row .last) (at + suc (total (row .widths)) ≤ E) (Reach (record { previous = b; gave = row .after (p .gave) xs }) (at + suc (total (row .widths))))
+  pub moves : (p : Progress R) (at : ℕ) (xs : List ℕ) → Reach p at → isAmong (p .previous) (row .follows) ≡ true → refusal (row .checks (p .parsed) xs) ≡ 0
+      → cond (row .last) (at + suc (total (row .widths)) ≤ E) (Reach (record { previous = b; parsed = row .after (p .parsed) xs }) (at + suc (total (row .widths))))
 
-pub limited : {R : Type 0} (fresh : R) (rows : List (Row R)) {Reach : Progress R → ℕ → Type 0} {B M E : ℕ} → 1 ≤ M → Reach (record { previous = 0; gave = fresh }) 0
+pub limited : {R : Type 0} (fresh : R) (rows : List (Row R)) {Reach : Progress R → ℕ → Type 0} {B M E : ℕ} → 1 ≤ M → Reach (record { previous = 0; parsed = fresh }) 0
     → ((p : Progress R) (at : ℕ) → Reach p at → at ≤ B) → All (λ row. Keeps Reach M E (row .byte) row) rows → Limited (partOf fresh rows) Reach B M E
 unfolding total
 limited fresh rows {Reach} {B} {M} {E} some start near h =

@@ -10,7 +10,6 @@ use mir.Syntax.{Width, w64}
 use mir.Val.{Fits, SFits, toZ, ofZ, bits, hbits}
 use mir.ValLaws.{pow-bits}
 use mir.Facts.{toZ-pos, toZ-ofZ, sfits-toZ}
-use Rattle.integers.proofs.Machine.{signed-small, cast-read}
 use borrow.Author.Tests.{le-ltb, ltb-true}
 
 pub minus-one-less : (n : ℕ) → negsuc 0 -ℤ pos n ≡ negsuc n
@@ -77,11 +76,3 @@ module _ (w : Width) (z : ℤ) (n : ℕ) (f : SFits w64 z) (g : Fits w n) (e : z
 
   pub narrow-read : toZ w (ofZ w (toZ w64 (ofZ w64 z))) ≡ toZ w n
   narrow-read = rw (toZ-ofZ f, e) (toZ-ofZ (sfits-toZ g))
-
--- a signed number of a narrower width, cast to 64 bits, and then its unsigned number in its width
-module _ (w : Width) (z : ℤ) (l : 2 ^ hbits w < 2 ^ hbits w64) (f : SFits w z) where
-  pub wide-small : natAbs (toZ w64 (ofZ w64 (toZ w (ofZ w z)))) ≤ 2 ^ hbits w
-  wide-small = rw (cast-read w w64 z l f) (signed-small w z f)
-
-  pub wide-bits : {n : ℕ} → n ≡ ofZ w (toZ w64 (ofZ w64 (toZ w (ofZ w z)))) → n ≡ ofZ w z
-  wide-bits e = e ∙ ap (ofZ w) (cast-read w w64 z l f)

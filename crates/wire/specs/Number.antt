@@ -1,9 +1,7 @@
--- Numbers in a run of bytes: little-endian, signed ones in two's complement.
+-- Numbers in a run of bytes, the least byte first; below zero by two's complement.
 use Prim.Native.Nat.{ℕ, zero, suc, _+_, _*_, _/_, _%_, _<_}
-use mathlib.Core.Bool.{cond}
-use mathlib.Core.List.{List, [], _∷_, _++_}
-use lib.Dec.{ltb}
-use lib.ListN.{length, take, drop}
+use mathlib.Core.List.{List, [], _∷_}
+use lib.ListN.{take, drop}
 use lib.Seq.{sets}
 use lib.IntN.{ℤ}
 use mir.Syntax.{Width}
@@ -39,7 +37,3 @@ putAt k s at n = sets s at (bytesOf k n)
 -- s with bytes at a position
 unfoldable pub written : List ℕ → ℕ → List ℕ → List ℕ
 written s at bytes = sets s at bytes
-
--- bytes at the front of a lent buffer: one below them is unchanged, and else it begins with them, its rest unchanged
-abbrev pub withFront : List ℕ → List ℕ → List ℕ
-withFront bytes lent = cond (ltb (length lent) (length bytes)) lent (bytes ++ drop (length bytes) lent)

@@ -65,7 +65,7 @@ module _ {S : Type 0} (P : Part S) where
       let next = afterAt s read at in
       cond (eqb number 0) (cond (P .last b) (stops (accepted next (at + size b))) (goes next (at + size b))) (stops (refused number at))
 
-  -- where the command byte itself is missing, the position is where it would stand
+  -- no byte at this position: refused 2 right here
   unfoldable pub step : List ℕ → S → ℕ → Step S
   step s read at = cond (ltb at (length s)) (command s read at) (stops (refused 2 at))
 
@@ -86,7 +86,7 @@ module _ {S : Type 0} (P : Part S) where
   unfoldable pub readPart : List ℕ → Reading S
   readPart s = readFrom s (P .start) 0
 
--- a part that is a run of bytes by itself: bytes after its end are refused 12, at the first byte past the end
+-- a part outside a job has all the bytes: one more than it needs is refused 12, where it stands
 unfoldable pub byItself : {S : Type 0} → List ℕ → Reading S → Reading S
 byItself s (refused number at) = refused number at
 byItself s (accepted read end) = cond (ltb end (length s)) (refused 12 end) (accepted read end)

@@ -10,7 +10,7 @@ use Rattle.wire.specs.Part.{Part}
 -- what has been read so far: the byte of the last command, 0 before the first, and what the commands gave, an R
 pub record Progress (R : Type 0) : Type 0 where
   pub previous : ℕ
-  pub gave : R
+  pub parsed : R
 
 -- a command
 pub record Row (R : Type 0) : Type 0 where
@@ -42,11 +42,11 @@ rowOf (r ∷ rs) b = cond (eqb b (r .byte)) r (rowOf rs b)
 
 abbrev pub partOf : {R : Type 0} → R → List (Row R) → Part (Progress R)
 partOf fresh rows = record {
-  start = record { previous = 0; gave = fresh };
+  start = record { previous = 0; parsed = fresh };
   here = λ p b. isAmong (p .previous) (rowOf rows b .follows);
   widths = λ b. rowOf rows b .widths;
-  checks = λ p b. rowOf rows b .checks (p .gave);
-  after = λ p b xs. record { previous = b; gave = rowOf rows b .after (p .gave) xs };
+  checks = λ p b. rowOf rows b .checks (p .parsed);
+  after = λ p b xs. record { previous = b; parsed = rowOf rows b .after (p .parsed) xs };
   last = λ b. rowOf rows b .last;
 }
 

@@ -9,6 +9,41 @@ ghost use mir.Syntax.{Width, w16, w32, w64};
 ghost use mir.Val.{toZ, ofZ, bits};
 ghost use Rattle.wire.specs.Number.{natAt, intAt, putAt};
 ghost use Rattle.wire.specs.Checks.{commandChecks, refusal};
+ghost use Rattle.wire.specs.Writer.{refusedAnswer, writtenAnswer};
+
+// The answer of a call that writes bytes into a lent buffer: a refusal's number, part and position, or zeros and the count of
+// bytes written.
+#[repr(C)]
+pub struct WriterAnswer {
+    pub number: u8,
+    pub part: u8,
+    pub position: usize,
+    pub count: usize,
+}
+
+impl WriterAnswer {
+    pub fn refused(number: u8, part: u8, position: usize) -> WriterAnswer
+        ensures { λ r. ⌜ r ≡ refusedAnswer number part position ⌝ }
+    {
+        WriterAnswer {
+            number: number,
+            part: part,
+            position: position,
+            count: 0,
+        }
+    }
+
+    pub fn written(count: usize) -> WriterAnswer
+        ensures { λ r. ⌜ r ≡ writtenAnswer count ⌝ }
+    {
+        WriterAnswer {
+            number: 0,
+            part: 0,
+            position: 0,
+            count: count,
+        }
+    }
+}
 
 pub fn u8_at(bytes: &[u8], at: usize) -> u8
     requires { ⌜ at + 1 ≤ length (now bytes) ⌝ }
@@ -123,20 +158,6 @@ pub fn put_u64(bytes: &mut [u8], at: usize, x: u64)
 {
     put_u32(bytes, at, (x % 4294967296) as u32);
     put_u32(bytes, at + 4, (x / 4294967296) as u32);
-}
-
-pub fn put_i16(bytes: &mut [u8], at: usize, x: i16)
-    requires { ⌜ at + 2 ≤ length (now bytes) ⌝ }
-    ensures { λ _. ⌜ now (bytes .exit) ≡ putAt 2 (now (bytes .entry)) at (ofZ w16 x) ⌝ }
-{
-    put_u16(bytes, at, unsigned(x as i64, 0xffff) as u16);
-}
-
-pub fn put_i32(bytes: &mut [u8], at: usize, x: i32)
-    requires { ⌜ at + 4 ≤ length (now bytes) ⌝ }
-    ensures { λ _. ⌜ now (bytes .exit) ≡ putAt 4 (now (bytes .entry)) at (ofZ w32 x) ⌝ }
-{
-    put_u32(bytes, at, unsigned(x as i64, 0xffff_ffff) as u32);
 }
 
 pub fn put_i64(bytes: &mut [u8], at: usize, x: i64)

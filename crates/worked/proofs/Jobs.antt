@@ -20,7 +20,7 @@ use Rattle.wire.specs.Checks.{refusal, commandChecks}
 use Rattle.wire.specs.Part.{operandsAt, total, checksAt, afterAt, step, run, readFrom, readPart}
 use Rattle.wire.specs.Part as P
 use Rattle.wire.specs.Rows.{rowOf}
-use Rattle.wire.specs.Text.{digitsTo, digits, decimal, line}
+use Rattle.text.specs.Text.{digitsTo, digits, decimal, line}
 use Rattle.register.specs.Register as Reg
 use Rattle.register.specs.Format.{baseChecks, choiceChecks, termChecks, registerInJob}
 use Rattle.register.specs.Format as RegFormat
@@ -33,12 +33,13 @@ use Rattle.plan.specs.Plan.{cost}
 use Rattle.plan.specs.Format.{planChecks, planInJob}
 use Rattle.certificate.specs.Rules.{byKey, arity, ruleOf}
 use Rattle.certificate.specs.Residual.{nullPart, subtractedPart, nullForms, subtractedForms, reformulated, shifted, R, rowHolds, carries, bound}
-use Rattle.certificate.specs.Format.{scaleChecks, outOfRange, multiplierChecks, squareChecks, commandsInJob, judged, certificateInJob}
+use Rattle.certificate.specs.Format.{scaleChecks, outOfRange, multiplierChecks, squareChecks, commandsInJob, dominanceChecked, certificateInJob}
 use Rattle.register.proofs.Example.{registerBytes, exampleRegister}
 use Rattle.scheme.proofs.Example.{schemeBytes, exampleScheme}
 use Rattle.job.specs.Outcome.{Parts, refuses, accepts, follow, outcome}
 use Rattle.job.specs.declared.Tally.{Tally}
-use Rattle.job.specs.Tally.{withAccepted}
+use Rattle.job.specs.declared.JobAnswer.{JobAnswer}
+use Rattle.job.specs.Tally.{raised, withAccepted}
 use Rattle.job.specs.Answer.{refusedAnswer, afterJob, jobAnswer}
 use Rattle.listing.specs.Listing.{choiceLines, fedLines, acceptedLines, listing}
 
@@ -75,21 +76,40 @@ abbrev pub examples : List (List ℕ)
 examples = (front ++ back 0) ∷ (front ++ back 1) ∷ (front ++ (back 0 ++ (0 ∷ []))) ∷ []
 
 outcomes : map outcome examples ≡ accepts exampleParts ∷ refuses 9 3 107 ∷ refuses 12 4 113 ∷ []
-unfolding outcome follow flatMap joinBelow allBelow comesBefore abs sumBelow sumOver except offDiagonal isMember isSubset isProperSubset times entry natAt little refusal commandChecks operandsAt total checksAt afterAt P.command step P.follow run readFrom readPart rowOf Reg.fresh baseChecks choiceChecks termChecks RegFormat.endChecks registerInJob Sch.fresh upTo upward E term g isNew productChecks splitChecks SchFormat.endChecks schemeInJob planChecks planInJob byKey arity ruleOf nullPart subtractedPart nullForms subtractedForms reformulated shifted R rowHolds carries scaleChecks outOfRange multiplierChecks squareChecks commandsInJob judged certificateInJob
+unfolding outcome follow flatMap joinBelow allBelow comesBefore abs sumBelow sumOver except offDiagonal isMember isSubset isProperSubset times entry natAt little refusal commandChecks operandsAt total checksAt afterAt P.command step P.follow run readFrom readPart rowOf Reg.fresh baseChecks choiceChecks termChecks RegFormat.endChecks registerInJob Sch.fresh upTo upward E term g isNew productChecks splitChecks SchFormat.endChecks schemeInJob planChecks planInJob byKey arity ruleOf nullPart subtractedPart nullForms subtractedForms reformulated shifted R rowHolds carries scaleChecks outOfRange multiplierChecks squareChecks commandsInJob dominanceChecked certificateInJob
 outcomes = refl
 
 map-map : {A B C : Type 0} (f : B → C) (g : A → B) (xs : List A) → map (λ x. f (g x)) xs ≡ map f (map g xs)
 map-map f g [] = refl
 map-map f g (x ∷ xs) = ap (λ l. f (g x) ∷ l) (map-map f g xs)
 
--- what the call answers
-pub answers : (lent : List ℤ) (tally : Tally) → tableNumbers ≤ length lent → map (λ s. jobAnswer s lent tally) examples
+-- what the call answers, with every table long enough
+answers : (lent : List ℤ) (tally : Tally) → tableNumbers ≤ length lent → map (λ s. jobAnswer s lent tally) examples
     ≡ record { number = 0; part = 0; position = 0; bound = pos 0; cost = pos 0; gap = pos 0; tally = withAccepted tally }
     ∷ refusedAnswer 9 3 107 tally
     ∷ refusedAnswer 12 4 113 tally
     ∷ []
 unfolding jobAnswer bound ceilDiv cost sumBelow isSubset
 answers lent tally l = rw (le-ltb (length lent) tableNumbers l) (map-map (λ o. afterJob o tally) outcome examples ∙ ap (map (λ o. afterJob o tally)) outcomes)
+
+-- with 4 accepted and 7 refused jobs so far
+pub counted : (lent : List ℤ) → tableNumbers ≤ length lent → map (λ s. jobAnswer s lent (record { accepted = 4; refused = 7 })) examples
+    ≡ record { number = 0; part = 0; position = 0; bound = pos 0; cost = pos 0; gap = pos 0; tally = record { accepted = 5; refused = 7 } }
+    ∷ record { number = 9; part = 3; position = 107; bound = pos 0; cost = pos 0; gap = pos 0; tally = record { accepted = 4; refused = 8 } }
+    ∷ record { number = 12; part = 4; position = 113; bound = pos 0; cost = pos 0; gap = pos 0; tally = record { accepted = 4; refused = 8 } }
+    ∷ []
+unfolding raised
+counted lent l = answers lent (record { accepted = 4; refused = 7 }) l
+
+-- with as many accepted jobs as are counted, and one fewer refused
+pub counted-last : (lent : List ℤ) → tableNumbers ≤ length lent →
+    map (λ s. jobAnswer s lent (record { accepted = 4_294_967_295; refused = 4_294_967_294 }) .tally) examples
+    ≡ record { accepted = 4_294_967_295; refused = 4_294_967_294 }
+    ∷ record { accepted = 4_294_967_295; refused = 4_294_967_295 }
+    ∷ record { accepted = 4_294_967_295; refused = 4_294_967_295 }
+    ∷ []
+unfolding raised
+counted-last lent l = ap (map (λ (a : JobAnswer). a .tally)) (answers lent (record { accepted = 4_294_967_295; refused = 4_294_967_294 }) l)
 
 -- the lines; `R 9 107`; `R 12 113`
 pub jobs : map (λ s. listing (outcome s)) examples

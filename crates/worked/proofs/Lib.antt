@@ -1,3 +1,4 @@
+pub mod Alone
 pub mod Own
 pub mod Jobs
 pub mod Table

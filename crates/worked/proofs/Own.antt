@@ -1,4 +1,4 @@
--- W7 through the check: our own certificate's bytes on W3, and those bytes with both `31` at 2 in place of 3.
+-- W7 through the check: the bytes of our own certificate, and those with a smaller multiplier in both `31`.
 use mathlib.Core.Path.{_≡_, refl}
 use mathlib.Core.List.{List, [], _∷_, map, flatMap}
 use Prim.Native.Nat.{_≤_}
@@ -30,7 +30,7 @@ use Rattle.builder.proofs.Worked.{w3Bytes}
 use Rattle.certificate.specs.declared.CheckAnswer.{CheckAnswer}
 use Rattle.certificate.specs.Rules.{byKey, arity, ruleOf}
 use Rattle.certificate.specs.Residual.{nullPart, subtractedPart, nullForms, subtractedForms, reformulated, shifted, R, rowHolds, carries, bound}
-use Rattle.certificate.specs.Format.{scaleChecks, outOfRange, multiplierChecks, squareChecks, commandsInJob, judged, certificateInJob, certificateByItself}
+use Rattle.certificate.specs.Format.{scaleChecks, outOfRange, multiplierChecks, squareChecks, commandsInJob, dominanceChecked, certificateInJob, certificateByItself}
 use Rattle.certificate.specs.Check.{refusedAnswer, afterRegister, checkAnswer}
 use Rattle.plain.proofs.Worked.{w7Bytes}
 
@@ -39,7 +39,7 @@ abbrev pub answers : List CheckAnswer
 answers = record { number = 0; part = 0; position = 0; bound = negsuc 5 } ∷ refusedAnswer 9 3 73 ∷ []
 
 read : map (λ m. afterRegister (registerByItself registerBytes) w3Bytes (w7Bytes m)) (3 ∷ 2 ∷ []) ≡ answers
-unfolding flatMap joinBelow allBelow comesBefore abs sumBelow sumOver except offDiagonal ceilDiv isMember isSubset isProperSubset times entry natAt little refusal commandChecks operandsAt total checksAt afterAt command step follow run readFrom readPart byItself rowOf Reg.fresh baseChecks choiceChecks termChecks RegFormat.endChecks registerInJob registerByItself Sch.fresh upTo upward E term g isNew productChecks splitChecks SchFormat.endChecks schemeInJob schemeByItself byKey arity ruleOf nullPart subtractedPart nullForms subtractedForms reformulated shifted R rowHolds carries bound scaleChecks outOfRange multiplierChecks squareChecks commandsInJob judged certificateInJob certificateByItself
+unfolding flatMap joinBelow allBelow comesBefore abs sumBelow sumOver except offDiagonal ceilDiv isMember isSubset isProperSubset times entry natAt little refusal commandChecks operandsAt total checksAt afterAt command step follow run readFrom readPart byItself rowOf Reg.fresh baseChecks choiceChecks termChecks RegFormat.endChecks registerInJob registerByItself Sch.fresh upTo upward E term g isNew productChecks splitChecks SchFormat.endChecks schemeInJob schemeByItself byKey arity ruleOf nullPart subtractedPart nullForms subtractedForms reformulated shifted R rowHolds carries bound scaleChecks outOfRange multiplierChecks squareChecks commandsInJob dominanceChecked certificateInJob certificateByItself
 read = refl
 
 -- with every table long enough

@@ -14,6 +14,7 @@ use Rattle.certificate.specs.Limits.{squareEntries}
 use Rattle.certificate.specs.declared.Square.{Square}
 use Rattle.certificate.specs.Answer.{freshSquare, filledOf, squareRead}
 use Rattle.certificate.proofs.Operands.{entries-are, square-is}
+use Rattle.certificate.proofs.Sizes.{size-square}
 use borrow.Author.Needs.{needs}
 use Rattle.certificate.proofs.square_at.Statement.{statement}
 use Rattle.certificate.proofs.square_at.Tie as tie
@@ -56,7 +57,7 @@ add-u32-at : tie.Need-add-u32-at Inv-loop μ-loop
 add-u32-at c = search needs
 
 u32-at-requires : tie.Need-u32-at-requires Inv-loop μ-loop
-u32-at-requires c κs = search needs
+u32-at-requires c κs = omega (arith, size-square)
 
 loop-holds : tie.Need-loop-holds Inv-loop μ-loop
 unfolding freshSquare
@@ -77,7 +78,7 @@ add-i16-at-2 : tie.Need-add-i16-at-2 Inv-loop μ-loop
 add-i16-at-2 c = search needs
 
 i16-at-requires : tie.Need-i16-at-requires Inv-loop μ-loop
-i16-at-requires c κs = search needs
+i16-at-requires c κs = omega (arith, size-square)
 
 mul-t13 : tie.Need-mul-t13 Inv-loop μ-loop
 mul-t13 c = search needs

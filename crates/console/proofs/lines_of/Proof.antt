@@ -10,7 +10,7 @@ use borrow.Author.Needs.{needs}
 use Rattle.io.specs.Counts.{Counts}
 use Rattle.forms.specs.Table.{tableNumbers}
 use Rattle.job.specs.Outcome.{outcome}
-use Rattle.listing.specs.declared.ListingAnswer.{ListingAnswer}
+use Rattle.wire.specs.declared.WriterAnswer.{WriterAnswer}
 use Rattle.listing.specs.Listing.{listing}
 use Rattle.listing.specs.Answer.{listingRoom, listingAnswer, listingBuffer}
 use Rattle.listing.proofs.Answers.{enough}
@@ -22,11 +22,11 @@ counts : (n : ℕ) (a rest out : List ℕ) → n ≡ length a → out ≡ a ++ r
 counts n a rest out e d = rw d (omega (arith, e, length-append a rest), e ∙ ap length (sym (take-at a rest n (sym e))))
 
 -- the listing call's answer and buffer, where the table is long enough and the text has room
-answered : (job : List ℕ) (table : List ℤ) (text : List ℕ) (a : ListingAnswer) (out : List ℕ) → tableNumbers ≤ length table → listingRoom ≤ length text →
-    a ≡ listingAnswer job table text → out ≡ listingBuffer job table text → (tableNumbers ≤ length table → length (listing (outcome job)) ≤ listingRoom) →
+answered : (job : List ℕ) (table : List ℤ) (text : List ℕ) (a : WriterAnswer) (out : List ℕ) → tableNumbers ≤ length table → listingRoom ≤ length text →
+    a ≡ listingAnswer job table text → out ≡ listingBuffer job table text → length (listing (outcome job)) ≤ listingRoom →
     (a .count ≡ length (listing (outcome job))) × ((out ≡ listing (outcome job) ++ drop (a .count) text) × Counts (a .count) out)
 answered job table text a out l m e d short =
-    let w = enough job table text l m (short l) in
+    let w = enough job table text l m short in
     let n : a .count ≡ length (listing (outcome job)) = ap (λ a. a .count) (e ∙ w .0) in
     let o : out ≡ listing (outcome job) ++ drop (a .count) text = d ∙ w .1 ∙ ap (λ k. listing (outcome job) ++ drop k text) (sym n) in
     (n, (o, counts (a .count) (listing (outcome job)) (drop (a .count) text) out n o))

@@ -8,7 +8,7 @@ use lib.ListN.{length, getD, length-set}
 use mir.Syntax.{w64}
 use borrow.Author.Needs.{needs}
 use Rattle.integers.proofs.Machine.{read-signed}
-use Rattle.forms.specs.Store.{addAt, Bounded}
+use Rattle.forms.specs.Store.{addAt, Bounded, maxBeforeMonomial}
 use Rattle.forms.proofs.Store.{place-inside, addAt-low}
 use Rattle.forms.proofs.add_monomial.Statement.{statement}
 use Rattle.forms.proofs.add_monomial.Tie as tie
@@ -17,10 +17,10 @@ use Rattle.forms.proofs.add_monomial.Tie as tie
 record Known (n p q : ℕ) (t : List ℤ) : Type 0 where
   there : p * n + q < length t
   there′ : q * n + p < length t
-  low : natAbs (getD t (p * n + q) (pos 0)) ≤ 4000000000000000000
-  low′ : natAbs (getD t (q * n + p) (pos 0)) ≤ 4000000000000000000
+  low : natAbs (getD t (p * n + q) (pos 0)) ≤ maxBeforeMonomial
+  low′ : natAbs (getD t (q * n + p) (pos 0)) ≤ maxBeforeMonomial
 
-known : {n : ℕ} {t : List ℤ} → Bounded n 4000000000000000000 t → (p q : ℕ) → (p < n) × (q < n) → Known n p q t
+known : {n : ℕ} {t : List ℤ} → Bounded n maxBeforeMonomial t → (p q : ℕ) → (p < n) × (q < n) → Known n p q t
 known {n} r p q (x, y) = record {
   there = omega (arith, place-inside n p q x y, r .long);
   there′ = omega (arith, place-inside n q p y x, r .long);

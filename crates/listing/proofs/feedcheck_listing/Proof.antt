@@ -1,16 +1,12 @@
 -- `listing::feedcheck_listing` meets its contract. By the table's length, and by what reading the job gave.
-use Prim.Native.Nat.{ℕ, _≤_}
-use mathlib.Core.List.{List}
-use native.Mathlib.Omega.{arith}
-use lib.ListN.{length}
 use mathlib.Core.Path.{sym, _∙_, ap, subst}
 use borrow.Author.Needs.{needs}
 use Rattle.register.specs.Valid.{Within}
 use Rattle.job.specs.declared.JobRead.{JobRead}
 use Rattle.job.specs.Outcome.{outcome}
-use Rattle.listing.specs.Answer.{listingRoom, linesOf}
+use Rattle.listing.specs.Answer.{linesOf}
 use Rattle.job.proofs.Sound.{outcome-sound}
-use Rattle.listing.proofs.Outcome.{read-within, read-lines}
+use Rattle.listing.proofs.Outcome.{read-within, read-lines, listing-short}
 use Rattle.listing.proofs.Answers.{short-table, long-table}
 use Rattle.listing.proofs.feedcheck_listing.Statement.{statement}
 use Rattle.listing.proofs.feedcheck_listing.Tie as tie
@@ -23,7 +19,7 @@ returns c =
     let t = c .before in
     let a = t .before .before .before .args in
     let w = short-table (a .job .now) (a .table .now) (a .buffer .now) (t .if1 .taken) in
-    (c .refused .ensures ∙ w .0, (w .1 .0, (w .1 .1, λ l. absurd (omega (arith, t .if1 .taken)))))
+    (c .refused .ensures ∙ w .0, (w .1 .0, (w .1 .1, listing-short (a .job .now))))
 
 read-job-requires : tie.Need-read-job-requires
 read-job-requires c κs = search needs
@@ -48,9 +44,8 @@ returns-2 c =
     let a = e .before .before .before .args in
     let job = a .job .now in
     let lines = ap linesOf (k .read-job .ensures .0) ∙ read-lines (outcome job) (outcome-sound job) in
-    let kept = w .write-lines .ensures in
-    let x = long-table job (a .table .now) (a .buffer .now) (e .if1 .left) (linesOf (k .read-job .result)) lines _ _ _ (k .read-job .ensures .1) (kept .0, kept .1 .0) in
-    (x .0, (x .1 .0, (x .1 .1, λ l. subst (λ (b : List ℕ). length b ≤ listingRoom) lines (kept .1 .1))))
+    let x = long-table job (a .table .now) (a .buffer .now) (e .if1 .left) (linesOf (k .read-job .result)) lines _ _ _ (k .read-job .ensures .1) (w .write-lines .ensures) in
+    (x .0, (x .1 .0, (x .1 .1, listing-short job)))
 
 pub feedcheck-listing-spec : {M : Type 1} → statement M
 feedcheck-listing-spec =

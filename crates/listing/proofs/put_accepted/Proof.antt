@@ -8,7 +8,7 @@ use mir.Facts.{toZ-ofZ}
 use mir.Syntax.{w64}
 use mir.Val.{toZ, ofZ}
 use borrow.Author.Needs.{needs}
-use Rattle.wire.specs.Text.{line}
+use Rattle.text.specs.Text.{line}
 use Rattle.text.proofs.Written.{and-then, same}
 use Rattle.listing.specs.Listing.{choiceLines, fedLines, boundLine}
 use Rattle.listing.proofs.Lengths.{length-accepted, accepted-is}

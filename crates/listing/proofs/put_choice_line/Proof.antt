@@ -8,7 +8,7 @@ use mir.Syntax.{w64}
 use mir.Val.{toZ, hbits}
 use borrow.Author.Needs.{needs}
 use Rattle.integers.proofs.Machine.{read-unsigned}
-use Rattle.wire.specs.Text.{line}
+use Rattle.text.specs.Text.{line}
 use Rattle.listing.specs.Listing.{choiceLine}
 use Rattle.text.proofs.Written.{same}
 use Rattle.listing.proofs.put_choice_line.Statement.{statement}

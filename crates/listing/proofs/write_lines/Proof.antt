@@ -32,7 +32,7 @@ returns c =
     let p = t .before .before in
     let s = p .before .before .before in
     let w = no-room (linesOf (s .args .read)) (s .args .buffer .now) (p .put-lines .result) (p .put-lines .ensures .0) (t .if1 .taken) in
-    (c .refused .ensures ∙ w .0, (w .1, room s))
+    (c .refused .ensures ∙ w .0, w .1)
 
 slice-aggregate-copy-front : tie.Need-slice-aggregate-copy-front
 slice-aggregate-copy-front c = search needs
@@ -44,17 +44,20 @@ copy-front-requires c κs =
     let s = p .before .before .before in
     (omega (arith, room s, p .put-lines .ensures .0, p .put-lines .kept .1 .0), omega arith)
 
+written-requires : tie.Need-written-requires
+written-requires c κs = search needs
+
 same-length : tie.Need-same-length
 same-length c = search needs
 
 returns-2 : tie.Need-returns-2
 returns-2 c =
-    let k = c .before .before in
+    let k = c .before .before .before in
     let e = k .before .before .before in
     let p = e .before .before in
     let s = p .before .before .before in
     let w = copied (linesOf (s .args .read)) (s .args .buffer .now) (replicate listingRoom 0) (p .put-lines .result) _ _ (p .put-lines .ensures .0) (p .put-lines .ensures .1) (room s) (e .if1 .left) (k .copy-front .ensures) in
-    (w .0, (w .1, room s))
+    (c .written .ensures ∙ w .0, w .1)
 
 pub write-lines-spec : {M : Type 1} → statement M
 write-lines-spec =
@@ -66,5 +69,6 @@ write-lines-spec =
     returns
     slice-aggregate-copy-front
     copy-front-requires
+    written-requires
     same-length
     returns-2)

@@ -1,7 +1,7 @@
 -- `penalty::add_bracket` meets its contract. The bracket is four monomials.
 use mathlib.Core.Path.{_≡_, refl, _∙_, ap}
 use mathlib.Core.List.{List}
-use Prim.Native.Nat.{ℕ, _+_, _≤_, _<_}
+use Prim.Native.Nat.{ℕ, _+_, _*_, _≤_, _<_}
 use native.Mathlib.Omega.{arith}
 use native.Mathlib.Numerals.{add-one}
 use lib.IntN.{ℤ, pos, negsuc, natAbs, _*ℤ_}
@@ -13,13 +13,14 @@ use Rattle.integers.proofs.Machine.{read-signed}
 use Rattle.forms.specs.Form.{mono, times}
 use Rattle.forms.specs.Store.{addMonomial, addForm, Bounded}
 use Rattle.forms.proofs.Store.{bounded-addMonomial, bounded-weaken}
+use Rattle.penalty.specs.Weights.{maxProductWeight}
 use Rattle.penalty.specs.Penalty.{bracket}
 use Rattle.penalty.proofs.add_bracket.Statement.{statement}
 use Rattle.penalty.proofs.add_bracket.Tie as tie
 
 -- the table after one more monomial
-step : {n b p q : ℕ} (x : ℤ) {t : List ℤ} (u : List ℤ) → Bounded n b t → p < n → q < n → u ≡ addMonomial n (mono p q x) t → natAbs x ≤ 5_000_000_000_000 →
-    Bounded n (b + 10_000_000_000_000) u
+step : {n b p q : ℕ} (x : ℤ) {t : List ℤ} (u : List ℤ) → Bounded n b t → p < n → q < n → u ≡ addMonomial n (mono p q x) t → natAbs x ≤ 3 * maxProductWeight →
+    Bounded n (b + 6 * maxProductWeight) u
 step x u h a b e l = rw e (bounded-weaken (bounded-addMonomial (mono _ _ x) a b h) (omega arith))
 
 -- and after the four, whose coefficients are w times a, b, c and d
@@ -40,7 +41,7 @@ module _ (b : tie.Start) where
   weight-same : weight ≡ b .args .w
   weight-same = read-signed w64 (b .args .w) (omega (arith, b .pre .1 .1))
 
-  weight-small : natAbs weight ≤ 1_000_000_000_000
+  weight-small : natAbs weight ≤ maxProductWeight
   weight-small = rw weight-same (b .pre .1 .1)
 
   -- the places

@@ -1,7 +1,7 @@
 -- `penalty::add_function` meets its contract. The scaled base cost is added, and then the scaled terms.
 use mathlib.Core.Path.{_≡_, refl, _∙_, ap}
 use mathlib.Core.List.{List}
-use Prim.Native.Nat.{ℕ, _≤_, _<_}
+use Prim.Native.Nat.{ℕ, _*_, _≤_, _<_}
 use native.Mathlib.Omega.{arith}
 use lib.IntN.{ℤ, natAbs, _*ℤ_}
 use mir.Syntax.{w32, w64}
@@ -10,19 +10,21 @@ use borrow.Author.Needs.{needs}
 use Rattle.integers.specs.Lists.{joinBelow}
 use Rattle.integers.proofs.Machine.{read-signed, cast-fits}
 use Rattle.forms.specs.Form.{mono, times}
-use Rattle.forms.specs.Store.{addMonomial, addForm, Bounded}
+use Rattle.forms.specs.Store.{addMonomial, addForm, Bounded, maxBeforeForm, maxBeforeForms}
 use Rattle.forms.proofs.Store.{bounded-addMonomial, bounded-weaken}
 use Rattle.register.specs.declared.Register.{Register}
+use Rattle.register.specs.Limits.{maxBase}
 use Rattle.register.specs.Register.{coefficient}
 use Rattle.scheme.specs.declared.Scheme.{Scheme}
 use Rattle.scheme.specs.Function.{termOf, g}
+use Rattle.penalty.specs.Operands.{maxFactor}
 use Rattle.penalty.proofs.Scaled.{Product, product, times-g}
 use Rattle.penalty.proofs.add_function.Statement.{statement}
 use Rattle.penalty.proofs.add_function.Tie as tie
 
 -- the table after the base cost, and after the terms: x is the scaled base cost and j the scale, as the code has them
 module _ (k : ℤ) (r : Register) (s : Scheme) (n : ℕ) (t u : List ℤ) (x : ℤ) (e : x ≡ k *ℤ r .base) (d : u ≡ addMonomial n (mono 0 0 x) t) where
-  room : 0 < n → natAbs (k *ℤ r .base) ≤ 1_000_000_000_000_000 → Bounded n 2_000_000_000_000_000_000 t → Bounded n 3_000_000_000_000_000_000 u
+  room : 0 < n → natAbs (k *ℤ r .base) ≤ maxFactor * maxBase → Bounded n maxBeforeForms t → Bounded n maxBeforeForm u
   room l low h = rw (d, e) (bounded-weaken (bounded-addMonomial (mono 0 0 (k *ℤ r .base)) l l h) (omega arith))
 
   whole : (j : ℤ) (v : List ℤ) → j ≡ k → v ≡ addForm n (joinBelow (r .terms) (termOf (λ t. j *ℤ coefficient r t) s)) u → v ≡ addForm n (times k (g (coefficient r) r s)) t

@@ -11,7 +11,7 @@ use borrow.Author.Needs.{needs}
 use Rattle.integers.specs.Lists.{joinBelow}
 use Rattle.integers.proofs.Machine.{fits-signed, read-unsigned}
 use Rattle.forms.specs.Form.{times}
-use Rattle.forms.specs.Store.{addForm, Bounded}
+use Rattle.forms.specs.Store.{addForm, Bounded, maxBeforeForm, maxBeforeForms}
 use Rattle.forms.proofs.Store.{addForm-join, length-addForm, bounded-addForm, bounded-weaken}
 use Rattle.register.specs.declared.Register.{Register}
 use Rattle.register.specs.Register.{coefficient}
@@ -27,8 +27,8 @@ use Rattle.penalty.proofs.add_penalties.Statement.{statement}
 use Rattle.penalty.proofs.add_penalties.Tie as tie
 
 -- the table after i products has room for one more
-room : (r : Register) (s : Scheme) (n i : ℕ) (t t₀ : List ℤ) → Within r → Valid r s → n ≡ side (r .choices) s → Bounded n 2_000_000_000_000_000_000 t₀ →
-    i ≤ s .products → t ≡ addForm n (joinBelow i (penaltyOf (coefficient r) r s)) t₀ → Bounded n 3_000_000_000_000_000_000 t
+room : (r : Register) (s : Scheme) (n i : ℕ) (t t₀ : List ℤ) → Within r → Valid r s → n ≡ side (r .choices) s → Bounded n maxBeforeForms t₀ →
+    i ≤ s .products → t ≡ addForm n (joinBelow i (penaltyOf (coefficient r) r s)) t₀ → Bounded n maxBeforeForm t
 room r s n i t t₀ within valid e h l d =
     rw d
     (bounded-weaken (bounded-addForm (rw e (below-penalties (coefficient r) r s valid i l)) h)

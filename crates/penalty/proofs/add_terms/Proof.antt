@@ -13,6 +13,7 @@ use Rattle.forms.proofs.Store.{length-addForm}
 use Rattle.register.specs.Register.{coefficient}
 use Rattle.scheme.specs.Scheme.{side}
 use Rattle.scheme.proofs.Table.{split-of}
+use Rattle.penalty.specs.Operands.{maxFactor}
 use Rattle.penalty.proofs.Scaled.{Product, product, firstTerms, terms-room, terms-turn}
 use Rattle.penalty.proofs.add_terms.Statement.{statement}
 use Rattle.penalty.proofs.add_terms.Tie as tie
@@ -53,7 +54,7 @@ module _ (b : tie.Start Inv-loop μ-loop) where
   scale-same : scale ≡ b .args .scale
   scale-same = read-signed w64 (b .args .scale) (omega (arith, b .pre .1 .1 .1 .1))
 
-  scale-small : natAbs scale ≤ 1_000_000
+  scale-small : natAbs scale ≤ maxFactor
   scale-small = rw scale-same (b .pre .1 .1 .1 .1)
 
   -- times the coefficient of term t

@@ -34,8 +34,8 @@ cast-magnitude c =
 magnitude-requires : tie.Need-magnitude-requires
 magnitude-requires c κs = search needs
 
-once-requires : tie.Need-once-requires
-once-requires c κs =
+magnitude-if-used-requires : tie.Need-magnitude-if-used-requires
+magnitude-if-used-requires c κs =
     let p = c .before .before .before in
     rw (c .magnitude .ensures, cast-read w32 w64 (p .args .c) (omega arith) (fits-signed w32 (p .args .c) (omega (arith, p .pre .1 .1)))) (p .pre .1 .1)
 
@@ -45,7 +45,7 @@ returns c s lent h =
     let p = c .before .before .before .before in
     let a = p .args in
     rw (
-      c .once .ensures,
+      c .magnitude-if-used .ensures,
       c .before .before .before .reaches .ensures s lent (omega (arith, p .pre .1 .0)),
       c .before .before .reaches2 .ensures s lent h,
       c .before .magnitude .ensures,
@@ -61,5 +61,5 @@ contribution-spec =
     reaches-requires-2
     cast-magnitude
     magnitude-requires
-    once-requires
+    magnitude-if-used-requires
     returns)

@@ -10,7 +10,7 @@ use borrow.Author.Needs.{needs}
 use Rattle.integers.specs.Lists.{joinBelow}
 use Rattle.forms.specs.Form.{times, entry}
 use Rattle.forms.specs.Table.{tableNumbers, withTable}
-use Rattle.forms.specs.Store.{addForm, cleared, Bounded}
+use Rattle.forms.specs.Store.{addForm, cleared, Bounded, maxBeforeForms}
 use Rattle.forms.proofs.Store.{addForm-append, stored, bounded-cleared, bounded-addForm, bounded-weaken}
 use Rattle.forms.proofs.Times.{times-one}
 use Rattle.register.specs.declared.Register.{Register}
@@ -44,7 +44,7 @@ module _ (r : Register) (s : Scheme) (within : Within r) (valid : Valid r s) whe
     room-cleared = rw d (bounded-cleared n t (omega (arith, square)))
 
     module _ (v : List ℤ) (e : v ≡ addForm n (times (pos 1) (g (coefficient r) r s)) u) where
-      room-function : Bounded n 2_000_000_000_000_000_000 v
+      room-function : Bounded n maxBeforeForms v
       room-function =
           rw (e, times-one (g (coefficient r) r s))
           (bounded-weaken (bounded-addForm (rw is-side (g-below (coefficient r) r s valid)) room-cleared) (omega (arith, g-norm r s within)))

@@ -12,10 +12,15 @@ feedcheck-register-requires c κs = search needs
 feedcheck-scheme-requires : tie.Need-feedcheck-scheme-requires
 feedcheck-scheme-requires c κs = search needs
 
+refused-requires : tie.Need-refused-requires
+refused-requires c κs = search needs
+
 returns : tie.Need-returns
 returns c =
-    let f = c .before .feedcheck-scheme in
-    part-refused _ _ _ (f .result) (opened-refused _ _ (f .result) (f .ensures) (c .if1 .taken))
+    let t = c .before in
+    let f = t .before .feedcheck-scheme in
+    let y = part-refused _ _ _ (f .result) (opened-refused _ _ (f .result) (f .ensures) (t .if1 .taken)) in
+    (c .refused .ensures ∙ y .0, y .1)
 
 plain-certificate-requires : tie.Need-plain-certificate-requires
 plain-certificate-requires c κs =
@@ -45,6 +50,7 @@ feedcheck-plain-spec =
     (tie.spec
     feedcheck-register-requires
     feedcheck-scheme-requires
+    refused-requires
     returns
     plain-certificate-requires
     same-length

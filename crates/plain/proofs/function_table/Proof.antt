@@ -9,7 +9,7 @@ use lib.ListN.{length, replicate, length-replicate}
 use borrow.Author.Needs.{needs}
 use Rattle.forms.specs.Form.{times, entry}
 use Rattle.forms.specs.Table.{tableNumbers, withTable}
-use Rattle.forms.specs.Store.{addForm, cleared, Bounded}
+use Rattle.forms.specs.Store.{addForm, cleared, Bounded, maxBeforeForms}
 use Rattle.forms.proofs.Store.{stored, bounded-cleared, bounded-weaken}
 use Rattle.forms.proofs.Times.{times-one}
 use Rattle.register.specs.declared.Register.{Register}
@@ -47,7 +47,7 @@ module _ (r : Register) (s : Scheme) (within : Within r) (valid : Valid r s) (t 
   clear : cleared (n * n) t ≡ t
   clear = rw z (zeros-cleared (n * n) tableNumbers square)
 
-  room : Bounded n 2_000_000_000_000_000_000 t
+  room : Bounded n maxBeforeForms t
   room = bounded-weaken (rw clear at (bounded-cleared n t long)) (omega arith)
 
   whole : (u : List ℤ) → u ≡ addForm n (times (pos 1) (g (coefficient r) r s)) t → u ≡ withTable (side (r .choices) s) (entry (g (coefficient r) r s)) t

@@ -10,7 +10,9 @@ use Rattle.integers.specs.Integer.{abs}
 use Rattle.integers.specs.Sum.{except}
 use Rattle.integers.specs.Quadratic.{offDiagonal}
 use Rattle.integers.proofs.Sum.{sumBelow-zero, sumBelow-suc}
-use Rattle.plain.specs.InTable.{maxEntry, Small, productsIn, halfIn}
+use Rattle.scheme.specs.Sets.{maxVariables}
+use Rattle.scheme.specs.Function.{maxG}
+use Rattle.plain.specs.InTable.{Small, productsIn, halfIn}
 use Rattle.plain.proofs.InTable.{rowTo, row-small}
 use Rattle.plain.proofs.half_row_sum.Statement.{statement}
 use Rattle.plain.proofs.half_row_sum.Tie as tie
@@ -20,7 +22,7 @@ module _ (n : ℕ) (t : List ℤ) (i j total x : ℕ) (e : pos total ≡ rowTo n
   turn : pos x ≡ except i (λ k. abs (productsIn n t i k)) j → pos (total + x) ≡ rowTo n t i (suc j)
   turn d = ap₂ _+ℤ_ e d ∙ sym (sumBelow-suc j _)
 
-  low : Small n t → i < n → j ≤ n → total ≤ maxEntry * 64
+  low : Small n t → i < n → j ≤ n → total ≤ maxG * maxVariables
   low ok l h = omega (arith, row-small n t ok i l j h, ap natAbs e, ok .few)
 
 abbrev Inv-loop : tie.InvT-loop
@@ -32,15 +34,15 @@ abbrev μ-loop : tie.MeasureT-loop
 loop-holds : tie.Need-loop-holds Inv-loop μ-loop
 loop-holds c = (omega arith, sym (sumBelow-zero _))
 
-beside-requires : tie.Need-beside-requires Inv-loop μ-loop
-beside-requires c κs = let p = c .before .before .pre in (p .0, (p .1, omega arith))
+off-diagonal-term-requires : tie.Need-off-diagonal-term-requires Inv-loop μ-loop
+off-diagonal-term-requires c κs = let p = c .before .before .pre in (p .0, (p .1, omega arith))
 
 add-total : tie.Need-add-total Inv-loop μ-loop
 add-total c =
     let b = c .before .before .before in
     let a = b .args in
     let l = c .before .before .loop in
-    let e = turn (a .n) (a .table .now) (a .i) (l .j) (l .total) _ (l .inv .1) (c .beside .ensures) in
+    let e = turn (a .n) (a .table .now) (a .i) (l .j) (l .total) _ (l .inv .1) (c .off-diagonal-term .ensures) in
     omega (arith, low (a .n) (a .table .now) (a .i) (suc (l .j)) _ 0 e (b .pre .0) (b .pre .1) (omega arith))
 
 add-j : tie.Need-add-j Inv-loop μ-loop
@@ -53,7 +55,7 @@ loop-again : tie.Need-loop-again Inv-loop μ-loop
 loop-again c =
     let a = c .before .before .before .args in
     let l = c .before .before .loop in
-    (omega arith, rw add-one (turn (a .n) (a .table .now) (a .i) (l .j) (l .total) _ (l .inv .1) (c .beside .ensures)))
+    (omega arith, rw add-one (turn (a .n) (a .table .now) (a .i) (l .j) (l .total) _ (l .inv .1) (c .off-diagonal-term .ensures)))
 
 add-result : tie.Need-add-result Inv-loop μ-loop
 add-result c =
@@ -77,7 +79,7 @@ half-row-sum-spec =
     Inv-loop
     μ-loop
     loop-holds
-    beside-requires
+    off-diagonal-term-requires
     add-total
     add-j
     loop-less

@@ -20,11 +20,12 @@ use Rattle.scheme.specs.Function.{g}
 use Rattle.scheme.specs.Valid.{Valid}
 use Rattle.penalty.proofs.Bounds.{side-square}
 use Rattle.wire.specs.Number.{written}
+use Rattle.wire.specs.Writer.{writtenAnswer}
+use Rattle.wire.proofs.Writer.{bytes-short, bytes-fit}
 use Rattle.plain.specs.InTable.{Small, commandsIn, encodeIn}
-use Rattle.plain.specs.Answer.{answer, ownBytes}
+use Rattle.plain.specs.Answer.{ownBytes, ownRoom}
 use Rattle.plain.proofs.InTable.{table-small, commands-are, encode-is}
 use Rattle.plain.proofs.Encoded.{length-plain, plain-bytes}
-use Rattle.plain.proofs.Answers.{bytes-short, bytes-fit}
 use Rattle.plain.proofs.plain_certificate.Statement.{statement}
 use Rattle.plain.proofs.plain_certificate.Tie as tie
 
@@ -77,7 +78,7 @@ module _ (c : tie.After-command-count) where
       ap (λ x. 14 + 10 * x) (c .command-count .ensures)
       ∙ counted (start .args .register) (start .args .scheme) (start .pre .0) (start .pre .1) _ (c .before .before .function-table .ensures)
 
-  total-few : 14 + 10 * c .command-count .result ≤ 1_294
+  total-few : 14 + 10 * c .command-count .result ≤ ownRoom
   total-few = rw total (plain-bytes (start .args .register) (start .args .scheme) (start .pre .0) (start .pre .1))
 
 mul-count : tie.Need-mul-count
@@ -86,10 +87,15 @@ mul-count c = omega (arith, total-few c)
 add-count : tie.Need-add-count
 add-count c = omega (arith, total-few c)
 
+refused-requires : tie.Need-refused-requires
+refused-requires c κs = search needs
+
 returns : tie.Need-returns
 returns c =
-    let a = start (c .before) .args in
-    bytes-short (ownBytes (a .register) (a .scheme)) (a .out .now) (rw (← (total (c .before))) (c .if1 .taken))
+    let t = c .before in
+    let a = start (t .before) .args in
+    let y = bytes-short (ownBytes (a .register) (a .scheme)) (a .out .now) (rw (← (total (t .before))) (t .if1 .taken)) in
+    (c .refused .ensures ∙ y .0, y .1)
 
 slice-aggregate-put-certificate : tie.Need-slice-aggregate-put-certificate
 slice-aggregate-put-certificate c = search needs
@@ -113,19 +119,22 @@ put-certificate-requires c κs =
       ),
     )
 
+written-requires : tie.Need-written-requires
+written-requires c κs = search needs
+
 same-length : tie.Need-same-length
 same-length c = search needs
 
 returns-2 : tie.Need-returns-2
 returns-2 c =
-    let p = c .before .before in
+    let p = c .before .before .before in
     let e = p .before .before .before in
     let d = e .before in
     let b = start d in
     let a = b .args in
     let f = d .before .before .function-table .ensures in
     let y = bytes-fit (ownBytes (a .register) (a .scheme)) (a .out .now) (rw (← (total d)) (e .if1 .left)) in (
-      ap (answer 0 0 0) (total d) ∙ y .0,
+      c .written .ensures ∙ ap writtenAnswer (total d) ∙ y .0,
       p .put-certificate .ensures
           ∙ ap (written (a .out .now) 0) (encoded (a .register) (a .scheme) (b .pre .0) (b .pre .1) _ f _ (base-same (a .register) (a .scheme) (b .pre .0) (b .pre .1) _ f))
           ∙ y .1,
@@ -141,9 +150,11 @@ plain-certificate-spec =
     command-count-requires
     mul-count
     add-count
+    refused-requires
     returns
     slice-aggregate-put-certificate
     cast-put-certificate
     put-certificate-requires
+    written-requires
     same-length
     returns-2)

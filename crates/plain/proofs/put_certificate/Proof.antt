@@ -1,5 +1,5 @@
 -- `plain::put_certificate` meets its contract. The first command, `31` for each variable, `38` or `39` for each, and `3F`.
-use Prim.Native.Nat.{_≤_}
+use Prim.Native.Nat.{_+_, _≤_}
 use mathlib.Core.Path.{_≡_, _∙_, ap, ap₂}
 use native.Mathlib.Omega.{arith}
 use lib.IntN.{ℤ, pos, natAbs, _-ℤ_}
@@ -13,7 +13,9 @@ use Rattle.integers.proofs.Machine.{fits-signed, read-signed, read-unsigned}
 use Rattle.integers.proofs.Order.{natAbs-sub}
 use Rattle.wire.specs.Number.{written}
 use Rattle.certificate.specs.Encoding.{encodeScale}
+use Rattle.register.specs.Limits.{maxBase}
 use Rattle.plain.specs.InTable.{subtractedIn, diagonalsIn, linearsIn, encodeIn}
+use Rattle.plain.proofs.Sizes.{maxSubtracted}
 use Rattle.plain.proofs.InTable.{total-small}
 use Rattle.plain.proofs.Encoded.{Ten, ten-unlessZero, ten-cancelling}
 use Rattle.plain.proofs.Writing.{whole}
@@ -34,7 +36,7 @@ module _ (c : tie.After-subtracted) where
   abbrev target : ℤ
   target = start .args .base -ℤ taken
 
-  taken-small : natAbs taken ≤ 5_305_344_000_000
+  taken-small : natAbs taken ≤ maxSubtracted
   taken-small = omega (arith, total-small _ _ (start .pre .0))
 
   difference : toZ w64 (ofZ w64 (start .args .base)) -ℤ toZ w64 (c .subtracted .result) ≡ target
@@ -42,7 +44,7 @@ module _ (c : tie.After-subtracted) where
       ap₂ _-ℤ_ (toZ-ofZ (start .fits .base))
       (read-unsigned w64 (c .subtracted .result) (omega (arith, ap natAbs (c .subtracted .ensures), taken-small)) ∙ c .subtracted .ensures)
 
-  target-small : natAbs target ≤ 10_000_000_000_000
+  target-small : natAbs target ≤ maxBase + maxSubtracted
   target-small = omega (arith, natAbs-sub (start .args .base) taken, taken-small, start .pre .1 .0)
 
 cast-put-scale : tie.Need-cast-put-scale

@@ -1,7 +1,7 @@
 -- `plain::subtracted` meets its contract. The total is the sum over the variables passed, which is small.
 use mathlib.Core.Path.{_≡_, sym, _∙_, ap, ap₂}
 use mathlib.Core.List.{List}
-use Prim.Native.Nat.{ℕ, suc, _+_, _*_, _≤_, _-_}
+use Prim.Native.Nat.{ℕ, suc, _+_, _≤_, _-_}
 use native.Mathlib.Omega.{arith}
 use native.Mathlib.Numerals.{add-one}
 use lib.IntN.{ℤ, pos, natAbs, _+ℤ_}
@@ -10,6 +10,7 @@ use borrow.Author.Needs.{needs}
 use Rattle.integers.specs.Integer.{negPart}
 use Rattle.integers.proofs.Sum.{sumBelow-zero, sumBelow-suc}
 use Rattle.plain.specs.InTable.{Small, leftIn, subtractedIn}
+use Rattle.plain.proofs.Sizes.{maxSubtracted}
 use Rattle.plain.proofs.InTable.{subtractedTo, subtracted-small}
 use Rattle.plain.proofs.subtracted.Statement.{statement}
 use Rattle.plain.proofs.subtracted.Tie as tie
@@ -18,7 +19,7 @@ use Rattle.plain.proofs.subtracted.Tie as tie
 turn : (n : ℕ) (t : List ℤ) (i total x : ℕ) → pos total ≡ subtractedTo n t i → x ≡ negPart (leftIn n t i) → pos (total + x) ≡ subtractedTo n t (suc i)
 turn n t i total x e d = ap₂ _+ℤ_ e (ap pos d) ∙ sym (sumBelow-suc i _)
 
-low : (n : ℕ) (t : List ℤ) (i total : ℕ) → pos total ≡ subtractedTo n t i → Small n t → i ≤ n → total ≤ 82_896_000_000 * 64
+low : (n : ℕ) (t : List ℤ) (i total : ℕ) → pos total ≡ subtractedTo n t i → Small n t → i ≤ n → total ≤ maxSubtracted
 low n t i total e ok h = omega (arith, subtracted-small n t ok i h, ap natAbs e)
 
 abbrev Inv-loop : tie.InvT-loop

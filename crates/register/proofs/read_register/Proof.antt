@@ -22,7 +22,7 @@ Inv-loop bytes register₀ previous₀ at₀ register previous at = Going bytes 
 abbrev μ-loop : tie.MeasureT-loop
 μ-loop bytes register₀ previous₀ at₀ register previous at = length bytes - at
 
--- the loop's turn, once its command is judged
+-- the loop's turn, once its command is dominanceChecked
 module _ (c : tie.After-refusal-at Inv-loop μ-loop) where
   abbrev turn : tie.At-loop Inv-loop μ-loop
   turn = c .before .before .before .before .before .before .before
@@ -39,8 +39,8 @@ module _ (c : tie.After-refusal-at Inv-loop μ-loop) where
 
 -- and not refused
 module _ (c : tie.Else1 Inv-loop μ-loop) where
-  judged : refusal (checksAt registerPart (bytes (c .before)) (reached (turn (c .before) .loop .previous) (turn (c .before) .loop .register)) (turn (c .before) .loop .at)) ≡ 0
-  judged = sym (number-is (c .before)) ∙ c .if1 .left
+  dominanceChecked : refusal (checksAt registerPart (bytes (c .before)) (reached (turn (c .before) .loop .previous) (turn (c .before) .loop .register)) (turn (c .before) .loop .at)) ≡ 0
+  dominanceChecked = sym (number-is (c .before)) ∙ c .if1 .left
 
   going : Going (bytes (c .before)) (turn (c .before) .loop .previous) (turn (c .before) .loop .register) (turn (c .before) .loop .at)
   going = turn (c .before) .loop .inv
@@ -91,7 +91,7 @@ add-i32-at : tie.Need-add-i32-at Inv-loop μ-loop
 add-i32-at c = search needs
 
 i32-at-requires : tie.Need-i32-at-requires Inv-loop μ-loop
-i32-at-requires c κs = let e = c .before .before in omega (arith, room (going e) (inside (e .before)) (judged e) 0x10 5 (c .match .keys1) size-base)
+i32-at-requires c κs = let e = c .before .before in omega (arith, room (going e) (inside (e .before)) (dominanceChecked e) 0x10 5 (c .match .keys1) size-base)
 
 add-at : tie.Need-add-at Inv-loop μ-loop
 add-at c = search needs
@@ -100,19 +100,19 @@ loop-less : tie.Need-loop-less Inv-loop μ-loop
 loop-less c = search needs
 
 loop-again : tie.Need-loop-again Inv-loop μ-loop
-loop-again c = let e = c .before .before .before in rw (toZ-ofZ (record { sfits = c .i32-at .ok }), c .i32-at .ensures) (base-on (going e) (inside (e .before)) (judged e) (c .before .match .keys1))
+loop-again c = let e = c .before .before .before in rw (toZ-ofZ (record { sfits = c .i32-at .ok }), c .i32-at .ensures) (base-on (going e) (inside (e .before)) (dominanceChecked e) (c .before .match .keys1))
 
 add-u16-at : tie.Need-add-u16-at Inv-loop μ-loop
 add-u16-at c = search needs
 
 u16-at-requires : tie.Need-u16-at-requires Inv-loop μ-loop
-u16-at-requires c κs = let e = c .before .before in omega (arith, room (going e) (inside (e .before)) (judged e) 0x11 5 (c .match .keys2) size-choice)
+u16-at-requires c κs = let e = c .before .before in omega (arith, room (going e) (inside (e .before)) (dominanceChecked e) 0x11 5 (c .match .keys2) size-choice)
 
 mul-register : tie.Need-mul-register Inv-loop μ-loop
 mul-register c = search needs
 
 element-write-register : tie.Need-element-write-register Inv-loop μ-loop
-element-write-register c = let e = c .before .before .before in choice-here (going e) (inside (e .before)) (judged e) (c .before .match .keys2) .few
+element-write-register c = let e = c .before .before .before in choice-here (going e) (inside (e .before)) (dominanceChecked e) (c .before .match .keys2) .few
 
 add-u16-at-2 : tie.Need-add-u16-at-2 Inv-loop μ-loop
 add-u16-at-2 c = search needs
@@ -121,13 +121,13 @@ add-u16-at-3 : tie.Need-add-u16-at-3 Inv-loop μ-loop
 add-u16-at-3 c = search needs
 
 u16-at-requires-2 : tie.Need-u16-at-requires-2 Inv-loop μ-loop
-u16-at-requires-2 c κs = let e = c .before .before .before in omega (arith, room (going e) (inside (e .before)) (judged e) 0x11 5 (c .before .match .keys2) size-choice)
+u16-at-requires-2 c κs = let e = c .before .before .before in omega (arith, room (going e) (inside (e .before)) (dominanceChecked e) 0x11 5 (c .before .match .keys2) size-choice)
 
 mul-register-2 : tie.Need-mul-register-2 Inv-loop μ-loop
 mul-register-2 c = search needs
 
 element-write-register-2 : tie.Need-element-write-register-2 Inv-loop μ-loop
-element-write-register-2 c = let e = c .before .before .before .before in choice-here (going e) (inside (e .before)) (judged e) (c .before .before .match .keys2) .few
+element-write-register-2 c = let e = c .before .before .before .before in choice-here (going e) (inside (e .before)) (dominanceChecked e) (c .before .before .match .keys2) .few
 
 add-register : tie.Need-add-register Inv-loop μ-loop
 add-register c = search needs
@@ -139,19 +139,19 @@ loop-less-2 : tie.Need-loop-less-2 Inv-loop μ-loop
 loop-less-2 c = search needs
 
 loop-again-2 : tie.Need-loop-again-2 Inv-loop μ-loop
-loop-again-2 c = let e = c .before .before .before .before in rw (c .u16-at2 .ensures, c .before .u16-at .ensures, add-one) (choice-on (going e) (inside (e .before)) (judged e) (c .before .before .match .keys2))
+loop-again-2 c = let e = c .before .before .before .before in rw (c .u16-at2 .ensures, c .before .u16-at .ensures, add-one) (choice-on (going e) (inside (e .before)) (dominanceChecked e) (c .before .before .match .keys2))
 
 add-u32-at : tie.Need-add-u32-at Inv-loop μ-loop
 add-u32-at c = search needs
 
 u32-at-requires : tie.Need-u32-at-requires Inv-loop μ-loop
-u32-at-requires c κs = let e = c .before .before in omega (arith, room (going e) (inside (e .before)) (judged e) 0x12 9 (c .match .keys3) size-term)
+u32-at-requires c κs = let e = c .before .before in omega (arith, room (going e) (inside (e .before)) (dominanceChecked e) 0x12 9 (c .match .keys3) size-term)
 
 mul-register-3 : tie.Need-mul-register-3 Inv-loop μ-loop
 mul-register-3 c = search needs
 
 element-write-register-3 : tie.Need-element-write-register-3 Inv-loop μ-loop
-element-write-register-3 c = let e = c .before .before .before in term-here (going e) (inside (e .before)) (judged e) (c .before .match .keys3) .few
+element-write-register-3 c = let e = c .before .before .before in term-here (going e) (inside (e .before)) (dominanceChecked e) (c .before .match .keys3) .few
 
 add-i32-at-2 : tie.Need-add-i32-at-2 Inv-loop μ-loop
 add-i32-at-2 c = search needs
@@ -160,13 +160,13 @@ add-i32-at-3 : tie.Need-add-i32-at-3 Inv-loop μ-loop
 add-i32-at-3 c = search needs
 
 i32-at-requires-2 : tie.Need-i32-at-requires-2 Inv-loop μ-loop
-i32-at-requires-2 c κs = let e = c .before .before .before in omega (arith, room (going e) (inside (e .before)) (judged e) 0x12 9 (c .before .match .keys3) size-term)
+i32-at-requires-2 c κs = let e = c .before .before .before in omega (arith, room (going e) (inside (e .before)) (dominanceChecked e) 0x12 9 (c .before .match .keys3) size-term)
 
 mul-t43 : tie.Need-mul-t43 Inv-loop μ-loop
 mul-t43 c = search needs
 
 element-set-from-register : tie.Need-element-set-from-register Inv-loop μ-loop
-element-set-from-register c = let e = c .before .before .before .before in term-here (going e) (inside (e .before)) (judged e) (c .before .before .match .keys3) .few
+element-set-from-register c = let e = c .before .before .before .before in term-here (going e) (inside (e .before)) (dominanceChecked e) (c .before .before .match .keys3) .few
 
 add-register-2 : tie.Need-add-register-2 Inv-loop μ-loop
 add-register-2 c = search needs
@@ -178,13 +178,13 @@ loop-less-3 : tie.Need-loop-less-3 Inv-loop μ-loop
 loop-less-3 c = search needs
 
 loop-again-3 : tie.Need-loop-again-3 Inv-loop μ-loop
-loop-again-3 c = let e = c .before .before .before .before in rw (toZ-ofZ (record { sfits = c .i32-at2 .ok }), c .i32-at2 .ensures, c .before .u32-at .ensures, add-one) (term-on (going e) (inside (e .before)) (judged e) (c .before .before .match .keys3))
+loop-again-3 c = let e = c .before .before .before .before in rw (toZ-ofZ (record { sfits = c .i32-at2 .ok }), c .i32-at2 .ensures, c .before .u32-at .ensures, add-one) (term-on (going e) (inside (e .before)) (dominanceChecked e) (c .before .before .match .keys3))
 
 add-t46 : tie.Need-add-t46 Inv-loop μ-loop
 add-t46 c = search needs
 
 returns-2 : tie.Need-returns-2 Inv-loop μ-loop
-returns-2 c = let e = c .before .before in ap registerRead (sym (ends-here (going e) (inside (e .before)) (judged e) (c .match .rest .0 .0 .1) (c .match .rest .0 .1) (c .match .rest .1)))
+returns-2 c = let e = c .before .before in ap registerRead (sym (ends-here (going e) (inside (e .before)) (dominanceChecked e) (c .match .rest .0 .0 .1) (c .match .rest .0 .1) (c .match .rest .1)))
 
 refused-requires-2 : tie.Need-refused-requires-2 Inv-loop μ-loop
 refused-requires-2 c κs = search needs

@@ -33,7 +33,7 @@ returns-4 : tie.Need-returns-4
 returns-4 c = λ p h. c .end-at .ensures ∙ sym (shown-end _ _ p h (c .before .match .keys4))
 
 returns-5 : tie.Need-returns-5
-returns-5 c = λ p h. sym (checks-other _ (p .previous) (p .gave) _ (c .match .rest .0 .0 .0 .1) (c .match .rest .0 .0 .1) (c .match .rest .0 .1) (c .match .rest .1))
+returns-5 c = λ p h. sym (checks-other _ (p .previous) (p .parsed) _ (c .match .rest .0 .0 .0 .1) (c .match .rest .0 .0 .1) (c .match .rest .0 .1) (c .match .rest .1))
 
 pub refusal-at-spec : {M : Type 1} → statement M
 refusal-at-spec =

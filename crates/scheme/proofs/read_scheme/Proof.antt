@@ -24,7 +24,7 @@ Inv-loop bytes register n terms scheme₀ sets₀ previous₀ at₀ scheme sets 
 abbrev μ-loop : tie.MeasureT-loop
 μ-loop bytes register n terms scheme₀ sets₀ previous₀ at₀ scheme sets previous at = length bytes - at
 
--- the loop's turn, once its command is judged
+-- the loop's turn, once its command is dominanceChecked
 module _ (c : tie.After-refusal-at Inv-loop μ-loop) where
   abbrev turn : tie.At-loop Inv-loop μ-loop
   turn = c .before .before .before .before .before .before .before
@@ -52,8 +52,8 @@ module _ (c : tie.After-refusal-at Inv-loop μ-loop) where
 
 -- and not refused
 module _ (c : tie.Else1 Inv-loop μ-loop) where
-  judged : refusal (checksAt (schemePart (register (c .before))) (bytes (c .before)) (reached (turn (c .before) .loop .previous) (turn (c .before) .loop .scheme)) (turn (c .before) .loop .at)) ≡ 0
-  judged = sym (number-is (c .before)) ∙ c .if1 .left
+  dominanceChecked : refusal (checksAt (schemePart (register (c .before))) (bytes (c .before)) (reached (turn (c .before) .loop .previous) (turn (c .before) .loop .scheme)) (turn (c .before) .loop .at)) ≡ 0
+  dominanceChecked = sym (number-is (c .before)) ∙ c .if1 .left
 
 fresh-requires : tie.Need-fresh-requires Inv-loop μ-loop
 fresh-requires c κs = search needs
@@ -86,7 +86,7 @@ add-u8-at : tie.Need-add-u8-at Inv-loop μ-loop
 add-u8-at c = search needs
 
 u8-at-requires : tie.Need-u8-at-requires Inv-loop μ-loop
-u8-at-requires c κs = let e = c .before .before in let k = e .before in omega (arith, product-room (valid k) (going k) (inside k) (judged e) (c .match .keys1))
+u8-at-requires c κs = let e = c .before .before in let k = e .before in omega (arith, product-room (valid k) (going k) (inside k) (dominanceChecked e) (c .match .keys1))
 
 add-u8-at-2 : tie.Need-add-u8-at-2 Inv-loop μ-loop
 add-u8-at-2 c = search needs
@@ -95,7 +95,7 @@ add-u8-at-3 : tie.Need-add-u8-at-3 Inv-loop μ-loop
 add-u8-at-3 c = search needs
 
 u8-at-requires-2 : tie.Need-u8-at-requires-2 Inv-loop μ-loop
-u8-at-requires-2 c κs = let e = c .before .before .before in let k = e .before in omega (arith, product-room (valid k) (going k) (inside k) (judged e) (c .before .match .keys1))
+u8-at-requires-2 c κs = let e = c .before .before .before in let k = e .before in omega (arith, product-room (valid k) (going k) (inside k) (dominanceChecked e) (c .before .match .keys1))
 
 slice-aggregate-union-of : tie.Need-slice-aggregate-union-of Inv-loop μ-loop
 slice-aggregate-union-of c = search needs
@@ -110,13 +110,13 @@ mul-sets : tie.Need-mul-sets Inv-loop μ-loop
 mul-sets c = search needs
 
 array-write-sets : tie.Need-array-write-sets Inv-loop μ-loop
-array-write-sets c = let e = c .before .before .before .before .before .before in let k = e .before in omega (arith, valid k .within .choices-within, product-here (valid k) (going k) (inside k) (judged e) (c .before .before .before .before .match .keys1) .few)
+array-write-sets c = let e = c .before .before .before .before .before .before in let k = e .before in omega (arith, valid k .within .choices-within, product-here (valid k) (going k) (inside k) (dominanceChecked e) (c .before .before .before .before .match .keys1) .few)
 
 element-write-scheme : tie.Need-element-write-scheme Inv-loop μ-loop
-element-write-scheme c = let e = c .before .before .before .before .before .before in let k = e .before in product-here (valid k) (going k) (inside k) (judged e) (c .before .before .before .before .match .keys1) .few
+element-write-scheme c = let e = c .before .before .before .before .before .before in let k = e .before in product-here (valid k) (going k) (inside k) (dominanceChecked e) (c .before .before .before .before .match .keys1) .few
 
 element-write-scheme-2 : tie.Need-element-write-scheme-2 Inv-loop μ-loop
-element-write-scheme-2 c = let e = c .before .before .before .before .before .before in let k = e .before in product-here (valid k) (going k) (inside k) (judged e) (c .before .before .before .before .match .keys1) .few
+element-write-scheme-2 c = let e = c .before .before .before .before .before .before in let k = e .before in product-here (valid k) (going k) (inside k) (dominanceChecked e) (c .before .before .before .before .match .keys1) .few
 
 add-scheme : tie.Need-add-scheme Inv-loop μ-loop
 add-scheme c = search needs
@@ -131,16 +131,16 @@ loop-again : tie.Need-loop-again Inv-loop μ-loop
 loop-again c =
     let e = c .before .before .before .before .before .before in
     let k = e .before in
-    rw (c .union-of .ensures, c .before .before .u8-at2 .ensures, c .before .before .before .u8-at .ensures, add-one) (product-on (valid k) (going k) (inside k) (judged e) (c .before .before .before .before .match .keys1))
+    rw (c .union-of .ensures, c .before .before .u8-at2 .ensures, c .before .before .before .u8-at .ensures, add-one) (product-on (valid k) (going k) (inside k) (dominanceChecked e) (c .before .before .before .before .match .keys1))
 
 add-u8-at-4 : tie.Need-add-u8-at-4 Inv-loop μ-loop
 add-u8-at-4 c = search needs
 
 u8-at-requires-3 : tie.Need-u8-at-requires-3 Inv-loop μ-loop
-u8-at-requires-3 c κs = let e = c .before .before in let k = e .before in omega (arith, split-room (valid k) (going k) (inside k) (judged e) (c .match .keys2))
+u8-at-requires-3 c κs = let e = c .before .before in let k = e .before in omega (arith, split-room (valid k) (going k) (inside k) (dominanceChecked e) (c .match .keys2))
 
 element-write-scheme-3 : tie.Need-element-write-scheme-3 Inv-loop μ-loop
-element-write-scheme-3 c = let e = c .before .before .before in let k = e .before in omega (arith, valid k .within .terms-within, split-here (valid k) (going k) (inside k) (judged e) (c .before .match .keys2) .few)
+element-write-scheme-3 c = let e = c .before .before .before in let k = e .before in omega (arith, valid k .within .terms-within, split-here (valid k) (going k) (inside k) (dominanceChecked e) (c .before .match .keys2) .few)
 
 add-u8-at-5 : tie.Need-add-u8-at-5 Inv-loop μ-loop
 add-u8-at-5 c = search needs
@@ -149,10 +149,10 @@ add-u8-at-6 : tie.Need-add-u8-at-6 Inv-loop μ-loop
 add-u8-at-6 c = search needs
 
 u8-at-requires-4 : tie.Need-u8-at-requires-4 Inv-loop μ-loop
-u8-at-requires-4 c κs = let e = c .before .before .before in let k = e .before in omega (arith, split-room (valid k) (going k) (inside k) (judged e) (c .before .match .keys2))
+u8-at-requires-4 c κs = let e = c .before .before .before in let k = e .before in omega (arith, split-room (valid k) (going k) (inside k) (dominanceChecked e) (c .before .match .keys2))
 
 element-write-scheme-4 : tie.Need-element-write-scheme-4 Inv-loop μ-loop
-element-write-scheme-4 c = let e = c .before .before .before .before in let k = e .before in omega (arith, valid k .within .terms-within, split-here (valid k) (going k) (inside k) (judged e) (c .before .before .match .keys2) .few)
+element-write-scheme-4 c = let e = c .before .before .before .before in let k = e .before in omega (arith, valid k .within .terms-within, split-here (valid k) (going k) (inside k) (dominanceChecked e) (c .before .before .match .keys2) .few)
 
 add-scheme-2 : tie.Need-add-scheme-2 Inv-loop μ-loop
 add-scheme-2 c = search needs
@@ -167,13 +167,13 @@ loop-again-2 : tie.Need-loop-again-2 Inv-loop μ-loop
 loop-again-2 c =
     let e = c .before .before .before .before in
     let k = e .before in
-    rw (c .u8-at4 .ensures, c .before .u8-at3 .ensures, add-one) (split-on (valid k) (going k) (inside k) (judged e) (c .before .before .match .keys2))
+    rw (c .u8-at4 .ensures, c .before .u8-at3 .ensures, add-one) (split-on (valid k) (going k) (inside k) (dominanceChecked e) (c .before .before .match .keys2))
 
 add-t45 : tie.Need-add-t45 Inv-loop μ-loop
 add-t45 c = search needs
 
 returns-2 : tie.Need-returns-2 Inv-loop μ-loop
-returns-2 c = let e = c .before .before in let k = e .before in ap schemeRead (sym (ends-here (valid k) (going k) (inside k) (judged e) (c .match .rest .0 .1) (c .match .rest .1)))
+returns-2 c = let e = c .before .before in let k = e .before in ap schemeRead (sym (ends-here (valid k) (going k) (inside k) (dominanceChecked e) (c .match .rest .0 .1) (c .match .rest .1)))
 
 refused-requires-2 : tie.Need-refused-requires-2 Inv-loop μ-loop
 refused-requires-2 c κs = search needs

@@ -30,7 +30,7 @@ returns-3 : tie.Need-returns-3
 returns-3 c = λ reg p h. c .end-at .ensures ∙ sym (shown-end reg _ _ p h (c .before .match .keys3))
 
 returns-4 : tie.Need-returns-4
-returns-4 c = λ reg p h. sym (checks-other reg _ (p .previous) (p .gave) _ (c .match .rest .0 .0 .1) (c .match .rest .0 .1) (c .match .rest .1))
+returns-4 c = λ reg p h. sym (checks-other reg _ (p .previous) (p .parsed) _ (c .match .rest .0 .0 .1) (c .match .rest .0 .1) (c .match .rest .1))
 
 pub refusal-at-spec : {M : Type 1} → statement M
 refusal-at-spec =

@@ -5,7 +5,7 @@ use mathlib.Core.Path.{_≡_, sym, ap, _∙_}
 use mathlib.Core.List.{[], _∷_}
 use lib.ListN.{length, length-append}
 use borrow.Author.Needs.{needs}
-use Rattle.wire.specs.Text.{digits}
+use Rattle.text.specs.Text.{digits}
 use Rattle.text.proofs.Digits.{digits-one, digits-more}
 use Rattle.text.proofs.Written.{and-then, same}
 use borrow.Fn.Kinds.{In}

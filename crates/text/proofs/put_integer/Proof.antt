@@ -6,7 +6,7 @@ use lib.ListN.{length}
 use lib.IntN.{natAbs}
 use mir.Facts.{toZ-ofZ}
 use borrow.Author.Needs.{needs}
-use Rattle.wire.specs.Text.{digits}
+use Rattle.text.specs.Text.{digits}
 use Rattle.text.specs.Fields.{sign}
 use Rattle.text.proofs.Lines.{field-integer, length-integer}
 use Rattle.text.proofs.Written.{and-then, same}

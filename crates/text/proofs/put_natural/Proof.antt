@@ -3,7 +3,7 @@ use native.Mathlib.Omega.{arith}
 use mathlib.Core.Path.{sym}
 use mathlib.Core.List.{[], _∷_}
 use borrow.Author.Needs.{needs}
-use Rattle.wire.specs.Text.{digits}
+use Rattle.text.specs.Text.{digits}
 use Rattle.text.proofs.Lines.{field-natural, length-natural}
 use Rattle.text.proofs.Written.{and-then, same}
 use Rattle.text.proofs.put_natural.Statement.{statement}

@@ -23,8 +23,8 @@ returns c =
     let x = refused-commands (a .register) (a .scheme) (a .bytes .now) (f .result) (f .ensures) (c .before .if1 .taken) (a .table .now) in
     (c .refused .ensures ∙ x .0, x .1)
 
-fill-requires : tie.Need-fill-requires
-fill-requires c κs =
+put-residual-requires : tie.Need-put-residual-requires
+put-residual-requires c κs =
     let s = c .before .before .before .before in
     let f = c .before .before .read-commands in
     let reads = commands (s .args .register) (s .args .scheme) (s .args .bytes .now) (f .result) (f .ensures) (c .before .if1 .left) in
@@ -41,7 +41,7 @@ first-short-requires c κs =
     let s = c .before .before .before .before .before .before .before .before .before in
     let f = c .before .before .before .before .before .before .before .read-commands in
     let z = c .before .before .before .before .before .before .if1 .left in
-    let fills = c .before .before .before .before .fill .ensures in (
+    let fills = c .before .before .before .before .put-residual .ensures in (
       side-small (s .args .register) (s .args .scheme) (s .args .bytes .now) (f .result) (f .ensures) z (s .pre .0 .within) (s .pre .1 .0) (s .args .table .now) _ (s .pre .1 .1) fills,
       bounded-after (s .args .register) (s .args .scheme) (s .args .bytes .now) (f .result) (f .ensures) z (s .pre .0 .within) (s .pre .1 .0) (s .args .table .now) _ (s .pre .1 .1) fills,
     )
@@ -63,14 +63,14 @@ returns-2 c =
     let s = c .before .before .before .before .before .before .before .before .before .before .before .before in
     let f = c .before .before .before .before .before .before .before .before .before .before .read-commands in
     let z = c .before .before .before .before .before .before .before .before .before .if1 .left in
-    let fills = c .before .before .before .before .before .before .before .fill .ensures in
+    let fills = c .before .before .before .before .before .before .before .put-residual .ensures in
     let h = c .before .before .first-short in (
       c .refused2 .ensures ∙ falls-short (s .args .register) (s .args .scheme) (s .args .bytes .now) (f .result) (f .ensures) z (s .pre .0 .within) (s .pre .1 .0) (s .args .table .now) _ (s .pre .1 .1) fills (h .result) (h .ensures) (c .before .if2 .taken),
       table-after (s .args .register) (s .args .scheme) (s .args .bytes .now) (f .result) (f .ensures) z (s .pre .0 .within) (s .pre .1 .0) (s .args .table .now) _ (s .pre .1 .1) fills,
     )
 
-div-up-requires : tie.Need-div-up-requires
-div-up-requires c κs =
+ceil-div-requires : tie.Need-ceil-div-requires
+ceil-div-requires c κs =
     let s = c .before .before .before .before .before .before .before .before .before .before .before .before .before in
     let f = c .before .before .before .before .before .before .before .before .before .before .before .read-commands in
     let x = in-range (s .args .register) (s .args .scheme) (s .args .bytes .now) (f .result) (f .ensures) (c .before .before .before .before .before .before .before .before .before .before .if1 .left) in
@@ -84,11 +84,11 @@ returns-3 c =
     let s = c .before .before .before .before .before .before .before .before .before .before .before .before .before .before in
     let f = c .before .before .before .before .before .before .before .before .before .before .before .before .read-commands in
     let z = c .before .before .before .before .before .before .before .before .before .before .before .if1 .left in
-    let fills = c .before .before .before .before .before .before .before .before .before .fill .ensures in
+    let fills = c .before .before .before .before .before .before .before .before .before .put-residual .ensures in
     let h = c .before .before .before .before .first-short in
     let x = in-range (s .args .register) (s .args .scheme) (s .args .bytes .now) (f .result) (f .ensures) z in
     let k = f .result .certificate in
-    let b = toZ-ofZ (record { sfits = c .div-up .ok }) ∙ c .div-up .ensures ∙ ap (λ t. ceilDiv t (k .scale)) (read-signed w64 (k .target) (omega (arith, x .0))) in (
+    let b = toZ-ofZ (record { sfits = c .ceil-div .ok }) ∙ c .ceil-div .ensures ∙ ap (λ t. ceilDiv t (k .scale)) (read-signed w64 (k .target) (omega (arith, x .0))) in (
       holds-all (s .args .register) (s .args .scheme) (s .args .bytes .now) (f .result) (f .ensures) z (s .pre .0 .within) (s .pre .1 .0) (s .args .table .now) _ (s .pre .1 .1) fills (h .result) (h .ensures) (c .before .before .before .if2 .left) _ b,
       table-after (s .args .register) (s .args .scheme) (s .args .bytes .now) (f .result) (f .ensures) z (s .pre .0 .within) (s .pre .1 .0) (s .args .table .now) _ (s .pre .1 .1) fills,
     )
@@ -100,7 +100,7 @@ check-certificate-spec =
     read-commands-requires
     refused-requires
     returns
-    fill-requires
+    put-residual-requires
     add-side
     add-side-2
     first-short-requires
@@ -108,6 +108,6 @@ check-certificate-spec =
     refused-requires-2
     same-length
     returns-2
-    div-up-requires
+    ceil-div-requires
     same-length-2
     returns-3)

@@ -1,14 +1,15 @@
 -- `registers::choices` is safe and ends.
 use Prim.Native.Nat.{_≤_, _-_}
+use Rattle.register.specs.Limits.{maxChoices}
 use borrow.Author.Needs.{needs}
 use Rattle.conformance.proofs.registers.choices.Statement.{statement}
 use Rattle.conformance.proofs.registers.choices.Tie as tie
 
 abbrev Inv-loop : tie.InvT-loop
-Inv-loop line register next₀ i₀ next i = i ≤ 32
+Inv-loop line register next₀ i₀ next i = i ≤ maxChoices
 
 abbrev μ-loop : tie.MeasureT-loop
-μ-loop line register next₀ i₀ next i = 32 - i
+μ-loop line register next₀ i₀ next i = maxChoices - i
 
 loop-holds : tie.Need-loop-holds Inv-loop μ-loop
 loop-holds c = search needs

@@ -1,14 +1,15 @@
 -- `registers::terms` is safe and ends.
 use Prim.Native.Nat.{_≤_, _-_}
+use Rattle.register.specs.Limits.{maxTerms}
 use borrow.Author.Needs.{needs}
 use Rattle.conformance.proofs.registers.terms.Statement.{statement}
 use Rattle.conformance.proofs.registers.terms.Tie as tie
 
 abbrev Inv-loop : tie.InvT-loop
-Inv-loop line register next₀ i₀ next i = i ≤ 256
+Inv-loop line register next₀ i₀ next i = i ≤ maxTerms
 
 abbrev μ-loop : tie.MeasureT-loop
-μ-loop line register next₀ i₀ next i = 256 - i
+μ-loop line register next₀ i₀ next i = maxTerms - i
 
 loop-holds : tie.Need-loop-holds Inv-loop μ-loop
 loop-holds c = search needs

@@ -1,5 +1,6 @@
 -- `schemes::products` is safe and ends.
 use Prim.Native.Nat.{_≤_, _-_}
+use Rattle.scheme.specs.Scheme.{maxProducts}
 use borrow.Author.Needs.{needs}
 use Rattle.conformance.proofs.schemes.products.Statement.{statement}
 use Rattle.conformance.proofs.schemes.products.Tie as tie
@@ -8,10 +9,10 @@ use Rattle.conformance.proofs.schemes.product.Reads as product-reads
 use Rattle.conformance.proofs.schemes.set_of.Reads as set-of-reads
 
 abbrev Inv-loop : tie.InvT-loop
-Inv-loop line n scheme sets₀ next₀ k₀ sets next k = k ≤ 32
+Inv-loop line n scheme sets₀ next₀ k₀ sets next k = k ≤ maxProducts
 
 abbrev μ-loop : tie.MeasureT-loop
-μ-loop line n scheme sets₀ next₀ k₀ sets next k = 32 - k
+μ-loop line n scheme sets₀ next₀ k₀ sets next k = maxProducts - k
 
 choice-sets-requires : tie.Need-choice-sets-requires Inv-loop μ-loop
 choice-sets-requires c κs = search needs

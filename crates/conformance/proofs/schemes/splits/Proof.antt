@@ -1,15 +1,16 @@
 -- `schemes::splits` is safe and ends.
 use Prim.Native.Nat.{_≤_, _-_}
+use Rattle.register.specs.Limits.{maxTerms}
 use borrow.Author.Needs.{needs}
 use Rattle.conformance.proofs.schemes.splits.Statement.{statement}
 use Rattle.conformance.proofs.schemes.splits.Tie as tie
 use Rattle.conformance.proofs.schemes.split.Reads as split-reads
 
 abbrev Inv-loop : tie.InvT-loop
-Inv-loop line scheme next₀ i₀ next i = i ≤ 256
+Inv-loop line scheme next₀ i₀ next i = i ≤ maxTerms
 
 abbrev μ-loop : tie.MeasureT-loop
-μ-loop line scheme next₀ i₀ next i = 256 - i
+μ-loop line scheme next₀ i₀ next i = maxTerms - i
 
 loop-holds : tie.Need-loop-holds Inv-loop μ-loop
 loop-holds c = search needs

@@ -1,12 +1,13 @@
 -- `tables::rows` is safe and ends.
-use Prim.Native.Nat.{_≤_, _-_, _*_}
+use Prim.Native.Nat.{_≤_, _+_, _-_, _*_}
+use Rattle.scheme.specs.Sets.{maxVariables}
 use borrow.Author.Needs.{needs}
 use Rattle.conformance.proofs.tables.rows.Statement.{statement}
 use Rattle.conformance.proofs.tables.rows.Tie as tie
 use Rattle.conformance.proofs.tables.row.Reads as row-reads
 
 abbrev Inv-loop : tie.InvT-loop
-Inv-loop line table side next₀ start₀ r₀ next start r = (r ≤ side) × (start ≤ 65 * r)
+Inv-loop line table side next₀ start₀ r₀ next start r = (r ≤ side) × (start ≤ (maxVariables + 1) * r)
 
 abbrev μ-loop : tie.MeasureT-loop
 μ-loop line table side next₀ start₀ r₀ next start r = side - r
