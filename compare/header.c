@@ -24,8 +24,8 @@ static void expect(const char *what, int holds) {
 }
 
 int main(void) {
-    static int64_t table[FEEDCHECK_TABLE];
-    uint8_t buffer[FEEDCHECK_LISTING];
+    static int64_t table[FEEDCHECK_TABLE_NUMBERS];
+    uint8_t buffer[FEEDCHECK_MAX_LISTING];
     const uint8_t *scheme = JOB + REGISTER, *certificate = scheme + SCHEME, *plan = certificate + CERTIFICATE;
 
     FeedcheckRegisterAnswer a = feedcheck_register(JOB, REGISTER);
@@ -34,26 +34,26 @@ int main(void) {
     FeedcheckSchemeAnswer b = feedcheck_scheme(JOB, REGISTER, scheme, SCHEME);
     expect("scheme", b.number == 0 && b.scheme.products == 2 && b.scheme.splits == 3 && b.scheme.rights[1] == 3 &&
                          b.scheme.split_lefts[2] == 4);
-    FeedcheckWritten w = feedcheck_build(JOB, REGISTER, buffer, sizeof buffer);
+    FeedcheckWriterAnswer w = feedcheck_build(JOB, REGISTER, buffer, sizeof buffer);
     expect("build", w.number == 0 && w.count == 13 && buffer[12] == 0x2F);
     w = feedcheck_build(JOB, REGISTER, buffer, 12);
     expect("build, short buffer", w.number == 11 && w.part == 0 && w.position == 0 && w.count == 0);
     FeedcheckCostAnswer c = feedcheck_cost(JOB, REGISTER, plan, PLAN);
     expect("cost", c.number == 0 && c.cost == 0);
-    FeedcheckPenaltyAnswer p = feedcheck_penalty(JOB, REGISTER, scheme, SCHEME, table, FEEDCHECK_TABLE);
+    FeedcheckPenaltyAnswer p = feedcheck_penalty(JOB, REGISTER, scheme, SCHEME, table, FEEDCHECK_TABLE_NUMBERS);
     expect("penalty", p.number == 0 && table[0] == 20 && table[5] == 20);
-    FeedcheckCheckAnswer k = feedcheck_check(JOB, REGISTER, scheme, SCHEME, certificate, CERTIFICATE, table, FEEDCHECK_TABLE);
+    FeedcheckCheckAnswer k = feedcheck_check(JOB, REGISTER, scheme, SCHEME, certificate, CERTIFICATE, table, FEEDCHECK_TABLE_NUMBERS);
     expect("check", k.number == 0 && k.bound == 0 && table[0] == 0);
-    k = feedcheck_check(JOB, REGISTER, scheme, SCHEME, certificate, CERTIFICATE - 1, table, FEEDCHECK_TABLE);
+    k = feedcheck_check(JOB, REGISTER, scheme, SCHEME, certificate, CERTIFICATE - 1, table, FEEDCHECK_TABLE_NUMBERS);
     expect("check, cut", k.number == 2 && k.part == 3 && k.position == 43);
     w = feedcheck_plain(JOB, REGISTER, scheme, SCHEME, buffer, sizeof buffer);
     expect("plain", w.number == 0 && w.count == CERTIFICATE && memcmp(buffer, certificate, CERTIFICATE) == 0);
     FeedcheckTally tally = {4294967295u, 7};
-    FeedcheckJobAnswer j = feedcheck_job(JOB, sizeof JOB, table, FEEDCHECK_TABLE, tally);
+    FeedcheckJobAnswer j = feedcheck_job(JOB, sizeof JOB, table, FEEDCHECK_TABLE_NUMBERS, tally);
     expect("job", j.number == 0 && j.bound == 0 && j.cost == 0 && j.gap == 0 && j.tally.accepted == 4294967295u &&
                       j.tally.refused == 7);
     static const char LINES[] = "T 0 4 480\nT 1 4 720\nT 2 7 480\nF 4 480\nF 4 720\nB 0 0 0\n";
-    w = feedcheck_listing(JOB, sizeof JOB, table, FEEDCHECK_TABLE, buffer, sizeof buffer);
+    w = feedcheck_listing(JOB, sizeof JOB, table, FEEDCHECK_TABLE_NUMBERS, buffer, sizeof buffer);
     expect("listing", w.number == 0 && w.count == strlen(LINES) && memcmp(buffer, LINES, w.count) == 0);
     if (!failed)
         printf("header: the example is answered as the scope says\n");

@@ -5,8 +5,8 @@
 #include "feedcheck.h"
 
 int main(int count, char **words) {
-    static uint8_t job[FEEDCHECK_JOB_READ];
-    static int64_t table[FEEDCHECK_TABLE];
+    static uint8_t job[FEEDCHECK_MAX_JOB_READ];
+    static int64_t table[FEEDCHECK_TABLE_NUMBERS];
     FeedcheckTally tally = {0, 0};
     FeedcheckJobAnswer answer;
     FILE *file = count == 2 ? fopen(words[1], "rb") : NULL;
@@ -23,7 +23,7 @@ int main(int count, char **words) {
     }
     fclose(file);
 
-    answer = feedcheck_job(job, length, table, FEEDCHECK_TABLE, tally);
+    answer = feedcheck_job(job, length, table, FEEDCHECK_TABLE_NUMBERS, tally);
     if (answer.number != 0) {
         printf("refusal %d in part %d at byte %zu\n", answer.number, answer.part, answer.position);
         return 1;

@@ -1,14 +1,14 @@
 /* The nine calls of the library. Every call is a pure function of the bytes that it is given: nothing is kept between calls.
  *
  * A run of bytes is a pointer and a length. A pointer is never null, also where the length is 0; a table is aligned as int64_t.
- * A lent table or buffer overlaps nothing else that the call is given. A table has at least FEEDCHECK_TABLE numbers; a shorter
- * one is refused 11 and left as it was, as is a buffer shorter than the bytes to be written.
+ * A lent table or buffer overlaps nothing else that the call is given. A table has at least FEEDCHECK_TABLE_NUMBERS numbers; a
+ * shorter one is refused 11 and left as it was, as is a buffer shorter than the bytes to be written.
  *
  * An answer's number is 0, or that of a refusal; then part and position say which command is refused, and every other field is 0
  * (a job's tally is carried on all the same). The numbers are explained in docs/REFUSALS.md.
  *
  * Each call stands in a static library of its own, target/staticlib/libNAME.a; the name is given beside each call.
- * compare/libraries makes all nine, `rt staticlib NAME` one. They can be linked together. include/example.c is a complete program,
+ * tools/libraries makes all nine, `rt staticlib NAME` one. They can be linked together. include/example.c is a complete program,
  * and docs/LINKING.md has the commands. */
 #ifndef FEEDCHECK_H
 #define FEEDCHECK_H
@@ -21,31 +21,31 @@ extern "C" {
 #endif
 
 enum {
-    FEEDCHECK_CHOICES = 32,
-    FEEDCHECK_TERMS = 256,
-    FEEDCHECK_PRODUCTS = 32,
-    FEEDCHECK_TABLE = 4225,    /* numbers of a working table */
-    FEEDCHECK_BUILT = 865,     /* a buffer of so many bytes is enough for every scheme that is built */
-    FEEDCHECK_PLAIN = 1294,    /* for every certificate of our own */
-    FEEDCHECK_LISTING = 4096,  /* for every listing */
-    FEEDCHECK_JOB = 25306,     /* no job of more bytes is accepted */
-    FEEDCHECK_JOB_READ = 25435 /* a longer job is answered as its first so many bytes are */
+    FEEDCHECK_MAX_CHOICES = 32,
+    FEEDCHECK_MAX_TERMS = 256,
+    FEEDCHECK_MAX_PRODUCTS = 32,
+    FEEDCHECK_TABLE_NUMBERS = 4225, /* numbers of a working table */
+    FEEDCHECK_MAX_BUILT = 865,      /* a buffer of so many bytes is enough for every scheme that is built */
+    FEEDCHECK_MAX_PLAIN = 1294,     /* for every certificate of our own */
+    FEEDCHECK_MAX_LISTING = 4096,   /* for every listing */
+    FEEDCHECK_MAX_JOB = 25306,      /* no job of more bytes is accepted */
+    FEEDCHECK_MAX_JOB_READ = 25435  /* a longer job is answered as its first so many bytes are */
 };
 
 /* Entries past the counts are 0. */
 typedef struct {
     int32_t base;
     size_t choices, terms;
-    uint16_t tanks[FEEDCHECK_CHOICES], minutes[FEEDCHECK_CHOICES];
-    uint32_t masks[FEEDCHECK_TERMS];
-    int32_t coefficients[FEEDCHECK_TERMS];
+    uint16_t tanks[FEEDCHECK_MAX_CHOICES], minutes[FEEDCHECK_MAX_CHOICES];
+    uint32_t masks[FEEDCHECK_MAX_TERMS];
+    int32_t coefficients[FEEDCHECK_MAX_TERMS];
 } FeedcheckRegister;
 
 /* Product number n + k has the operands lefts[k] and rights[k]; term t has the split split_lefts[t], split_rights[t]. */
 typedef struct {
     size_t products, splits;
-    uint8_t lefts[FEEDCHECK_PRODUCTS], rights[FEEDCHECK_PRODUCTS];
-    uint8_t split_lefts[FEEDCHECK_TERMS], split_rights[FEEDCHECK_TERMS];
+    uint8_t lefts[FEEDCHECK_MAX_PRODUCTS], rights[FEEDCHECK_MAX_PRODUCTS];
+    uint8_t split_lefts[FEEDCHECK_MAX_TERMS], split_rights[FEEDCHECK_MAX_TERMS];
 } FeedcheckScheme;
 
 /* How many jobs were accepted and refused; each count stays at 4,294,967,295. */
@@ -70,7 +70,7 @@ typedef struct {
     uint8_t number, part;
     size_t position;
     size_t count;
-} FeedcheckWritten;
+} FeedcheckWriterAnswer;
 
 typedef struct {
     uint8_t number, part;
@@ -103,7 +103,7 @@ FeedcheckRegisterAnswer feedcheck_register(const uint8_t *reg, size_t reg_length
 FeedcheckSchemeAnswer feedcheck_scheme(const uint8_t *reg, size_t reg_length, const uint8_t *scheme, size_t scheme_length);
 
 /* Builds a scheme of a register and writes its bytes. libbuilder.a */
-FeedcheckWritten feedcheck_build(const uint8_t *reg, size_t reg_length, uint8_t *buffer, size_t buffer_length);
+FeedcheckWriterAnswer feedcheck_build(const uint8_t *reg, size_t reg_length, uint8_t *buffer, size_t buffer_length);
 
 /* The cost of a plan (part 4). libplan.a */
 FeedcheckCostAnswer feedcheck_cost(const uint8_t *reg, size_t reg_length, const uint8_t *plan, size_t plan_length);
@@ -117,15 +117,15 @@ FeedcheckCheckAnswer feedcheck_check(const uint8_t *reg, size_t reg_length, cons
                                      const uint8_t *certificate, size_t certificate_length, int64_t *table, size_t table_length);
 
 /* Writes the certificate of our own for a register and a scheme. libplain.a */
-FeedcheckWritten feedcheck_plain(const uint8_t *reg, size_t reg_length, const uint8_t *scheme, size_t scheme_length,
-                                 uint8_t *buffer, size_t buffer_length);
+FeedcheckWriterAnswer feedcheck_plain(const uint8_t *reg, size_t reg_length, const uint8_t *scheme, size_t scheme_length,
+                                      uint8_t *buffer, size_t buffer_length);
 
 /* A whole job: the bound, the plan's cost, the gap, and the tally carried on. libjob.a */
 FeedcheckJobAnswer feedcheck_job(const uint8_t *job, size_t job_length, int64_t *table, size_t table_length, FeedcheckTally tally);
 
 /* Writes the lines of a job; a refused job has one line, and is no refusal of this call. liblisting.a */
-FeedcheckWritten feedcheck_listing(const uint8_t *job, size_t job_length, int64_t *table, size_t table_length, uint8_t *buffer,
-                                   size_t buffer_length);
+FeedcheckWriterAnswer feedcheck_listing(const uint8_t *job, size_t job_length, int64_t *table, size_t table_length,
+                                        uint8_t *buffer, size_t buffer_length);
 
 #ifdef __cplusplus
 }

@@ -25,7 +25,7 @@ const CALLS: [(&str, &[u8]); 9] = [
 ];
 
 /// Numbers or bytes on either side of what is lent.
-const BESIDE: usize = 16;
+const MARGIN: usize = 16;
 
 struct Comparison {
     random: Random,
@@ -36,7 +36,7 @@ struct Comparison {
     /// For each part and command byte, how often the check or the cost refused it with each number.
     commands: BTreeMap<(u8, Option<u8>), [u64; 13]>,
     /// What lent tables and buffers hold at first.
-    fill: Vec<i64>,
+    contents: Vec<i64>,
 }
 
 /// A table or a buffer that is lent twice, once to each implementation, with something beside it.
@@ -51,8 +51,8 @@ impl<T: Copy + PartialEq> Lent<T> {
     }
 
     fn both(&mut self) -> (&mut [T], &mut [T]) {
-        let end = self.library.len() - BESIDE;
-        (&mut self.library[BESIDE..end], &mut self.reference[BESIDE..end])
+        let end = self.library.len() - MARGIN;
+        (&mut self.library[MARGIN..end], &mut self.reference[MARGIN..end])
     }
 
     fn same(&self) -> bool {
@@ -66,11 +66,11 @@ impl Comparison {
             self.random.pick(&[4_225, 4_225, 4_225, 4_225, 4_225, 4_225, 4_225, 4_225, 4_225, 4_225, 4_226, 5_000, 4_224, 0]);
         let length = if self.random.chance(1) { self.random.below(4_225) } else { length };
         if self.random.chance(2) {
-            let last = self.fill.len();
+            let last = self.contents.len();
             let at = self.random.below(last);
-            self.fill[at] = self.random.next() as i64;
+            self.contents[at] = self.random.next() as i64;
         }
-        Lent::new(self.fill[..length + 2 * BESIDE].to_vec())
+        Lent::new(self.contents[..length + 2 * MARGIN].to_vec())
     }
 
     /// A buffer for `count` bytes: just long enough, longer, or too short.
@@ -83,11 +83,11 @@ impl Comparison {
             8 => self.random.below(count + 1),
             _ => 0,
         };
-        Lent::new(self.fill[..length + 2 * BESIDE].iter().map(|&number| number as u8).collect())
+        Lent::new(self.contents[..length + 2 * MARGIN].iter().map(|&number| number as u8).collect())
     }
 
     /// Counts an answer, and tells a difference.
-    fn judge(&mut self, call: &'static str, number: u8, same: bool, input: &Input, answers: impl FnOnce() -> String) {
+    fn count_answer(&mut self, call: &'static str, number: u8, same: bool, input: &Input, answers: impl FnOnce() -> String) {
         self.numbers.get_mut(call).unwrap()[number as usize] += 1;
         if same {
             return;
@@ -113,11 +113,11 @@ impl Comparison {
 
         let library = raw::register(part1);
         let answer = register_answer(reference::register(part1));
-        self.judge("register", answer.number, library == answer, input, || format!("{library:?} {answer:?}"));
+        self.count_answer("register", answer.number, library == answer, input, || format!("{library:?} {answer:?}"));
 
         let library = raw::scheme(part1, part2);
         let answer = scheme_answer(reference::scheme(part1, part2));
-        self.judge("scheme", answer.number, library == answer, input, || format!("{library:?} {answer:?}"));
+        self.count_answer("scheme", answer.number, library == answer, input, || format!("{library:?} {answer:?}"));
 
         self.compare_writer("build", input, 865, |buffer| raw::build(part1, buffer), |buffer| reference::build(part1, buffer));
         self.compare_cost(input);
@@ -140,7 +140,7 @@ impl Comparison {
         call: &'static str,
         input: &Input,
         longest: usize,
-        library: impl Fn(&mut [u8]) -> raw::Written,
+        library: impl Fn(&mut [u8]) -> raw::WriterAnswer,
         reference: impl Fn(&mut [u8]) -> Answer<usize>,
     ) {
         let count = reference(&mut [0; 2_000]).unwrap_or(longest);
@@ -149,7 +149,7 @@ impl Comparison {
         let library = library(ours);
         let answer = written(reference(theirs));
         let same = library == answer && buffer.same();
-        self.judge(call, answer.number, same, input, || format!("{library:?} {answer:?} buffers {}", buffer.same()));
+        self.count_answer(call, answer.number, same, input, || format!("{library:?} {answer:?} buffers {}", buffer.same()));
     }
 
     fn compare_cost(&mut self, input: &Input) {
@@ -157,7 +157,7 @@ impl Comparison {
         let library = raw::cost(part1, part4);
         let (refusal, value) = split(reference::cost(part1, part4), 0);
         let answer = raw::CostAnswer { number: refusal.number, part: refusal.part, position: refusal.position, cost: value };
-        self.judge("cost", answer.number, library == answer, input, || format!("{library:?} {answer:?}"));
+        self.count_answer("cost", answer.number, library == answer, input, || format!("{library:?} {answer:?}"));
         if refusal.part == 4 {
             self.count_command(refusal, part4);
         }
@@ -171,7 +171,7 @@ impl Comparison {
         let (refusal, ()) = split(reference::penalty(part1, part2, theirs), ());
         let answer = raw::PenaltyAnswer { number: refusal.number, part: refusal.part, position: refusal.position };
         let same = library == answer && table.same();
-        self.judge("penalty", answer.number, same, input, || format!("{library:?} {answer:?} tables {}", table.same()));
+        self.count_answer("penalty", answer.number, same, input, || format!("{library:?} {answer:?} tables {}", table.same()));
     }
 
     fn compare_check(&mut self, input: &Input) {
@@ -182,7 +182,7 @@ impl Comparison {
         let (refusal, value) = split(reference::check(part1, part2, part3, theirs), 0);
         let answer = raw::CheckAnswer { number: refusal.number, part: refusal.part, position: refusal.position, bound: value };
         let same = library == answer && table.same();
-        self.judge("check", answer.number, same, input, || format!("{library:?} {answer:?} tables {}", table.same()));
+        self.count_answer("check", answer.number, same, input, || format!("{library:?} {answer:?} tables {}", table.same()));
         if refusal.part != 0 {
             self.count_command(refusal, &input.parts[refusal.part as usize - 1]);
         }
@@ -207,7 +207,7 @@ impl Comparison {
             tally: raw::Tally { accepted: tally.accepted, refused: tally.refused },
         };
         let same = library == answer && table.same();
-        self.judge("job", answer.number, same, input, || format!("{library:?} {answer:?} tables {}", table.same()));
+        self.count_answer("job", answer.number, same, input, || format!("{library:?} {answer:?} tables {}", table.same()));
     }
 
     fn compare_listing(&mut self, input: &Input) {
@@ -219,7 +219,7 @@ impl Comparison {
         let library = raw::listing(&input.job, ours, our_bytes);
         let answer = written(reference::listing(&input.job, theirs, their_bytes));
         let same = library == answer && table.same() && buffer.same();
-        self.judge("listing", answer.number, same, input, || {
+        self.count_answer("listing", answer.number, same, input, || {
             format!("{library:?} {answer:?} tables {} buffers {}", table.same(), buffer.same())
         });
     }
@@ -267,9 +267,9 @@ fn split<T>(answer: Answer<T>, zero: T) -> (Refusal, T) {
     }
 }
 
-fn written(answer: Answer<usize>) -> raw::Written {
+fn written(answer: Answer<usize>) -> raw::WriterAnswer {
     let (refusal, count) = split(answer, 0);
-    raw::Written { number: refusal.number, part: refusal.part, position: refusal.position, count }
+    raw::WriterAnswer { number: refusal.number, part: refusal.part, position: refusal.position, count }
 }
 
 fn register_answer(answer: Answer<reference::register::Register>) -> raw::RegisterAnswer {
@@ -333,9 +333,9 @@ fn main() {
     let seeds = seeds(words);
     println!("{} jobs as seeds", seeds.len());
     let mut random = Random(start);
-    let fill = (0..5_000 + 2 * BESIDE).map(|_| random.next() as i64).collect();
+    let contents = (0..5_000 + 2 * MARGIN).map(|_| random.next() as i64).collect();
     let numbers = CALLS.map(|(call, _)| (call, [0; 13])).into();
-    let mut comparison = Comparison { random, inputs: 0, differences: 0, numbers, commands: BTreeMap::new(), fill };
+    let mut comparison = Comparison { random, inputs: 0, differences: 0, numbers, commands: BTreeMap::new(), contents };
     let mut random = Random(start ^ 0x5EED);
     for _ in 0..count {
         comparison.compare(&input(&mut random, &seeds));

@@ -1,4 +1,4 @@
-//! Links the static libraries that `compare/libraries` makes. They are looked for in the folder that FEEDCHECK_STATICLIB names,
+//! Links the static libraries that `tools/libraries` makes. They are looked for in the folder that FEEDCHECK_STATICLIB names,
 //! by default `target/staticlib` of the repository.
 
 use std::path::PathBuf;
@@ -12,7 +12,7 @@ fn main() {
     println!("cargo:rustc-link-search=native={}", folder.display());
     for name in ["register", "scheme", "builder", "plan", "penalty", "certificate", "plain", "job", "listing"] {
         let file = folder.join(format!("lib{name}.a"));
-        assert!(file.exists(), "{} is not there: run compare/libraries in the repository", file.display());
+        assert!(file.exists(), "{} is not there: run tools/libraries in the repository", file.display());
         println!("cargo:rerun-if-changed={}", file.display());
         println!("cargo:rustc-link-lib=static={name}");
     }

@@ -13,31 +13,31 @@ pub mod raw;
 pub use raw::{Register, Scheme, Tally};
 
 /// The most choices of a register.
-pub const CHOICES: usize = 32;
+pub const MAX_CHOICES: usize = 32;
 
 /// The most terms of a register, and so the most splits of a scheme.
-pub const TERMS: usize = 256;
+pub const MAX_TERMS: usize = 256;
 
 /// The most products of a scheme.
-pub const PRODUCTS: usize = 32;
+pub const MAX_PRODUCTS: usize = 32;
 
 /// How many numbers a lent table must have.
-pub const TABLE: usize = 4_225;
+pub const TABLE_NUMBERS: usize = 4_225;
 
 /// A buffer of so many bytes is enough for every scheme that is built.
-pub const BUILT: usize = 865;
+pub const MAX_BUILT: usize = 865;
 
 /// A buffer of so many bytes is enough for every certificate of our own.
-pub const PLAIN: usize = 1_294;
+pub const MAX_PLAIN: usize = 1_294;
 
 /// A buffer of so many bytes is enough for every listing.
-pub const LISTING: usize = 4_096;
+pub const MAX_LISTING: usize = 4_096;
 
 /// No job of more bytes is accepted.
-pub const JOB: usize = 25_306;
+pub const MAX_JOB: usize = 25_306;
 
 /// A longer job is answered as its first so many bytes are.
-pub const JOB_READ: usize = 25_435;
+pub const MAX_JOB_READ: usize = 25_435;
 
 /// A refusal: its number in the table of docs/REFUSALS.md, the part (1 register, 2 scheme, 3 certificate, 4 plan) and the
 /// position of the command that is refused; part and position are 0 where no command causes it.

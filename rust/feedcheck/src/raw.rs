@@ -2,7 +2,7 @@
 //!
 //! A Rust slice's pointer is never null and is aligned, and a lent slice overlaps nothing else, which is all that the calls ask.
 
-use crate::{CHOICES, PRODUCTS, TERMS};
+use crate::{MAX_CHOICES, MAX_PRODUCTS, MAX_TERMS};
 
 /// The record of a register. Entries past the counts are 0.
 #[derive(Clone, Copy, Debug, PartialEq, Eq)]
@@ -11,10 +11,10 @@ pub struct Register {
     pub base: i32,
     pub choices: usize,
     pub terms: usize,
-    pub tanks: [u16; CHOICES],
-    pub minutes: [u16; CHOICES],
-    pub masks: [u32; TERMS],
-    pub coefficients: [i32; TERMS],
+    pub tanks: [u16; MAX_CHOICES],
+    pub minutes: [u16; MAX_CHOICES],
+    pub masks: [u32; MAX_TERMS],
+    pub coefficients: [i32; MAX_TERMS],
 }
 
 /// The record of a scheme: product number n + k has the operands lefts[k] and rights[k], term t the split split_lefts[t],
@@ -24,10 +24,10 @@ pub struct Register {
 pub struct Scheme {
     pub products: usize,
     pub splits: usize,
-    pub lefts: [u8; PRODUCTS],
-    pub rights: [u8; PRODUCTS],
-    pub split_lefts: [u8; TERMS],
-    pub split_rights: [u8; TERMS],
+    pub lefts: [u8; MAX_PRODUCTS],
+    pub rights: [u8; MAX_PRODUCTS],
+    pub split_lefts: [u8; MAX_TERMS],
+    pub split_rights: [u8; MAX_TERMS],
 }
 
 /// How many jobs were accepted and refused; each count stays at 4,294,967,295.
@@ -59,7 +59,7 @@ pub struct SchemeAnswer {
 /// The answer of the calls that write bytes.
 #[derive(Clone, Copy, Debug, PartialEq, Eq)]
 #[repr(C)]
-pub struct Written {
+pub struct WriterAnswer {
     pub number: u8,
     pub part: u8,
     pub position: usize,
@@ -115,7 +115,12 @@ mod linked {
             scheme: *const u8,
             scheme_length: usize,
         ) -> SchemeAnswer;
-        pub fn feedcheck_build(register: *const u8, register_length: usize, buffer: *mut u8, buffer_length: usize) -> Written;
+        pub fn feedcheck_build(
+            register: *const u8,
+            register_length: usize,
+            buffer: *mut u8,
+            buffer_length: usize,
+        ) -> WriterAnswer;
         pub fn feedcheck_cost(register: *const u8, register_length: usize, plan: *const u8, plan_length: usize) -> CostAnswer;
         pub fn feedcheck_penalty(
             register: *const u8,
@@ -142,7 +147,7 @@ mod linked {
             scheme_length: usize,
             buffer: *mut u8,
             buffer_length: usize,
-        ) -> Written;
+        ) -> WriterAnswer;
         pub fn feedcheck_job(job: *const u8, job_length: usize, table: *mut i64, table_length: usize, tally: Tally) -> JobAnswer;
         pub fn feedcheck_listing(
             job: *const u8,
@@ -151,7 +156,7 @@ mod linked {
             table_length: usize,
             buffer: *mut u8,
             buffer_length: usize,
-        ) -> Written;
+        ) -> WriterAnswer;
     }
 }
 
@@ -163,7 +168,7 @@ pub fn scheme(register: &[u8], scheme: &[u8]) -> SchemeAnswer {
     unsafe { linked::feedcheck_scheme(register.as_ptr(), register.len(), scheme.as_ptr(), scheme.len()) }
 }
 
-pub fn build(register: &[u8], buffer: &mut [u8]) -> Written {
+pub fn build(register: &[u8], buffer: &mut [u8]) -> WriterAnswer {
     unsafe { linked::feedcheck_build(register.as_ptr(), register.len(), buffer.as_mut_ptr(), buffer.len()) }
 }
 
@@ -199,7 +204,7 @@ pub fn check(register: &[u8], scheme: &[u8], certificate: &[u8], table: &mut [i6
     }
 }
 
-pub fn plain(register: &[u8], scheme: &[u8], buffer: &mut [u8]) -> Written {
+pub fn plain(register: &[u8], scheme: &[u8], buffer: &mut [u8]) -> WriterAnswer {
     unsafe {
         linked::feedcheck_plain(
             register.as_ptr(),
@@ -216,7 +221,7 @@ pub fn job(job: &[u8], table: &mut [i64], tally: Tally) -> JobAnswer {
     unsafe { linked::feedcheck_job(job.as_ptr(), job.len(), table.as_mut_ptr(), table.len(), tally) }
 }
 
-pub fn listing(job: &[u8], table: &mut [i64], buffer: &mut [u8]) -> Written {
+pub fn listing(job: &[u8], table: &mut [i64], buffer: &mut [u8]) -> WriterAnswer {
     unsafe {
         linked::feedcheck_listing(job.as_ptr(), job.len(), table.as_mut_ptr(), table.len(), buffer.as_mut_ptr(), buffer.len())
     }

@@ -48,7 +48,7 @@ fn cost() {
 
 #[test]
 fn penalty() {
-    let mut table = vec![77; feedcheck::TABLE];
+    let mut table = vec![77; feedcheck::TABLE_NUMBERS];
     assert_eq!(feedcheck::penalty(&REGISTER, &SCHEME, &mut table), Ok(()));
     assert_eq!(table[..6], [20, -6, -4, 0, 15, 20]);
     assert_eq!(table[36], 77);
@@ -57,7 +57,7 @@ fn penalty() {
 
 #[test]
 fn check() {
-    let mut table = vec![77; feedcheck::TABLE];
+    let mut table = vec![77; feedcheck::TABLE_NUMBERS];
     assert_eq!(feedcheck::check(&REGISTER, &SCHEME, &CERTIFICATE, &mut table), Ok(0));
     assert!(table[..36].iter().all(|&number| number == 0));
     let mut higher = CERTIFICATE;
@@ -71,9 +71,9 @@ fn check() {
 fn plain() {
     let mut scheme = [0; 13];
     feedcheck::build(&REGISTER, &mut scheme).unwrap();
-    let mut buffer = [0; feedcheck::PLAIN];
+    let mut buffer = [0; feedcheck::MAX_PLAIN];
     let count = feedcheck::plain(&REGISTER, &scheme, &mut buffer).unwrap();
-    let mut table = vec![0; feedcheck::TABLE];
+    let mut table = vec![0; feedcheck::TABLE_NUMBERS];
     assert_eq!(feedcheck::check(&REGISTER, &scheme, &buffer[..count], &mut table), Ok(-6));
 }
 
@@ -83,7 +83,7 @@ fn whole() -> Vec<u8> {
 
 #[test]
 fn job() {
-    let mut table = vec![0; feedcheck::TABLE];
+    let mut table = vec![0; feedcheck::TABLE_NUMBERS];
     let mut tally = feedcheck::Tally { accepted: u32::MAX, refused: 0 };
     assert_eq!(feedcheck::job(&whole(), &mut table, &mut tally), Ok(feedcheck::Outcome { bound: 0, cost: 0, gap: 0 }));
     let refusal = feedcheck::job(&[whole(), vec![0]].concat(), &mut table, &mut tally).unwrap_err();
@@ -93,7 +93,7 @@ fn job() {
 
 #[test]
 fn listing() {
-    let (mut table, mut buffer) = (vec![0; feedcheck::TABLE], [0; feedcheck::LISTING]);
+    let (mut table, mut buffer) = (vec![0; feedcheck::TABLE_NUMBERS], [0; feedcheck::MAX_LISTING]);
     let count = feedcheck::listing(&whole(), &mut table, &mut buffer).unwrap();
     assert_eq!(&buffer[..count], b"T 0 4 480\nT 1 4 720\nT 2 7 480\nF 4 480\nF 4 720\nB 0 0 0\n");
 }
