@@ -3,29 +3,38 @@ use Prim.Native.Nat.{ℕ, _≤_}
 use native.Mathlib.Nat.{zero-add}
 use native.Mathlib.Omega.{arith}
 use mathlib.Core.Path.{_≡_, refl, sym, _∙_, ap, ap₂}
+use mathlib.Core.Bool.{Bool, true, false, cond}
 use mathlib.Core.List.{List, _++_}
+use lib.Dec.{ltb}
 use lib.IntN.{ℤ}
 use lib.ListN.{length, drop}
 use lib.Seq.{drop-drop}
 use borrow.Author.Tests.{le-ltb}
 use Rattle.wire.specs.Number.{Bytes}
-use Rattle.wire.specs.Part.{accepted}
+use Rattle.wire.specs.Part.{Reading, refused, accepted}
+use Rattle.wire.specs.Rows.{Progress}
+use Rattle.wire.proofs.Part.{NumberedReading, readPart-numbered, byItself-numbered}
 use Rattle.wire.proofs.Fronts.{behind}
 use Rattle.forms.specs.Table.{tableNumbers}
 use Rattle.register.specs.declared.Register.{Register}
 use Rattle.register.specs.Register.{coefficient}
-use Rattle.register.specs.Format.{registerInJob, registerByItself}
+use Rattle.register.specs.Format.{registerPart, registerInJob, registerByItself}
 use Rattle.register.specs.Answer.{registerAnswer}
 use Rattle.register.specs.Encoding.{encodeRegister}
 use Rattle.register.proofs.Accept as RA
 use Rattle.register.proofs.Complete.{register-accepted}
 use Rattle.register.proofs.Opened as RO
 use Rattle.scheme.specs.declared.Scheme.{Scheme}
+use Rattle.scheme.specs.Format.{schemePart, schemeInJob, schemeByItself}
 use Rattle.scheme.specs.Answer.{schemeAnswer}
 use Rattle.scheme.specs.Encoding.{encodeScheme}
 use Rattle.scheme.proofs.Accept as SA
 use Rattle.scheme.proofs.Whole.{answered, answer-iff}
 use Rattle.scheme.proofs.Opened.{Opened, opened-encodings, register-bytes, scheme-bytes, opened}
+use Rattle.penalty.specs.Answer.{penaltyAnswer}
+use Rattle.penalty.specs.Answer as Penalty
+use Rattle.penalty.proofs.Answers as PenaltyCall
+use Rattle.penalty.proofs.Demand.{zeros-made}
 use Rattle.plan.specs.Encoding.{encodePlan}
 use Rattle.plan.proofs.Answers.{costed, cost-encodings, costed-register, costed-plan}
 use Rattle.certificate.specs.Format.{certificateByItself}
@@ -38,9 +47,9 @@ use Rattle.job.specs.Outcome.{Parts, tableAfter}
 use Rattle.job.specs.Answer.{jobAnswer, jobTable}
 use Rattle.job.specs.Valid.{Valid, Encodes}
 use Rattle.job.proofs.Accept as JA
-use Rattle.soundness.specs.Calls.{registerCall, schemeCall, costCall, checkCall, jobCall}
+use Rattle.soundness.specs.Calls.{registerCall, schemeCall, costCall, penaltyCall, checkCall, jobCall}
 use Rattle.soundness.specs.Parts.{Part1, Part2, withR}
-use Rattle.soundness.specs.Acceptance.{OfCheck, OfJob, checkAccepted, jobAccepted, RegisterAcceptance, SchemeAcceptance, CostAcceptance, CheckAcceptance, JobAcceptance, Acceptance}
+use Rattle.soundness.specs.Acceptance.{OfCheck, OfJob, checkAccepted, jobAccepted, RegisterAcceptance, SchemeAcceptance, CostAcceptance, PenaltyAcceptance, CheckAcceptance, JobAcceptance, Acceptance}
 
 -- ---- part 1
 
@@ -165,5 +174,36 @@ of-job = record {
   short = λ job lent tally l z. absurd (omega (arith, JA.answered job lent tally z .long));
 }
 
-pub acceptance : Acceptance registerCall schemeCall costCall checkCall jobCall
-acceptance = record { of-register = of-register; of-scheme = of-scheme; of-cost = of-cost; of-check = of-check; of-job = of-job }
+-- ---- the penalty call
+
+-- number 0 stands in no answer but zeros
+penalty-zeros : (t s : List ℕ) (lent : List ℤ) → penaltyAnswer t s lent .number ≡ 0 → penaltyAnswer t s lent ≡ record { number = 0; part = 0; position = 0 }
+unfolding penaltyAnswer registerByItself registerInJob schemeByItself schemeInJob
+penalty-zeros t s lent = by (ltb (length lent) tableNumbers)
+  where
+    second : (x : Reading (Progress Scheme)) → NumberedReading x → Penalty.afterScheme x .number ≡ 0 → Penalty.afterScheme x ≡ record { number = 0; part = 0; position = 0 }
+    second (refused n at) d z = absurd (d z)
+    second (accepted p end) d z = refl
+
+    first : (x : Reading (Progress Register)) → NumberedReading x → Penalty.afterRegister x s .number ≡ 0 → Penalty.afterRegister x s ≡ record { number = 0; part = 0; position = 0 }
+    first (refused n at) d z = absurd (d z)
+    first (accepted p end) d z = second (schemeByItself (p .parsed) s) (byItself-numbered s (schemeInJob (p .parsed) s) (readPart-numbered (schemePart (p .parsed)) s)) z
+
+    by : (b : Bool) → cond b (Penalty.answer 11 0 0) (Penalty.afterRegister (registerByItself t) s) .number ≡ 0 →
+        cond b (Penalty.answer 11 0 0) (Penalty.afterRegister (registerByItself t) s) ≡ record { number = 0; part = 0; position = 0 }
+    by true z = absurd (omega arith)
+    by false z = first (registerByItself t) (byItself-numbered t (registerInJob t) (readPart-numbered registerPart t)) z
+
+of-penalty : PenaltyAcceptance penaltyCall
+of-penalty = record {
+  all = λ t s lent sch l p.
+      let o = opened-encodings t s (p .reg) sch (p .part-1 .conditions) (p .part-1 .bytes) (p .part-2 .conditions) (p .part-2 .bytes) in
+      let q = PenaltyCall.parts-accepted t s lent l (p .reg) sch o in
+      ap₂ (λ a b. (a, b)) (sym (q .answers)) (sym (q .holds));
+  only = λ t s lent b z.
+      let m = zeros-made t s lent (penalty-zeros t s lent z) in
+      (m .sch, record { reg = m .reg; part-1 = record { conditions = m .register-valid; bytes = m .register-is b }; part-2 = record { conditions = m .scheme-valid; bytes = m .scheme-is } });
+}
+
+pub acceptance : Acceptance registerCall schemeCall costCall penaltyCall checkCall jobCall
+acceptance = record { of-register = of-register; of-scheme = of-scheme; of-cost = of-cost; of-penalty = of-penalty; of-check = of-check; of-job = of-job }

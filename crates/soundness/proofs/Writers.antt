@@ -35,10 +35,15 @@ use Rattle.plain.proofs.Encoded.{plain-bytes}
 use Rattle.plain.proofs.ReadBack.{plain-encodes}
 use Rattle.plain.proofs.Answers.{parts-accepted}
 use Rattle.plain.proofs.Call as P
-use Rattle.soundness.specs.Calls.{front, schemeCall, checkCall, plainCall, buildCall}
+use Rattle.job.specs.Outcome.{outcome}
+use Rattle.job.specs.Answer.{jobTable}
+use Rattle.listing.specs.Listing.{listing}
+use Rattle.listing.specs.Answer.{listingRoom, listingAnswer, listingTable, listingBuffer}
+use Rattle.listing.proofs.Outcome.{listing-short}
+use Rattle.soundness.specs.Calls.{front, schemeCall, checkCall, plainCall, buildCall, jobCall, listingCall}
 use Rattle.soundness.specs.Parts.{Part1, Part2, Part3, withR}
 use Rattle.soundness.specs.Acceptance.{OfScheme, OfCheck, schemeAccepted, checkAccepted}
-use Rattle.soundness.specs.Writers.{Writer, handedBack, Writes, KeepsRefused, OfBuild, BuildWrites, ownCertificate, PlainWrites, Writers}
+use Rattle.soundness.specs.Writers.{Writer, handedBack, Writes, KeepsRefused, OfBuild, BuildWrites, ownCertificate, PlainWrites, ListingWrites, Writers}
 use Rattle.soundness.proofs.Acceptance.{acceptance}
 
 -- ---- a call that writes bytes
@@ -165,5 +170,14 @@ plain-keeps t s lent = first (registerByItself t)
 of-plain : PlainWrites plainCall checkCall
 of-plain = record { writes = plain-writes; reads-back = plain-reads; checks = plain-checks; only = plain-only; keeps = plain-keeps }
 
-pub writers : Writers buildCall schemeCall plainCall checkCall
-writers = record { of-build = of-build; of-plain = of-plain }
+-- ---- the listing
+
+of-listing : ListingWrites listingCall jobCall
+unfolding listingAnswer listingBuffer listingTable jobTable
+of-listing = record {
+  writes = λ job table l. writes-bytes _ (listing (outcome job)) listingRoom (λ lent. rw (le-ltb (length table) tableNumbers l) refl) (listing-short job);
+  table-back = λ job table lent tally. refl;
+}
+
+pub writers : Writers buildCall schemeCall plainCall checkCall listingCall jobCall
+writers = record { of-build = of-build; of-plain = of-plain; of-listing = of-listing }

@@ -16,6 +16,7 @@ use Rattle.scheme.specs.declared.SchemeAnswer.{SchemeAnswer}
 use Rattle.certificate.specs.declared.CheckAnswer.{CheckAnswer}
 use Rattle.certificate.specs.Certificate.{Certificate}
 use Rattle.certificate.specs.Residual.{bound}
+use Rattle.penalty.specs.Answer.{withPenalty}
 use Rattle.plan.specs.declared.CostAnswer.{CostAnswer}
 use Rattle.plan.specs.Plan.{cost}
 use Rattle.job.specs.declared.Tally.{Tally}
@@ -23,7 +24,7 @@ use Rattle.job.specs.declared.JobAnswer.{JobAnswer}
 use Rattle.job.specs.Outcome.{Parts}
 use Rattle.job.specs.Valid.{Valid, Encodes}
 use Rattle.job.specs.Tally.{withAccepted}
-use Rattle.soundness.specs.Calls.{RegisterCall, SchemeCall, CostCall, CheckCall, JobCall}
+use Rattle.soundness.specs.Calls.{RegisterCall, SchemeCall, CostCall, PenaltyCall, CheckCall, JobCall}
 use Rattle.soundness.specs.Parts.{Part1, Part2, Part3, Part4, withR}
 
 -- ---- the parts that a call is lent, and the values that it answers for them
@@ -117,10 +118,17 @@ pub record JobAcceptance (call : JobCall) : Type 0 where
       call job table tally .0 ≡ jobAccepted (call job table tally .0 .bound) (call job table tally .0 .cost) tally
   pub short : (job : List ℕ) (table : List ℤ) (tally : Tally) → length table < tableNumbers → call job table tally .0 .number ≡ 0 → ⊥
 
--- of the five calls that read parts and write nothing but a table
-pub record Acceptance (registerCall : RegisterCall) (schemeCall : SchemeCall) (costCall : CostCall) (checkCall : CheckCall) (jobCall : JobCall) : Type 0 where
+-- the penalty form is made, in the table, of parts 1 and 2, and of nothing else
+pub record PenaltyAcceptance (call : PenaltyCall) : Type 0 where
+  pub all : (register scheme : List ℕ) (table : List ℤ) (sch : Scheme) → tableNumbers ≤ length table → (p : OfScheme register scheme sch) →
+      call register scheme table ≡ (record { number = 0; part = 0; position = 0 }, withPenalty (p .reg) sch table)
+  pub only : (register scheme : List ℕ) (table : List ℤ) → Bytes register → call register scheme table .0 .number ≡ 0 → (sch : Scheme) × OfScheme register scheme sch
+
+-- of the six calls that read parts and write no bytes
+pub record Acceptance (registerCall : RegisterCall) (schemeCall : SchemeCall) (costCall : CostCall) (penaltyCall : PenaltyCall) (checkCall : CheckCall) (jobCall : JobCall) : Type 0 where
   pub of-register : RegisterAcceptance registerCall
   pub of-scheme : SchemeAcceptance schemeCall
   pub of-cost : CostAcceptance costCall
+  pub of-penalty : PenaltyAcceptance penaltyCall
   pub of-check : CheckAcceptance checkCall
   pub of-job : JobAcceptance jobCall

@@ -1,5 +1,6 @@
 -- Demand 3, clause by clause, of any penalty call, any check and any call that writes our own certificate. Least values are
--- stated as values that are reached and that nothing is below.
+-- stated as values that are reached and that nothing is below. The register and the scheme are those that our readers answer;
+-- `part-1`, `part-2` and `all-accepted` tie these to the paper.
 use Prim.Native.Nat.{ℕ, _≤_}
 use mathlib.Core.Path.{_≡_}
 use mathlib.Core.List.{List}

@@ -1,6 +1,7 @@
 -- What a refusal says and hands back, of every call: which part it is, that the parts before it are right, that number and position
 -- are those of the first command of the part that is not right, and within it the lowest number (`wire/specs/Refused`,
--- `certificate/specs/Refused`), that the answer's other fields are 0, and what table and buffer then hold.
+-- `certificate/specs/Refused`), that the answer's other fields are 0, and what table and buffer then hold. 10, 11 and 12, which no
+-- wrong command causes, have cases of their own. The bytes settle number and position: `refused-iff` in `wire/proofs/Lowest`.
 use Prim.Native.Nat.{ℕ, _+_, _≤_, _<_}
 use mathlib.Core.Path.{_≡_}
 use mathlib.Core.Logic.{_⊎_, inl, inr}
@@ -15,8 +16,7 @@ use Rattle.register.specs.Register.{coefficient}
 use Rattle.register.specs.Register as OfRegister
 use Rattle.register.specs.Format.{registerPart}
 use Rattle.scheme.specs.declared.Scheme.{Scheme}
-use Rattle.scheme.specs.Scheme.{side}
-use Rattle.scheme.specs.Scheme as OfScheme
+use Rattle.scheme.specs.Scheme as SchemeOf
 use Rattle.scheme.specs.Format.{schemePart}
 use Rattle.scheme.specs.Encoding.{encodeScheme}
 use Rattle.builder.specs.Builder.{stopped, built, build, termPosition}
@@ -169,7 +169,7 @@ abbrev pub SchemeRefusals : SchemeCall → Type 0
 SchemeRefusals call = (register scheme : List ℕ) → Bytes register → Bytes scheme →
     let a = call register scheme in
     (a .number ≡ 0 → ⊥) →
-    (a .scheme ≡ OfScheme.fresh)
+    (a .scheme ≡ SchemeOf.fresh)
     × (InRegister (a .number) (a .part) (a .position) register
     ⊎ InScheme (a .number) (a .part) (a .position) register scheme)
 

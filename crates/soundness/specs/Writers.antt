@@ -1,5 +1,5 @@
--- What the builder and our own certificate's call write, of any such calls and of the calls that read it: the bytes of the scheme
--- built or of the certificate meant, which read back, and all else of the lent buffer as it was.
+-- What the calls write, of any such calls: the bytes of the scheme built or of the certificate meant, which read back, or the lines
+-- of a job, and all else of the lent buffer as it was.
 use Prim.Native.Nat.{ℕ, _≤_, _<_}
 use mathlib.Core.Path.{_≡_}
 use mathlib.Core.List.{List, _++_}
@@ -18,8 +18,12 @@ use Rattle.builder.specs.Answer.{builtRoom}
 use Rattle.certificate.specs.Certificate.{Certificate}
 use Rattle.certificate.specs.Residual.{bound}
 use Rattle.plain.specs.Plain.{plain}
+use Rattle.job.specs.declared.Tally.{Tally}
+use Rattle.job.specs.Outcome.{outcome}
+use Rattle.listing.specs.Listing.{listing}
+use Rattle.listing.specs.Answer.{listingRoom}
 use Rattle.plain.specs.Answer.{ownBytes, ownRoom}
-use Rattle.soundness.specs.Calls.{SchemeCall, CheckCall, PlainCall, BuildCall, front}
+use Rattle.soundness.specs.Calls.{SchemeCall, CheckCall, PlainCall, BuildCall, JobCall, ListingCall, front}
 use Rattle.soundness.specs.Parts.{Part1, Part2, Part3, withR}
 use Rattle.soundness.specs.Acceptance.{OfScheme, schemeAccepted, checkAccepted}
 
@@ -83,7 +87,17 @@ pub record PlainWrites (plainCall : PlainCall) (checkCall : CheckCall) : Type 0 
   pub only : (register scheme lent : List ℕ) → Bytes register → plainCall register scheme lent .0 .number ≡ 0 → (sch : Scheme) × OfScheme register scheme sch
   pub keeps : (register scheme : List ℕ) → KeepsRefused (plainCall register scheme)
 
--- of the two calls, and the two that read what they write
-pub record Writers (buildCall : BuildCall) (schemeCall : SchemeCall) (plainCall : PlainCall) (checkCall : CheckCall) : Type 0 where
+-- ---- the listing
+
+pub record ListingWrites (listingCall : ListingCall) (jobCall : JobCall) : Type 0 where
+  -- with a table that is long enough: the lines of what the job leads to (`Jobs` says which they are)
+  pub writes : (job : List ℕ) (table : List ℤ) → tableNumbers ≤ length table →
+      Writes (λ lent. (listingCall job table lent .0, listingCall job table lent .1 .1)) (listing (outcome job)) listingRoom
+  -- the table is the one that the job call hands back, whatever buffer is lent
+  pub table-back : (job : List ℕ) (table : List ℤ) (lent : List ℕ) (tally : Tally) → listingCall job table lent .1 .0 ≡ jobCall job table tally .1
+
+-- of the three calls, and of those that read what two of them write
+pub record Writers (buildCall : BuildCall) (schemeCall : SchemeCall) (plainCall : PlainCall) (checkCall : CheckCall) (listingCall : ListingCall) (jobCall : JobCall) : Type 0 where
   pub of-build : BuildWrites buildCall schemeCall
   pub of-plain : PlainWrites plainCall checkCall
+  pub of-listing : ListingWrites listingCall jobCall

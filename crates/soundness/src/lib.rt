@@ -1,4 +1,5 @@
-// Statements only: `specs/` has them of any calls, `proofs/` shows them of ours. No code of this crate is called.
+// `specs/` has statements of any calls, `proofs/` shows them of ours. The functions here tie those calls to the exported functions;
+// nothing calls them.
 use builder::feedcheck_build;
 use certificate::CheckAnswer;
 use certificate::check::feedcheck_check;
