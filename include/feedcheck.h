@@ -112,7 +112,7 @@ FeedcheckCostAnswer feedcheck_cost(const uint8_t *reg, size_t reg_length, const 
 FeedcheckPenaltyAnswer feedcheck_penalty(const uint8_t *reg, size_t reg_length, const uint8_t *scheme, size_t scheme_length,
                                          int64_t *table, size_t table_length);
 
-/* Checks a certificate (part 3) and leaves R in the table once the certificate's end is reached. libcertificate.a */
+/* Checks a certificate (part 3) and leaves R in the table once the certificate's end is reached. libbound.a */
 FeedcheckCheckAnswer feedcheck_check(const uint8_t *reg, size_t reg_length, const uint8_t *scheme, size_t scheme_length,
                                      const uint8_t *certificate, size_t certificate_length, int64_t *table, size_t table_length);
 

@@ -6,17 +6,22 @@ use native.Mathlib.Omega.{arith}
 use lib.ListN.{length, take, drop}
 use Rattle.wire.specs.Part.{Reading, refused, accepted}
 use Rattle.wire.specs.Rows.{Progress}
+use Rattle.wire.specs.Outcome.{Outcome, refuses, accepts, given, answerBy}
+use Rattle.wire.specs.Writer.{refusedAnswer}
 use Rattle.wire.proofs.Writer.{HandedBack, bytes-keep, bytes-back, bytes-enough}
 use Rattle.register.specs.declared.Register.{Register}
 use Rattle.register.specs.Format.{registerByItself}
 use Rattle.register.specs.Answer.{registerAnswer}
+use Rattle.register.specs.Opening.{openRegister}
 use Rattle.register.specs.Valid as R
 use Rattle.scheme.specs.declared.Scheme.{Scheme}
 use Rattle.scheme.specs.Encoding.{encodeScheme}
 use Rattle.scheme.specs.Answer.{schemeAnswer}
-use Rattle.scheme.proofs.Whole.{answered, part-iff}
+use Rattle.scheme.proofs.Accept.{accepted-iff}
+use Rattle.scheme.proofs.Whole.{answered}
+use Rattle.scheme.proofs.Canonical.{canonical}
 use Rattle.builder.specs.Builder.{Built, stopped, built, build}
-use Rattle.builder.specs.Answer.{builtRoom, builtAnswer, builtBuffer, answerAfter, bufferAfter, buildAnswer, buildBuffer}
+use Rattle.builder.specs.Answer.{builtRoom, builtAnswer, builtBuffer, buildAnswer, buildBuffer}
 use Rattle.builder.proofs.Validity.{build-valid, build-size}
 use Rattle.builder.proofs.Answers.{Taken, build-taken, build-whole}
 
@@ -47,16 +52,16 @@ module _ (s buffer : List ℕ) where
   pub call-reads : buildAnswer s buffer .number ≡ 0 → Wrote
   call-reads z = go (build register) refl
     where
-      accepts : (x : Reading (Progress Register)) → answerAfter buffer x .number ≡ 0 → registerAnswer x .number ≡ 0
-      accepts (refused n at) z = z
-      accepts (accepted p end) z = refl
+      of-register : (x : Reading (Progress Register)) → answerBy refusedAnswer (λ reg. builtAnswer s reg buffer (build reg)) (given 1 x) .number ≡ 0 → registerAnswer x .number ≡ 0
+      of-register (refused n at) z = z
+      of-register (accepted p end) z = refl
 
       r : Read
-      r = read (accepts (registerByItself s) z)
+      r = read (of-register (registerByItself s) z)
 
       go : (x : Built) → build register ≡ x → Wrote
       go (stopped t) e =
-          let n : _≡_ {A = ℕ} 10 0 = ap (λ a. a .number) (sym (r .answer ∙ ap (builtAnswer register buffer) e)) ∙ z in
+          let n : _≡_ {A = ℕ} 10 0 = ap (λ a. a .number) (sym (r .answer ∙ ap (builtAnswer s register buffer) e)) ∙ z in
           absurd (omega arith)
       go (built sch) e =
           let bytes = encodeScheme (register .choices) sch in
@@ -64,10 +69,10 @@ module _ (s buffer : List ℕ) where
           let h = bytes-back bytes buffer (buildAnswer s buffer) (buildBuffer s buffer) (sym (w .0)) (sym (w .1)) z in
           record {
             scheme = sch;
-            valid = r .valid;
+            valid = r .opens .valid;
             builds = e;
             hands-back = h;
-            reads = ap (schemeAnswer s) (h .front) ∙ r .scheme bytes ∙ part-iff register (r .valid) bytes sch .1 (build-valid register (r .valid) sch e, refl);
+            reads = ap (schemeAnswer s) (h .front) ∙ rw (r .opens .reads, accepted-iff register (r .opens .valid) bytes sch .1 (build-valid register (r .opens .valid) sch e, canonical register sch));
           }
 
   -- it does where the register is accepted, its scheme is built, and there is room for the longest
@@ -75,16 +80,17 @@ module _ (s buffer : List ℕ) where
   enough z sch e l =
       let r = read z in
       let w = build-whole s _ refl buffer r sch (sym e) in
-      bytes-enough (encodeScheme (register .choices) sch) buffer (buildAnswer s buffer) (buildBuffer s buffer) (sym (w .0)) (sym (w .1)) (omega (arith, build-size register (r .valid) sch e))
+      bytes-enough (encodeScheme (register .choices) sch) buffer (buildAnswer s buffer) (buildBuffer s buffer) (sym (w .0)) (sym (w .1)) (omega (arith, build-size register (r .opens .valid) sch e))
 
   -- bytes past the count are as they were: all of them where the call is refused
   pub call-keeps : drop (buildAnswer s buffer .count) (buildBuffer s buffer) ≡ drop (buildAnswer s buffer .count) buffer
-  call-keeps = go (registerByItself s)
+  call-keeps = go (openRegister s)
     where
-      made : (reg : Register) (x : Built) → drop (builtAnswer reg buffer x .count) (builtBuffer reg buffer x) ≡ drop (builtAnswer reg buffer x .count) buffer
+      made : (reg : Register) (x : Built) → drop (builtAnswer s reg buffer x .count) (builtBuffer reg buffer x) ≡ drop (builtAnswer s reg buffer x .count) buffer
       made reg (stopped t) = refl
       made reg (built sch) = bytes-keep (encodeScheme (reg .choices) sch) buffer
 
-      go : (x : Reading (Progress Register)) → drop (answerAfter buffer x .count) (bufferAfter buffer x) ≡ drop (answerAfter buffer x .count) buffer
-      go (refused n at) = refl
-      go (accepted p end) = made (p .parsed) (build (p .parsed))
+      go : (x : Outcome Register) → let n = answerBy refusedAnswer (λ reg. builtAnswer s reg buffer (build reg)) x .count in
+          drop n (answerBy (λ number part at. buffer) (λ reg. builtBuffer reg buffer (build reg)) x) ≡ drop n buffer
+      go (refuses n part at) = refl
+      go (accepts reg) = made reg (build reg)

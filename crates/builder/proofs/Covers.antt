@@ -8,8 +8,7 @@ use native.Mathlib.Omega.{arith}
 use native.Mathlib.Decide.{ℕ-discrete, decLt}
 use lib.ListN.{length}
 use Rattle.integers.specs.Lists.{All, joinBelow}
-use Rattle.integers.proofs.Lists.{T-ext, T-true, All-join, cond-cases}
-use Rattle.integers.proofs.Lists.{flag}
+use Rattle.integers.proofs.Lists.{T-ext, T-true, All-join, cond-cases, flag}
 use Rattle.sets.specs.Sets.{isMember}
 use Rattle.sets.proofs.Sets.{member-zero, member-suc, member-empty, member-below, none-empty}
 use Rattle.builder.specs.Builder.{choicesOf}

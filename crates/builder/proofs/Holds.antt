@@ -6,8 +6,7 @@ use Prim.Native.Nat.{ℕ, _+_, min, max, _≤_, _<_}
 use native.Mathlib.Omega.{arith}
 use lib.Bits.{bitOr, or-comm, or-add-and, and-le-l, and-le-r}
 use Rattle.integers.specs.Lists.{All}
-use Rattle.integers.proofs.Lists.{All-append}
-use Rattle.integers.proofs.Lists.{flag}
+use Rattle.integers.proofs.Lists.{All-append, flag}
 use Rattle.sets.specs.Sets.{isMember}
 use Rattle.sets.proofs.Sets.{member-or, none-empty}
 use Rattle.register.specs.declared.Register.{Register}
@@ -16,12 +15,11 @@ use Rattle.scheme.specs.Scheme.{variables, withProduct}
 use Rattle.scheme.specs.Variables.{E}
 use Rattle.scheme.specs.Format.{unionOf}
 use Rattle.scheme.specs.Valid.{Within}
-use Rattle.scheme.proofs.Sets.{E-same, at-new}
-use Rattle.scheme.proofs.Growth.{grown-agree, grown-set, product-within}
+use Rattle.scheme.proofs.Sets.{E-same, new-at}
+use Rattle.scheme.proofs.Entries.{lengths-within, grown-agree, grown-set, product-more}
 use Rattle.builder.specs.Builder.{next, WithVariable, joinPair}
 use Rattle.builder.specs.Work.{Inside}
-use Rattle.builder.proofs.First.{First, first-is}
-use Rattle.builder.proofs.Steps.{found, join-cases}
+use Rattle.builder.proofs.Steps.{found, found-has, found-new, join-cases}
 use Rattle.builder.proofs.Joining.{sorted}
 use Rattle.builder.proofs.Steady.{All-front, All-back, inside-grown}
 use Rattle.builder.proofs.Covers.{held, held-append}
@@ -111,29 +109,28 @@ module _ (reg : Register) (m splits : ℕ) where
       join-cases n sch a b p e
       (λ l d. rw d (record {
         within = h .within;
-        holds = holds-joined front rest a b (h .holds) sch (found n sch a b) (omega arith) (λ v _. refl) l (first .here l);
+        holds = holds-joined front rest a b (h .holds) sch (found n sch a b) (omega arith) (λ v _. refl) l (found-has n sch a b l);
         splits-kept = h .splits-kept;
       }))
       (λ k few d. rw d (record {
         within =
-            product-within reg sch (h .within) (min a b) (max a b)
+            product-more reg sch (h .within) (min a b) (max a b)
             (record {
               few = few;
-              ordered = omega (arith, differ front rest a b (h .holds));
-              there = omega (arith, pair .0, pair .1);
-              is-new = at-new n sch _ (λ v l q. first .before v (rw k l) (q ∙ sorted-union));
+              fits = record {
+                ordered = omega (arith, differ front rest a b (h .holds));
+                falls = omega (arith, pair .0, pair .1);
+                new = λ v l q. new-at n sch _ (found-new n sch a b k) v l (q ∙ sorted-union);
+              };
             });
         holds =
             holds-joined front rest a b (h .holds) (withProduct sch (min a b) (max a b)) (variables n sch) (omega arith)
-            (E-same n sch (withProduct sch (min a b) (max a b)) (variables n sch) (grown-agree n sch (h .within .lengths) (min a b) (max a b) few))
+            (E-same n sch (withProduct sch (min a b) (max a b)) (variables n sch) (grown-agree sch (min a b) (max a b) n))
             (omega arith)
-            (grown-set n sch (h .within .lengths) (min a b) (max a b) few (omega (arith, pair .0, pair .1)) (omega (arith, pair .0, pair .1)) ∙ sorted-union);
+            (grown-set sch (min a b) (max a b) n (lengths-within (h .within)) few (omega (arith, pair .0, pair .1)) (omega (arith, pair .0, pair .1)) ∙ sorted-union);
         splits-kept = h .splits-kept;
       }))
     where
-      first : First n sch (unionOf n sch a b) (variables n sch) (found n sch a b)
-      first = first-is n sch (unionOf n sch a b) (variables n sch)
-
       pair : (a < variables n sch) × (b < variables n sch)
       pair = there front rest a b (h .holds)
 

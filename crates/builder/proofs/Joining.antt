@@ -1,25 +1,22 @@
 -- The code's joining of a pair, and its choices and splits, by the definition.
-use mathlib.Core.Path.{_≡_, refl, sym, _∙_, ap}
+use mathlib.Core.Path.{_≡_, refl, sym, _∙_}
 use mathlib.Core.Bool.{true}
 use mathlib.Core.List.{List, [], _∷_}
 use Prim.Native.Nat.{ℕ, zero, suc, _+_, _-_, min, max, _≤_, _<_}
-use native.Mathlib.Nat.{add-suc}
 use native.Mathlib.Omega.{arith}
 use native.Mathlib.Decide.{decLt}
 use lib.Bits.{or-comm}
 use lib.ListN.{length, take, set, getD, length-set}
+use Rattle.integers.proofs.Search.{firstBelow-same}
 use Rattle.scheme.specs.declared.Scheme.{Scheme}
-use Rattle.scheme.specs.Scheme.{maxProducts, variables, withProduct, withSplit}
-use Rattle.scheme.specs.Valid.{Lengths}
-use Rattle.scheme.specs.Sets.{SetsBelow, unionIn}
-use Rattle.scheme.specs.Format.{unionOf}
-use Rattle.scheme.proofs.Sets.{union-in, sets-same, sets-product}
-use Rattle.scheme.proofs.Growth.{grown-left, grown-right, grown-agree}
+use Rattle.scheme.specs.Scheme.{maxProducts, variables, Lengths, withProduct, withSplit}
+use Rattle.scheme.specs.Sets.{SetsBelow, firstIn, unionIn}
+use Rattle.scheme.proofs.Sets.{union-in}
+use Rattle.scheme.proofs.Entries.{grown-sets}
 use Rattle.builder.specs.declared.Work.{Work}
 use Rattle.builder.specs.Builder.{firstWith, splitOf}
 use Rattle.builder.specs.Work.{Ready, Joins}
-use Rattle.builder.proofs.First.{first-is}
-use Rattle.builder.proofs.Steps.{found, join-found, join-full, join-new}
+use Rattle.builder.proofs.Steps.{found, found-within, join-found, join-full, join-new}
 
 -- the smaller and the larger of two, where their order does not matter
 pub sorted : {A : Type 0} (f : ℕ → ℕ → A) → ((x y : ℕ) → f x y ≡ f y x) → (a b : ℕ) → f (min a b) (max a b) ≡ f a b
@@ -65,11 +62,10 @@ split-some s (a ∷ b ∷ l) h f = f (min a b) (max a b) refl
 
 module _ {n : ℕ} {w : Work} (ready : Ready n w) {a b : ℕ} (la : a < variables n (w .scheme)) (lb : b < variables n (w .scheme))
     {union v : ℕ} (union-is : union ≡ unionIn (w .sets) a b)
-    (v-is : (n′ : ℕ) (s : Scheme) → SetsBelow n′ s (variables n (w .scheme)) (w .sets) → v ≡ firstWith n′ s union (variables n (w .scheme))) where
+    (v-is : v ≡ firstIn (w .sets) (variables n (w .scheme)) union) where
   found-is : v ≡ found n (w .scheme) a b
-  found-is =
-      v-is n (w .scheme) (ready .sets-are)
-      ∙ ap (λ u. firstWith n (w .scheme) u (variables n (w .scheme))) (union-is ∙ union-in (ready .sets-are) a b la lb)
+  unfolding firstIn firstWith
+  found-is = v-is ∙ firstBelow-same _ _ _ (λ i l. rw (ready .sets-are .below i l, union-is ∙ union-in (ready .sets-are) a b la lb))
 
   -- a variable has the union
   pub joins-found : v < variables n (w .scheme) → Joins n w a b (record { full = w .full; scheme = w .scheme; sets = w .sets; list = w .list; count = w .count; variable = v })
@@ -82,7 +78,7 @@ module _ {n : ℕ} {w : Work} (ready : Ready n w) {a b : ℕ} (la : a < variable
 
   module _ (l : variables n (w .scheme) ≤ v) where
     none : found n (w .scheme) a b ≡ variables n (w .scheme)
-    none = omega (arith, first-is n (w .scheme) (unionOf n (w .scheme) a b) (variables n (w .scheme)) .within, found-is)
+    none = omega (arith, found-within n (w .scheme) a b, found-is)
 
     -- none has it, and there is no room for a product
     pub joins-full : maxProducts ≤ w .scheme .products → Joins n w a b (record { full = true; scheme = w .scheme; sets = w .sets; list = w .list; count = w .count; variable = w .variable })
@@ -115,14 +111,5 @@ module _ {n : ℕ} {w : Work} (ready : Ready n w) {a b : ℕ} (la : a < variable
 
         sets-are : SetsBelow n (withProduct (w .scheme) (min a b) (max a b)) (n + suc (w .scheme .products)) (set (w .sets) (variables n (w .scheme)) union)
         sets-are =
-            rw (add-suc, ← union-same)
-            (sets-product
-            (sets-same (ready .sets-are) (withProduct (w .scheme) (min a b) (max a b)) (grown-agree n (w .scheme) (ready .lengths) (min a b) (max a b) m))
-            (min a b)
-            (max a b)
-            (grown-left n (w .scheme) (ready .lengths) (min a b) (max a b) m)
-            (grown-right n (w .scheme) (ready .lengths) (min a b) (max a b) m)
-            (omega (arith, ready .few))
-            (omega arith)
-            (omega arith)
-            (omega arith))
+            rw (← union-same)
+            (grown-sets (w .scheme) (min a b) (max a b) n (ready .lengths) m (ready .sets-are) (omega (arith, ready .few)) (omega arith) (omega arith))

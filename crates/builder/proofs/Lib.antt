@@ -1,5 +1,4 @@
 pub mod Worked
-pub mod First
 pub mod Steps
 pub mod Joining
 pub mod Steady
@@ -13,6 +12,5 @@ pub mod Bytes
 pub mod Holds
 pub mod Unions
 pub mod Validity
-pub mod Position
 pub mod Answers
 pub mod Call

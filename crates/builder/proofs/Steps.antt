@@ -1,17 +1,19 @@
 -- What joining a pair leads to, and what a pass over pairs and passes keep.
 use mathlib.Core.Path.{_≡_, refl, sym, _∙_}
+use mathlib.Core.Bool.{true}
 use mathlib.Core.List.{List, [], _∷_, _++_}
 use Prim.Native.Nat.{ℕ, zero, suc, _+_, _*_, min, max, _≤_, _<_}
 use native.Mathlib.Omega.{arith}
 use native.Mathlib.Decide.{decLt}
 use lib.ListN.{length}
 use lib.Seq.{append-snoc}
-use borrow.Author.Tests.{eq-eqb, ne-eqb, le-leb, lt-leb}
+use borrow.Author.Tests.{eqb-true, eq-eqb, ne-eqb, le-leb, lt-leb}
+use Rattle.integers.proofs.Search.{first-within, first-here, none-first}
 use Rattle.scheme.specs.declared.Scheme.{Scheme}
 use Rattle.scheme.specs.Scheme.{maxProducts, variables, withProduct}
-use Rattle.scheme.specs.Format.{unionOf}
+use Rattle.scheme.specs.Variables.{E}
+use Rattle.scheme.specs.Format.{unionOf, isNew}
 use Rattle.builder.specs.Builder.{Step, full, next, andThen, WithVariable, WithList, firstWith, joinPair, pairUp, reduce}
-use Rattle.builder.proofs.First.{first-is}
 
 -- a step after another came to something: so did the first
 pub andThen-next : {A B G : Type 0} (x : Step A) (f : A → Step B) (q : B) → ((p : A) → x ≡ next p → f p ≡ next q → G) → andThen x f ≡ next q → G
@@ -28,6 +30,20 @@ module _ (n : ℕ) (sch : Scheme) (a b : ℕ) where
   -- the first variable with the union
   abbrev pub found : ℕ
   found = firstWith n sch (unionOf n sch a b) (variables n sch)
+
+  pub found-within : found ≤ variables n sch
+  unfolding firstWith
+  found-within = first-within _ (variables n sch)
+
+  -- it has the union, or the union is new
+
+  pub found-has : found < variables n sch → E n sch found ≡ unionOf n sch a b
+  unfolding firstWith
+  found-has l = eqb-true _ _ (first-here _ (variables n sch) l)
+
+  pub found-new : found ≡ variables n sch → isNew n sch (unionOf n sch a b) ≡ true
+  unfolding firstWith isNew
+  found-new e = none-first _ (variables n sch) e
 
   pub join-found : found < variables n sch → joinPair n sch a b ≡ next (record { scheme = sch; variable = found })
   unfolding joinPair
@@ -50,11 +66,11 @@ module _ (n : ℕ) (sch : Scheme) (a b : ℕ) where
       go : Dec (found < variables n sch) → Dec (sch .products < maxProducts) → G
       go (yes l) q = let d = join-found l in there l (cc)
       go (no l) (yes m) =
-          let k : found ≡ variables n sch = omega (arith, first-is n sch (unionOf n sch a b) (variables n sch) .within) in
+          let k : found ≡ variables n sch = omega (arith, found-within) in
           let d = join-new k m in
           new k m (cc)
       go (no l) (no m) =
-          let k : found ≡ variables n sch = omega (arith, first-is n sch (unionOf n sch a b) (variables n sch) .within) in
+          let k : found ≡ variables n sch = omega (arith, found-within) in
           let d = join-full k (omega arith) in
           let z : _≡_ {A = ℕ} 0 1 = cc in
           absurd (omega arith)

@@ -8,7 +8,6 @@ use lib.Pow.{pow-pos}
 use Rattle.integers.proofs.Lists.{All-map}
 use Rattle.sets.specs.Sets.{isMember}
 use Rattle.sets.proofs.Sets.{member-or, same-members}
-use Rattle.register.specs.Valid as R
 use Rattle.scheme.specs.declared.Scheme.{Scheme}
 use Rattle.scheme.specs.Scheme.{variables}
 use Rattle.scheme.specs.Variables.{E}

@@ -6,21 +6,22 @@ use native.Mathlib.Nat.{zero-add, add-zero}
 use native.Mathlib.Omega.{arith}
 use lib.Bits.{or-comm}
 use lib.ListN.{length}
-use Rattle.wire.specs.Part.{accepted}
+use Rattle.wire.specs.Walk.{Stands}
 use Rattle.register.specs.declared.Register.{Register}
 use Rattle.register.specs.Register.{mask}
+use Rattle.register.specs.Format.{registerPart}
+use Rattle.register.specs.Encoding.{termKind, Encodes}
+use Rattle.register.specs.Position.{termPosition}
 use Rattle.register.specs.Valid as R
+use Rattle.register.proofs.Position.{term-stands}
 use Rattle.scheme.specs.declared.Scheme.{Scheme}
 use Rattle.scheme.specs.Scheme.{fresh}
 use Rattle.scheme.specs.Variables.{E}
-use Rattle.scheme.specs.Format.{unionOf, schemeByItself}
+use Rattle.scheme.specs.Format.{unionOf}
 use Rattle.scheme.specs.Encoding.{encodeScheme}
 use Rattle.scheme.specs.Valid.{Within, Valid}
-use Rattle.scheme.proofs.Growth.{fresh-within}
-use Rattle.scheme.proofs.Splits.{split-within}
-use Rattle.scheme.proofs.Commands.{reached}
+use Rattle.scheme.proofs.Entries.{fresh-within, split-more}
 use Rattle.scheme.proofs.Encoding.{encode-within}
-use Rattle.scheme.proofs.Accept.{accepted-iff}
 use Rattle.builder.specs.Builder.{Step, full, next, stopped, built, follow, choicesOf, reduce, splitOf, buildTerm, buildFrom, build}
 use Rattle.builder.specs.Answer.{builtRoom}
 use Rattle.builder.proofs.Steps.{andThen-next, same-next, reduce-kept, reduce-ends}
@@ -45,18 +46,20 @@ module _ (reg : Register) (valid : R.Valid reg) where
   split-holds t sch [] lt some few h = absurd (omega arith)
   split-holds t sch (a ∷ []) lt some few h = record {
     within =
-        split-within reg sch (h .within) a a (valid .within .terms-within)
-        (record { few = omega (arith, h .splits-kept); ordered = omega arith; there = h .holds .inside .0; fits = union-one a (h .holds) ∙ ap (mask reg) (sym (h .splits-kept)) });
+        split-more sch a a reg (h .within) (valid .within .terms .few)
+        (record { few = omega (arith, h .splits-kept); fits = record { ordered = omega arith; there = h .holds .inside .0; fits = union-one a (h .holds) ∙ ap (mask reg) (sym (h .splits-kept)) } });
     splits-are = ap suc (h .splits-kept);
   }
   split-holds t sch (a ∷ b ∷ []) lt some few h = record {
     within =
-        split-within reg sch (h .within) (min a b) (max a b) (valid .within .terms-within)
+        split-more sch (min a b) (max a b) reg (h .within) (valid .within .terms .few)
         (record {
           few = omega (arith, h .splits-kept);
-          ordered = omega arith;
-          there = omega (arith, h .holds .inside .0, h .holds .inside .1 .0);
-          fits = sorted (unionOf n sch) (λ x y. or-comm (E n sch x) (E n sch y)) a b ∙ union-two a b (h .holds) ∙ ap (mask reg) (sym (h .splits-kept));
+          fits = record {
+            ordered = omega arith;
+            there = omega (arith, h .holds .inside .0, h .holds .inside .1 .0);
+            fits = sorted (unionOf n sch) (λ x y. or-comm (E n sch x) (E n sch y)) a b ∙ union-two a b (h .holds) ∙ ap (mask reg) (sym (h .splits-kept));
+          };
         });
     splits-are = ap suc (h .splits-kept);
   }
@@ -65,7 +68,7 @@ module _ (reg : Register) (valid : R.Valid reg) where
   pub term-split : (t : ℕ) (sch sch′ : Scheme) → t < reg .terms → SplitTo reg t sch → buildTerm n sch (mask reg t) ≡ next sch′ → SplitTo reg (suc t) sch′
   unfolding buildTerm
   term-split t sch sch′ lt s e =
-      let term = valid .within .terms t lt in
+      let term = valid .within .terms .each t lt in
       let l = choicesOf n (mask reg t) in
       andThen-next (reduce (length l) n sch l) _ sch′
       (λ q d f.
@@ -98,10 +101,6 @@ module _ (reg : Register) (valid : R.Valid reg) where
   pub build-size : (sch : Scheme) → build reg ≡ built sch → length (encodeScheme n sch) ≤ builtRoom
   build-size sch e = encode-within reg valid sch (build-valid sch e)
 
-  -- and read back from its bytes
-  pub build-reads : (sch : Scheme) → build reg ≡ built sch → schemeByItself reg (encodeScheme n sch) ≡ accepted (reached 0x2F sch) (length (encodeScheme n sch))
-  build-reads sch e = accepted-iff reg valid (encodeScheme n sch) sch .1 (build-valid sch e, refl)
-
 -- ---- building stops at a term of the register
 
 stopped-from : (reg : Register) (k t u : ℕ) (sch : Scheme) → buildFrom reg k t sch ≡ stopped u → u < t + k
@@ -116,3 +115,7 @@ stopped-from reg (suc k) t u sch e = go (buildTerm (reg .choices) sch (mask reg 
 pub build-stopped : (reg : Register) (t : ℕ) → build reg ≡ stopped t → t < reg .terms
 unfolding build
 build-stopped reg t e = omega (arith, stopped-from reg (reg .terms) 0 t fresh e)
+
+-- and a form of it stands where 10 has its position, whichever encoding of the register the bytes are
+pub stopped-stands : (reg : Register) → R.Valid reg → (s : List ℕ) (e : Encodes reg s) (t : ℕ) → build reg ≡ stopped t → Stands registerPart termKind reg t (e .commands) (termPosition s t)
+stopped-stands reg valid s e t q = term-stands reg valid s e t (build-stopped reg t q)

@@ -5,7 +5,7 @@ use mathlib.Core.List.{List, [], _∷_, _++_}
 use lib.IntN.{pos}
 use lib.ListN.{length, drop, replicate}
 use borrow.Author.Tests.{le-ltb}
-use Rattle.integers.specs.Lists.{joinBelow, comesBefore}
+use Rattle.integers.specs.Lists.{firstBelow, joinBelow, comesBefore}
 use Rattle.wire.specs.Number.{natAt, little, bytesOf}
 use Rattle.wire.specs.Checks.{refusal, commandChecks}
 use Rattle.wire.specs.Part.{accepted, operandsAt, total, checksAt, afterAt, command, step, run, readFrom, readPart, byItself}
@@ -37,7 +37,7 @@ called register reg end sch bytes buffer r b e l = let f = le-ltb (length buffer
 
 -- W3, on the example's register
 pub w3 : build exampleRegister ≡ built builtScheme
-unfolding build buildFrom follow buildTerm splitOf reduce pairUp joinPair firstWith choicesOf andThen joinBelow isMember E upward upTo fresh
+unfolding build buildFrom follow buildTerm splitOf reduce pairUp joinPair firstWith firstBelow choicesOf andThen joinBelow isMember E upward upTo fresh
 w3 = refl
 
 -- and its bytes
@@ -66,7 +66,7 @@ abbrev pub fiveScheme : Scheme
 fiveScheme = record { products = 3; splits = 1; lefts = 0 ∷ 2 ∷ 5 ∷ replicate 29 0; rights = 1 ∷ 3 ∷ 6 ∷ replicate 29 0; «split_lefts» = 4 ∷ replicate 255 0; «split_rights» = 7 ∷ replicate 255 0 }
 
 pub w4 : build five ≡ built fiveScheme
-unfolding build buildFrom follow buildTerm splitOf reduce pairUp joinPair firstWith choicesOf andThen joinBelow isMember E upward upTo fresh
+unfolding build buildFrom follow buildTerm splitOf reduce pairUp joinPair firstWith firstBelow choicesOf andThen joinBelow isMember E upward upTo fresh
 w4 = refl
 
 abbrev pub w4Bytes : List ℕ

@@ -1,14 +1,13 @@
 -- The builder follows 000 Algorithm 2.
 use Prim.Native.Nat.{ℕ, zero, suc, min, max}
 use mathlib.Core.Bool.{cond}
-use mathlib.Core.List.{List, [], _∷_, _++_}
+use mathlib.Core.List.{List, [], _∷_}
 use lib.Dec.{eqb, leb}
 use lib.ListN.{length}
-use Rattle.integers.specs.Lists.{joinBelow}
+use Rattle.integers.specs.Lists.{joinBelow, firstBelow}
 use Rattle.sets.specs.Sets.{isMember}
 use Rattle.register.specs.declared.Register.{Register}
-use Rattle.register.specs.Register.{mask, coefficient}
-use Rattle.register.specs.Encoding.{encodeBase, encodeChoices, encodeTerm}
+use Rattle.register.specs.Register.{mask}
 use Rattle.scheme.specs.declared.Scheme.{Scheme}
 use Rattle.scheme.specs.Scheme.{maxProducts, variables, fresh, withProduct, withSplit}
 use Rattle.scheme.specs.Variables.{E}
@@ -39,10 +38,7 @@ choicesOf n m = joinBelow n (λ i. cond (isMember i m) (i ∷ []) [])
 
 -- the first variable below k whose set is this one, or k where there is none
 unfoldable pub firstWith : ℕ → Scheme → ℕ → ℕ → ℕ
-firstWith n sch union zero = 0
-firstWith n sch union (suc k) =
-    let v = firstWith n sch union k in
-    cond (eqb v k) (cond (eqb (E n sch k) union) k (suc k)) v
+firstWith n sch union k = firstBelow k (λ v. eqb (E n sch v) union)
 
 -- the variable that has the union of a and b as its set; where there is none, a new product (min a b, max a b)
 unfoldable pub joinPair : ℕ → Scheme → ℕ → ℕ → Step WithVariable
@@ -96,11 +92,3 @@ buildFrom reg (suc k) t sch = follow (buildTerm (reg .choices) sch (mask reg t))
 
 unfoldable pub build : Register → Built
 build reg = buildFrom reg (reg .terms) 0 fresh
-
--- the bytes of part 1 before the command of term t: the base cost, the choices and the terms before it
-abbrev pub beforeTerm : Register → ℕ → List ℕ
-beforeTerm reg t = encodeBase (reg .base) ++ encodeChoices reg ++ joinBelow t (λ i. encodeTerm (mask reg i) (coefficient reg i))
-
--- the term's position
-unfoldable pub termPosition : Register → ℕ → ℕ
-termPosition reg t = length (beforeTerm reg t)

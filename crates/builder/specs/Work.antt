@@ -8,8 +8,7 @@ use Rattle.integers.specs.Lists.{All}
 use Rattle.sets.specs.Sets.{isMember}
 use Rattle.register.specs.Limits.{maxChoices}
 use Rattle.scheme.specs.declared.Scheme.{Scheme}
-use Rattle.scheme.specs.Scheme.{maxProducts, variables, fresh}
-use Rattle.scheme.specs.Valid.{Lengths}
+use Rattle.scheme.specs.Scheme.{maxProducts, variables, fresh, Lengths}
 use Rattle.scheme.specs.Sets.{SetsBelow}
 use Rattle.builder.specs.declared.Work.{Work}
 use Rattle.builder.specs.declared.Construction.{Construction}

@@ -1,138 +1,85 @@
--- What acceptance means, over all runs of bytes: the certificate is valid for the register and the scheme, and what was read is
--- an encoding of it.
-use Prim.Native.Nat.{ℕ, _+_, _-_, _≤_}
+-- What it means that the commands are accepted, over all runs of bytes: they are within the limits for the register and the
+-- scheme, and what was read is an encoding of the certificate.
+use Prim.Native.Nat.{ℕ, _+_, _-_, _≤_, _<_}
 use native.Mathlib.Omega.{arith}
-use mathlib.Core.Path.{_≡_, refl, _∙_, ap}
-use mathlib.Core.Logic.{_↔_}
-use mathlib.Core.Bool.{Bool, true, false, cond}
-use mathlib.Core.List.{List, [], _∷_, _++_, append-nil}
-use lib.Dec.{T}
-use lib.IntN.{ℤ}
-use lib.ListN.{length, getD, drop}
-use lib.Seq.{drop-length}
-use borrow.Author.Tests.{le-ltb}
-use Rattle.integers.proofs.Lists.{T-true}
+use mathlib.Core.Path.{_≡_, sym, _∙_, ap}
+use mathlib.Core.List.{List, [], _++_, append-nil}
+use lib.ListN.{length, getD, take}
+use lib.Seq.{take-all}
 use Rattle.wire.specs.Number.{Bytes}
-use Rattle.wire.specs.Part.{Reading, refused, accepted, size, afterAt, readPart, byItself}
+use Rattle.wire.specs.Part.{Part, Reading, accepted, size, afterAt, readPart}
 use Rattle.wire.specs.Rows.{Progress}
 use Rattle.wire.proofs.Part.{Ways, by-ways, readFrom-end}
-use Rattle.wire.proofs.Encoding.{byItself-accepted}
+use Rattle.wire.proofs.Accepting.{reached}
+use Rattle.wire.proofs.Acceptance as A
 use Rattle.register.specs.declared.Register.{Register}
-use Rattle.register.specs.Valid as R
 use Rattle.scheme.specs.declared.Scheme.{Scheme}
-use Rattle.scheme.specs.Valid as S
-use Rattle.certificate.specs.Certificate.{Certificate}
-use Rattle.certificate.specs.Residual.{carries}
-use Rattle.certificate.specs.Format.{commandsInJob, dominanceChecked, certificateInJob, certificateByItself}
-use Rattle.certificate.specs.Valid.{Within, Valid}
-use Rattle.certificate.proofs.Conditions.{carries-iff}
-use Rattle.certificate.specs.Encoding.{encodeBody, Encodes}
-use Rattle.certificate.proofs.Rows.{part, reached}
-use Rattle.certificate.proofs.Complete.{certificate-front, certificate-accepted}
-use Rattle.certificate.proofs.Steps.{Ended}
-use Rattle.certificate.proofs.Sofar.{Sofar, starts, goes-on, ends-here}
+use Rattle.scheme.specs.Scheme.{maxVariables, variables}
+use Rattle.certificate.specs.Certificate.{Certificate, fresh}
+use Rattle.certificate.specs.Format.{commandSize, certificateRows, certificatePart, commandsInJob}
+use Rattle.certificate.specs.Within.{Within}
+use Rattle.certificate.specs.Encoding.{Encodes}
+use Rattle.certificate.proofs.Sizes.{size-is, size-end}
+use Rattle.certificate.proofs.Laws.{laws, means}
+use Rattle.certificate.proofs.Encoded.{says-encodes, encodes-says}
 
 module _ (reg : Register) (sch : Scheme) where
-  -- what was read in the end
-  ended : (s : List ℕ) (p : Progress Certificate) (end : ℕ) → commandsInJob reg sch s ≡ accepted p end → Ended reg sch s p end
-  unfolding commandsInJob readPart
-  ended s p end q = by-ways (part reg sch) s Q ways (part reg sch .start) 0 (starts reg sch s) q
-    where
-      Q : Progress Certificate → ℕ → Reading (Progress Certificate) → Type 0
-      Q read at x = Sofar reg sch s read at → x ≡ accepted p end → Ended reg sch s p end
-
-      ways : Ways (part reg sch) s Q
-      ways = record {
-        missing = λ read at l g q. let z : _≡_ {A = ℕ} 0 1 = cc in absurd (omega arith);
-        refuses = λ read at n l e d g q. let z : _≡_ {A = ℕ} 0 1 = cc in absurd (omega arith);
-        goes = λ read at x h l rest g q. rest (goes-on reg sch s read at h g l) q;
-        ends = λ read at h l g q.
-            let d : afterAt (part reg sch) s read at ≡ p = cc in
-            let k : at + size (part reg sch) (getD s at 0) ≡ end = cc in
-            rw (d, k) at (ends-here reg sch s read at h g l);
-      }
-
-  -- ---- the commands, dominanceChecked by refusals 1 to 8
+  abbrev P : Part (Progress Certificate)
+  P = certificatePart reg sch
 
   module _ (s : List ℕ) (p : Progress Certificate) (end : ℕ) (e : commandsInJob reg sch s ≡ accepted p end) where
     pub within-accepted : Within reg sch (p .parsed) × (p .previous ≡ 0x3F)
-    within-accepted = let h = ended s p end e in (h .within, h .previous)
+    unfolding commandsInJob
+    within-accepted = A.front-valid fresh (certificateRows reg sch) (laws reg sch) (means reg sch) s p end e
+
+    -- there is an end, within the bytes
+    end-between : (0 < end) × (end ≤ length s)
+    unfolding commandsInJob readPart
+    end-between = readFrom-end P s (P .start) 0 e
+
+    pub end-within : end ≤ length s
+    end-within = end-between .1
 
     -- `3F` stands one byte before the end
     pub end-stands : getD s (end - 1) 0 ≡ 0x3F
-    end-stands = ended s p end e .last
-
-    -- the end is within the bytes
-    pub end-within : end ≤ length s
-    unfolding commandsInJob readPart
-    end-within = readFrom-end (part reg sch) s (part reg sch .start) 0 e .1
-
-    -- what was read, where nothing stands behind it
-    pub encodes-accepted : Bytes s → end ≡ length s → Encodes (p .parsed) s
-    encodes-accepted b l =
-        let h = ended s p end e in
-        let rest : drop end s ≡ [] = ap (λ n. drop n s) l ∙ drop-length s in
-        let whole = encodeBody (p .parsed .scale) (p .parsed .target) (h .entries) ++ (0x3F ∷ []) in
-        record { entries = h .entries; commands = h .commands; bytes = h .bytes b ∙ ap (λ x. whole ++ x) rest ∙ append-nil whole }
-
-  module _ (c : ℕ → ℤ) where
-    -- ---- in a job: R carries T
-
-    dominance-accepted : (x : Reading (Progress Certificate)) (p : Progress Certificate) (end : ℕ) → dominanceChecked c reg sch x ≡ accepted p end → (x ≡ accepted p end) × T (carries c reg sch (p .parsed))
-    unfolding dominanceChecked
-    dominance-accepted (refused n at) p end e = let z : _≡_ {A = ℕ} 0 1 = cc in absurd (omega arith)
-    dominance-accepted (accepted q to) p end e = by (carries c reg sch (q .parsed)) refl e
+    unfolding commandsInJob readPart afterAt
+    end-stands = by-ways P s Q ways (P .start) 0 e
       where
-        by : (t : Bool) → carries c reg sch (q .parsed) ≡ t → _≡_ {A = Reading (Progress Certificate)} (cond t (accepted q to) (refused 9 (to - 1))) (accepted p end) → (_≡_ {A = Reading (Progress Certificate)} (accepted q to) (accepted p end)) × T (carries c reg sch (p .parsed))
-        by true u e = let k : q ≡ p = cc in (e, rw (← k) (T-true _ .1 u))
-        by false u e = let z : _≡_ {A = ℕ} 0 1 = cc in absurd (omega arith)
+        Q : Progress Certificate → ℕ → Reading (Progress Certificate) → Type 0
+        Q read at x = x ≡ accepted p end → getD s (end - 1) 0 ≡ 0x3F
 
-    module _ (s : List ℕ) (p : Progress Certificate) (end : ℕ) (e : certificateInJob c reg sch s ≡ accepted p end) where
-      pub commands-accepted : (commandsInJob reg sch s ≡ accepted p end) × T (carries c reg sch (p .parsed))
-      unfolding certificateInJob
-      commands-accepted = dominance-accepted (commandsInJob reg sch s) p end e
+        ways : Ways P s Q
+        ways = record {
+          missing = λ read at l q. let z : _≡_ {A = ℕ} 0 1 = cc in absurd (omega arith);
+          refuses = λ read at n l f d q. let z : _≡_ {A = ℕ} 0 1 = cc in absurd (omega arith);
+          goes = λ read at x h l rest q. rest q;
+          ends = λ read at h l q.
+              let d : afterAt P s read at ≡ p = cc in
+              let k : at + size P (getD s at 0) ≡ end = cc in
+              let f : getD s at 0 ≡ 0x3F = ap (λ r. r .previous) d ∙ within-accepted .1 in
+              let one : size P (getD s at 0) ≡ 1 = size-is reg sch (getD s at 0) ∙ ap commandSize f ∙ size-end in
+              ap (λ i. getD s i 0) (omega arith) ∙ f;
+        }
 
-      pub valid-accepted : Valid c reg sch (p .parsed) × (p .previous ≡ 0x3F)
-      valid-accepted =
-          let (q, t) = commands-accepted in
-          let (w, f) = within-accepted s p end q in
-          (record { within = w; carried = carries-iff c reg sch (p .parsed) .0 (T-true _ .0 t) }, f)
+  -- what was read, by its own bytes
+  pub front-encodes : (s : List ℕ) (p : Progress Certificate) (end : ℕ) → Bytes s → commandsInJob reg sch s ≡ accepted p end → Encodes (p .parsed) (take end s) × (0 < end) × (end ≤ length s)
+  unfolding commandsInJob
+  front-encodes s p end b e =
+      let (c, _) = A.front-encodes fresh (certificateRows reg sch) (laws reg sch) (means reg sch) s p end e b in
+      let (some, l) = end-between s p end e in
+      (says-encodes reg sch (p .parsed) (take end s) (within-accepted s p end e .0) c, some, l)
 
--- ---- a run of bytes by itself
+  -- where nothing stands behind it
+  pub encodes-accepted : (s : List ℕ) (p : Progress Certificate) (end : ℕ) → commandsInJob reg sch s ≡ accepted p end → Bytes s → end ≡ length s → Encodes (p .parsed) s
+  encodes-accepted s p end e b l = rw (take-all end s (omega arith)) at (front-encodes s p end b e .0)
 
-module _ (reg : Register) (sch : Scheme) (c : ℕ → ℤ) (s : List ℕ) (p : Progress Certificate) (end : ℕ) (e : certificateByItself c reg sch s ≡ accepted p end) where
-  -- it is accepted in a job too, and ends with its last byte
-  pub whole-accepted : (certificateInJob c reg sch s ≡ accepted p end) × (end ≡ length s)
-  unfolding certificateByItself
-  whole-accepted =
-      let (q, l) = byItself-accepted s (certificateInJob c reg sch s) p end e in
-      (q, omega (arith, end-within reg sch s p end (commands-accepted reg sch c s p end q .0)))
+  -- every encoding of a certificate within the limits is accepted
+  module _ (few : variables (reg .choices) sch ≤ maxVariables) (k : Certificate) (s : List ℕ) where
+    -- at the front of a run of bytes
+    pub certificate-front : (rest : List ℕ) → Within reg sch k → Encodes k s → commandsInJob reg sch (s ++ rest) ≡ accepted (reached 0x3F k) (length s)
+    unfolding commandsInJob
+    certificate-front rest w e = A.front-accepted fresh (certificateRows reg sch) (laws reg sch) (means reg sch) k s rest w (encodes-says reg sch few k s w e)
 
-  -- what was read is valid, and the bytes are an encoding of it
-  pub whole-valid : Valid c reg sch (p .parsed)
-  whole-valid = valid-accepted reg sch c s p end (whole-accepted .0) .0
-
-  pub whole-encodes : Bytes s → Encodes (p .parsed) s
-  whole-encodes b = let (q, l) = whole-accepted in encodes-accepted reg sch s p end (commands-accepted reg sch c s p end q .0) b l
-
-module _ (reg : Register) (regValid : R.Valid reg) (sch : Scheme) (schValid : S.Valid reg sch) (c : ℕ → ℤ) (k : Certificate) (s : List ℕ) where
-  -- every encoding of a valid certificate is accepted
-  pub encoding-accepted : Valid c reg sch k → Encodes k s → certificateByItself c reg sch s ≡ accepted (reached 0x3F k) (length s)
-  unfolding certificateByItself certificateInJob dominanceChecked byItself
-  encoding-accepted v e =
-      let x = certificate-accepted reg sch (omega (arith, regValid .within .choices-within, schValid .within .products-within)) k s (v .within) e in
-      let t : carries c reg sch k ≡ true = carries-iff c reg sch k .1 (v .carried) in
-      rw (x, t, le-ltb (length s) (length s) (omega arith))
-
-  -- also at the front of a run of bytes, as in a job
-  pub encoding-front : (rest : List ℕ) → Valid c reg sch k → Encodes k s → certificateInJob c reg sch (s ++ rest) ≡ accepted (reached 0x3F k) (length s)
-  unfolding certificateInJob dominanceChecked
-  encoding-front rest v e =
-      let x = certificate-front reg sch (omega (arith, regValid .within .choices-within, schValid .within .products-within)) k s rest (v .within) e in
-      let (inJob, _) = whole-accepted reg sch c s _ _ (encoding-accepted v e) in
-      let t : carries c reg sch k ≡ true = T-true (carries c reg sch k) .0 (commands-accepted reg sch c s _ _ inJob .1) in
-      rw (x, t)
-
-  -- a certificate is accepted from just those runs of bytes that encode it, where it is valid
-  pub accepted-iff : Bytes s → (certificateByItself c reg sch s ≡ accepted (reached 0x3F k) (length s)) ↔ (Valid c reg sch k × Encodes k s)
-  accepted-iff b = (λ e. (whole-valid reg sch c s _ _ e, whole-encodes reg sch c s _ _ e b), λ h. encoding-accepted (h .0) (h .1))
+    -- by itself
+    pub certificate-accepted : Within reg sch k → Encodes k s → commandsInJob reg sch s ≡ accepted (reached 0x3F k) (length s)
+    certificate-accepted w e = ap (commandsInJob reg sch) (sym (append-nil s)) ∙ certificate-front [] w e

@@ -1,29 +1,29 @@
--- Commands that meet the paper's conditions pass every check.
+-- Multiplier commands that meet the paper's conditions pass every check.
 use Prim.Native.Nat.{ℕ, suc, _≤_, _<_}
 use native.Mathlib.Omega.{arith}
 use native.Mathlib.Decide.{ℕ-discrete}
-use mathlib.Core.Path.{_≡_, refl}
+use mathlib.Core.Path.{_≡_}
 use mathlib.Core.Logic.{_↔_}
-use mathlib.Core.Bool.{Bool, true, false, not, _||_, _&&_}
-use lib.Dec.{T, eqb, ltb, leb, ltb→lt}
-use lib.IntN.{ℤ, pos, natAbs}
+use mathlib.Core.Bool.{Bool, false, not, _&&_}
+use lib.Dec.{T, ltb, leb, ltb→lt}
+use lib.IntN.{ℤ}
 use lib.ListN.{length, getD}
 use lib.Signed.{_≤ℤ_, ltZ}
-use borrow.Author.Tests.{ne-eqb, le-ltb, le-leb, lt-leb, leb-false}
-use Rattle.integers.specs.Lists.{allBelow}
-use Rattle.integers.proofs.Lists.{T-and, T-true, flag, allBelow-by, _▹_}
+use borrow.Author.Tests.{lt-leb}
+use Rattle.integers.proofs.Lists.{T-and, T-true, flag, _▹_}
 use Rattle.integers.proofs.Parts.{orders}
 use Rattle.integers.proofs.Machine.{ltZ-true}
 use Rattle.wire.specs.Checks.{refusal}
 use Rattle.wire.proofs.Checks.{none-refusal}
+use Rattle.register.specs.declared.Register.{Register}
 use Rattle.scheme.specs.declared.Scheme.{Scheme}
 use Rattle.scheme.specs.Scheme.{variables}
-use Rattle.certificate.specs.Limits.{maxScale, maxTarget, maxMultipliers, maxMultiplier, maxSquares, maxWeight, squareEntries, maxEntry}
-use Rattle.certificate.specs.Certificate.{Multiplier, Square}
+use Rattle.certificate.specs.Limits.{maxMultipliers}
+use Rattle.certificate.specs.Certificate.{Multiplier}
 use Rattle.certificate.specs.Rules.{arity, byKey, rules, noRule, ruleOf}
-use Rattle.certificate.specs.Format.{scaleChecks, outOfRange, multiplierChecks, multiplierKinds, squareChecks}
-use Rattle.certificate.specs.Valid.{Allowed, SquareAllowed}
-use Rattle.certificate.proofs.Passes.{ScalePasses, multiplier-passes}
+use Rattle.certificate.specs.Format.{multiplierChecks, multiplierKinds}
+use Rattle.certificate.specs.Within.{Allowed}
+use Rattle.certificate.proofs.Passes.{multiplier-passes}
 use Rattle.certificate.proofs.Conditions.{allowed-iff, tested}
 use Rattle.certificate.proofs.Ranges.{among-all, is-multiplier}
 
@@ -40,9 +40,9 @@ module _ (f : ℕ → ℕ) (N : ℕ) where
   below-one : f 0 < N → (i : ℕ) → i < 1 → f i < N
   below-one = below-more 0 (λ i b. absurd (omega arith))
 
-pub names-there : (n : ℕ) (sch : Scheme) (t : Multiplier) → Allowed n sch t → (i : ℕ) → i < arity (t .kind) → getD (t .names) i 0 < variables n sch
+pub names-there : (reg : Register) (sch : Scheme) (t : Multiplier) → Allowed reg sch t → (i : ℕ) → i < arity (t .kind) → getD (t .names) i 0 < variables (reg .choices) sch
 unfolding ruleOf byKey arity
-names-there n sch t a = let h = tested n sch t a in among-all There multiplierKinds
+names-there reg sch t a = let h = tested reg sch t a in among-all There multiplierKinds
     (one ▹ (λ h. let (x, y) = T-and (v 0) (v 1) .0 h in two x y)
     ▹ (λ h. let (u, z) = T-and (v 0 && v 1) (v 2) .0 h in let (x, y) = T-and (v 0) (v 1) .0 u in three x y z)
     ▹ (λ h. let (w, k) = T-and (v 0 && v 1 && v 2) (v 3) .0 h in let (u, z) = T-and (v 0 && v 1) (v 2) .0 w in let (x, y) = T-and (v 0) (v 1) .0 u in below-more f N 3 (three x y z) (ltb→lt _ _ k))
@@ -53,13 +53,13 @@ names-there n sch t a = let h = tested n sch t a in among-all There multiplierKi
     f i = getD (t .names) i 0
 
     N : ℕ
-    N = variables n sch
+    N = variables (reg .choices) sch
 
     v : ℕ → Bool
     v i = ltb (f i) N
 
     There : ℕ → Type 0
-    There kind = T (byKey noRule kind (rules n sch (f 0) (f 1) (f 2) (f 3)) .there) → (i : ℕ) → i < arity kind → f i < N
+    There kind = T (byKey noRule kind (rules reg sch (f 0) (f 1) (f 2) (f 3)) .there) → (i : ℕ) → i < arity kind → f i < N
 
     one : T (v 0) → (i : ℕ) → i < 1 → f i < N
     one h = below-one f N (ltb→lt (f 0) N h)
@@ -70,63 +70,35 @@ names-there n sch t a = let h = tested n sch t a in among-all There multiplierKi
     three : T (v 0) → T (v 1) → T (v 2) → (i : ℕ) → i < 3 → f i < N
     three x y z = below-more f N 2 (two x y) (ltb→lt (f 2) N z)
 
-    product : T (leb n (f 0) && v 0) → (i : ℕ) → i < 1 → f i < N
-    product h = one (T-and (leb n (f 0)) (v 0) .0 h .1)
+    product : T (leb (reg .choices) (f 0) && v 0) → (i : ℕ) → i < 1 → f i < N
+    product h = one (T-and (leb (reg .choices) (f 0)) (v 0) .0 h .1)
 
 -- ---- no check fails
 
-pub scale-checked : (s : ℕ) (target : ℤ) → ScalePasses s target → refusal (scaleChecks s target) ≡ 0
-unfolding scaleChecks
-scale-checked s target p =
-    none-refusal (scaleChecks s target) (rw (ne-eqb s 0 (omega (arith, p .scale-above)), le-ltb maxScale s (p .scale-within), le-ltb maxTarget (natAbs target) (p .target-within)), tt)
+-- a comparison that does not hold
+not-less : (a b : ℤ) → b ≤ℤ a → ltZ a b ≡ false
+not-less a b h = flag (ltZ a b) (λ t. let x = ltZ-true a b t in absurd (omega (arith, orders))) (λ t. t)
 
-not-below : (m : ℤ) → pos 0 ≤ℤ m → ltZ m (pos 0) ≡ false
-not-below m h = flag (ltZ m (pos 0)) (λ t. let x = ltZ-true m (pos 0) t in absurd (omega (arith, orders))) (λ t. t)
-
-pub multiplier-checked : (multipliers n : ℕ) (sch : Scheme) (t : Multiplier) → multipliers < maxMultipliers → Allowed n sch t → refusal (multiplierChecks multipliers (ruleOf n sch t) (t .m)) ≡ 0
-unfolding multiplierChecks outOfRange
-multiplier-checked multipliers n sch t few a =
-    let p = tested n sch t a .rule in
-    none-refusal (multiplierChecks multipliers (ruleOf n sch t) (t .m)) (
+pub multiplier-checked : (multipliers : ℕ) (reg : Register) (sch : Scheme) (t : Multiplier) → multipliers < maxMultipliers → Allowed reg sch t → refusal (multiplierChecks multipliers (ruleOf reg sch t) (t .m)) ≡ 0
+unfolding multiplierChecks
+multiplier-checked multipliers reg sch t few a =
+    let rule = ruleOf reg sch t in
+    let p = tested reg sch t a .rule in
+    none-refusal (multiplierChecks multipliers rule (t .m)) (
       lt-leb maxMultipliers multipliers few,
       (
-        rw (le-ltb maxMultiplier (natAbs (t .m)) (p .m-within)) (sign (ruleOf n sch t .null) (p .m-above)),
-        (passes (ruleOf n sch t .there) (p .there), (passes (ruleOf n sch t .ordered) (p .ordered), (passes (ruleOf n sch t .fits) (p .fits), tt))),
+        rw (not-less (t .m) (rule .least) (p .m-above), not-less (rule .most) (t .m) (p .m-below)),
+        (passes (rule .there) (p .there), (passes (rule .ordered) (p .ordered), (passes (rule .fits) (p .fits), tt))),
       ),
     )
   where
     passes : (b : Bool) → T b → not b ≡ false
     passes b h = rw (T-true b .0 h)
 
-    sign : (null : Bool) → (T (not null) → pos 0 ≤ℤ t .m) → (not null && ltZ (t .m) (pos 0)) ≡ false
-    sign true h = refl
-    sign false h = not-below (t .m) (h tt)
-
 -- so a command of `31` to `39` with the names of its kind passes just where it is allowed, while there is room for it
-pub multiplier-iff : (multipliers n : ℕ) (sch : Scheme) (t : Multiplier) → multipliers < maxMultipliers → 0x31 ≤ t .kind → t .kind ≤ 0x39 → length (t .names) ≡ arity (t .kind) →
-    (refusal (multiplierChecks multipliers (ruleOf n sch t) (t .m)) ≡ 0) ↔ Allowed n sch t
-multiplier-iff multipliers n sch t few x y l = (
-  (λ e. allowed-iff n sch t .1 (record { kind-above = x; kind-within = y; names = l; rule = multiplier-passes _ _ _ e .1 })),
-  multiplier-checked multipliers n sch t few,
+pub multiplier-iff : (multipliers : ℕ) (reg : Register) (sch : Scheme) (t : Multiplier) → multipliers < maxMultipliers → 0x31 ≤ t .kind → t .kind ≤ 0x39 → length (t .names) ≡ arity (t .kind) →
+    (refusal (multiplierChecks multipliers (ruleOf reg sch t) (t .m)) ≡ 0) ↔ Allowed reg sch t
+multiplier-iff multipliers reg sch t few x y l = (
+  (λ e. allowed-iff reg sch t .1 (record { kind-above = x; kind-within = y; names = l; rule = multiplier-passes _ _ _ e .1 })),
+  multiplier-checked multipliers reg sch t few,
 )
-
-pub square-checked : (squares n : ℕ) (sch : Scheme) (q : Square) → squares < maxSquares → SquareAllowed n sch q → refusal (squareChecks squares (variables n sch) q) ≡ 0
-unfolding squareChecks
-square-checked squares n sch q few a =
-    none-refusal (squareChecks squares (variables n sch) q) (
-      lt-leb maxSquares squares few,
-      (rw (ne-eqb (q .w) 0 (omega (arith, a .w-above)), le-ltb maxWeight (q .w) (a .w-within), all), (rw zeros, tt)),
-    )
-  where
-    v : ℕ → ℤ
-    v i = getD (q .v) i (pos 0)
-
-    all : allBelow squareEntries (λ i. leb (natAbs (v i)) maxEntry) ≡ true
-    all = T-true _ .0 (allBelow-by squareEntries (λ i. leb (natAbs (v i)) maxEntry) (λ i l. T-true _ .1 (le-leb (natAbs (v i)) maxEntry (a .entries-within i l))))
-
-    zero-past : (i : ℕ) → i < squareEntries → (leb i (variables n sch) || eqb (natAbs (v i)) 0) ≡ true
-    zero-past i l =
-        flag (leb i (variables n sch)) (λ t. rw t) (λ t. rw (t, a .past-0 i (leb-false i (variables n sch) t) l))
-
-    zeros : allBelow squareEntries (λ i. leb i (variables n sch) || eqb (natAbs (v i)) 0) ≡ true
-    zeros = T-true _ .0 (allBelow-by squareEntries (λ i. leb i (variables n sch) || eqb (natAbs (v i)) 0) (λ i l. T-true _ .1 (zero-past i l)))

@@ -1,27 +1,36 @@
--- The commands of a certificate as bytes: their operands, and that they stand where they were read.
-use Prim.Native.Nat.{ℕ, zero, suc, _+_, _≤_}
+-- The bytes of a certificate's commands: the encoding of the paper is that of the rows.
+use Prim.Native.Nat.{ℕ, zero, suc, _^_, _≤_, _<_}
 use native.Mathlib.Omega.{arith}
-use mathlib.Core.Path.{_≡_, refl, _∙_, ap}
+use mathlib.Core.Path.{_≡_, refl, sym, _∙_, ap, ap₂}
 use mathlib.Core.List.{List, [], _∷_, _++_, map, flatMap, append-assoc, append-nil}
 use lib.IntN.{ℤ}
-use lib.ListN.{length, getD, drop, replicate, length-map, length-replicate}
+use lib.ListN.{length, getD, replicate}
 use mir.Syntax.{w16, w64}
-use mir.Val.{toZ, ofZ}
-use Rattle.wire.specs.Number.{Bytes, natAt, intAt, bytesOf}
-use Rattle.wire.specs.Part.{Part, operandsAt, size}
+use mir.Val.{ofZ}
+use mir.Facts.{fits-ofZ}
+use Rattle.integers.specs.Lists.{All}
+use Rattle.integers.proofs.Machine.{fits-signed}
+use Rattle.wire.specs.Number.{bytesOf}
+use Rattle.wire.specs.Part.{Part}
 use Rattle.wire.specs.Rows.{Progress, rowOf}
-use Rattle.wire.specs.Encoding.{Command, fields, encodeCommand}
-use Rattle.wire.proofs.Number.{ofZ-intAt}
-use Rattle.wire.proofs.Encoding.{commandAt, commandAt-bytes}
+use Rattle.wire.specs.Encoding.{fields, encodeCommand, encode}
+use Rattle.wire.specs.Grammar as G
+use Rattle.wire.proofs.Encoding.{encode-append}
 use Rattle.register.specs.declared.Register.{Register}
 use Rattle.scheme.specs.declared.Scheme.{Scheme}
+use Rattle.scheme.specs.Scheme.{maxVariables, variables}
 use Rattle.certificate.specs.Limits.{squareEntries}
-use Rattle.certificate.specs.Certificate.{Multiplier, Square, Certificate}
-use Rattle.certificate.specs.Rules.{arity}
-use Rattle.certificate.specs.Answer.{multiplierAt, squareRead}
-use Rattle.certificate.specs.Encoding.{encodeScale, encodeMultiplier, encodeSquare}
-use Rattle.certificate.proofs.Operands.{length-operands, names-first, multiplier-last}
-use Rattle.certificate.proofs.Rows.{part, row-multiplier}
+use Rattle.certificate.specs.Certificate.{Certificate}
+use Rattle.certificate.specs.Format.{certificatePart}
+use Rattle.certificate.specs.Within.{Allowed, SquareAllowed, Within}
+use Rattle.certificate.specs.Encoding.{Entry, multiplier, square, multipliersOf, squaresOf, encodeScale, encodeMultiplier, encodeSquare, encodeEntry, encodeBody, Encodes}
+use Rattle.certificate.proofs.Ranges.{among-between}
+use Rattle.certificate.proofs.Conditions.{tested, m-within}
+use Rattle.certificate.proofs.Checked.{names-there}
+use Rattle.certificate.proofs.Readback.{fit-names, fit-entries}
+use Rattle.certificate.proofs.Entries.{scaleCommand, commandOf, endCommand, certificateOf}
+use Rattle.certificate.proofs.Rows.{row-multiplier}
+use Rattle.certificate.proofs.Laws.{Fits, Commands}
 
 -- ---- operands and their bytes
 
@@ -37,83 +46,96 @@ fields-signed zero (x ∷ v) l = absurd (omega arith)
 fields-signed (suc k) [] l = absurd (omega arith)
 fields-signed (suc k) (x ∷ v) l = rw (fields-signed k v (omega arith))
 
-operands-names : (k : ℕ) (s : List ℕ) (at : ℕ) → operandsAt (replicate k 1 ++ (8 ∷ [])) s at ≡ operandsAt (replicate k 1) s at ++ (natAt 8 s (at + k) ∷ [])
-unfolding operandsAt
-operands-names zero s at = ap (λ x. natAt 8 s x ∷ []) (omega arith)
-operands-names (suc k) s at = rw (operands-names k s (at + 1)) (ap (λ x. natAt 1 s at ∷ (operandsAt (replicate k 1) s (at + 1) ++ (natAt 8 s x ∷ []))) (omega arith))
-
-signed-back : (k : ℕ) (s : List ℕ) (at : ℕ) → Bytes s → map (ofZ w16) (map (toZ w16) (operandsAt (replicate k 2) s at)) ≡ operandsAt (replicate k 2) s at
-unfolding operandsAt intAt
-signed-back zero s at b = refl
-signed-back (suc k) s at b = rw (ofZ-intAt w16 s at b, signed-back k s (at + 2) b)
-
--- ---- commands
-
-abbrev pub scaleCommand : ℕ → ℤ → Command
-scaleCommand s target = record { byte = 0x30; operands = s ∷ ofZ w64 target ∷ [] }
-
-abbrev pub multiplierCommand : Multiplier → Command
-multiplierCommand t = record { byte = t .kind; operands = t .names ++ (ofZ w64 (t .m) ∷ []) }
-
-abbrev pub squareCommand : Square → Command
-squareCommand q = record { byte = 0x3A; operands = q .w ∷ map (ofZ w16) (q .v) }
-
-abbrev pub endCommand : Command
-endCommand = record { byte = 0x3F; operands = [] }
-
 module _ (reg : Register) (sch : Scheme) where
   abbrev P : Part (Progress Certificate)
-  P = part reg sch
+  P = certificatePart reg sch
 
-  pub bytes-scale : (s : ℕ) (target : ℤ) → encodeCommand P (scaleCommand s target) ≡ encodeScale s target
+  abbrev n : ℕ
+  n = reg .choices
+
+  -- ---- each command
+
+  abbrev EntryAllowed : Entry → Type 0
+  EntryAllowed (multiplier t) = Allowed reg sch t
+  EntryAllowed (square q) = SquareAllowed n sch q
+
+  all-allowed : (es : List Entry) → All (Allowed reg sch) (multipliersOf es) → All (SquareAllowed n sch) (squaresOf es) → All EntryAllowed es
+  unfolding flatMap
+  all-allowed [] a b = tt
+  all-allowed (multiplier t ∷ es) a b = (a .0, all-allowed es (a .1) b)
+  all-allowed (square q ∷ es) a b = (b .0, all-allowed es a (b .1))
+
+  scale-bytes : (s : ℕ) (target : ℤ) → encodeCommand P (scaleCommand s target) ≡ encodeScale s target
   unfolding encodeCommand encodeScale rowOf fields
-  bytes-scale s target = rw append-nil
+  scale-bytes s target = rw append-nil
 
-  pub bytes-multiplier : (t : Multiplier) → 0x31 ≤ t .kind → t .kind ≤ 0x39 → length (t .names) ≡ arity (t .kind) → encodeCommand P (multiplierCommand t) ≡ encodeMultiplier t
-  unfolding encodeCommand encodeMultiplier
-  bytes-multiplier t p q l = rw (row-multiplier reg sch (t .kind) p q, ← l) (ap (λ xs. t .kind ∷ xs) (fields-names (t .names) (ofZ w64 (t .m))))
+  entry-bytes : (x : Entry) → EntryAllowed x → encodeCommand P (commandOf x) ≡ encodeEntry x
+  unfolding encodeCommand encodeMultiplier encodeSquare rowOf fields
+  entry-bytes (multiplier t) a =
+      let h = tested reg sch t a in
+      rw (row-multiplier reg sch (t .kind) (h .kind-above) (h .kind-within), ← (h .names)) (ap (λ xs. t .kind ∷ xs) (fields-names (t .names) (ofZ w64 (t .m))))
+  entry-bytes (square q) a = ap (λ xs. 0x3A ∷ (bytesOf 4 (q .w) ++ xs)) (fields-signed squareEntries (q .v) (a .entries))
 
-  pub bytes-square : (q : Square) → length (q .v) ≡ squareEntries → encodeCommand P (squareCommand q) ≡ encodeSquare q
-  unfolding encodeCommand encodeSquare rowOf fields
-  bytes-square q l = ap (λ xs. 0x3A ∷ (bytesOf 4 (q .w) ++ xs)) (fields-signed squareEntries (q .v) l)
+  entry-fits : variables n sch ≤ maxVariables → (x : Entry) → EntryAllowed x → Fits reg sch (commandOf x)
+  unfolding rowOf
+  entry-fits few (multiplier t) a =
+      let h = tested reg sch t a in
+      let named : (i : ℕ) → i < length (t .names) → getD (t .names) i 0 < 256 = λ i b. omega (arith, names-there reg sch t a i (omega (arith, h .names))) in
+      let wide : ofZ w64 (t .m) < 256 ^ 8 = fits-ofZ (fits-signed w64 (t .m) (omega (arith, m-within reg sch t a))) .fits in
+      record {
+        between = among-between (t .kind) (omega (arith, h .kind-above)) (omega (arith, h .kind-within));
+        operands = rw (row-multiplier reg sch (t .kind) (h .kind-above) (h .kind-within)) (rw (h .names) at (fit-names (t .names) (ofZ w64 (t .m)) named wide));
+      }
+  entry-fits few (square q) a = record { between = refl; operands = (omega (arith, a .w-within), fit-entries n sch q a) }
 
--- ---- the command at a position
+  -- ---- all of them
 
-pub names-long : (s : List ℕ) (at : ℕ) → length (multiplierAt s at .names) ≡ arity (getD s at 0)
-unfolding multiplierAt
-names-long s at = rw (names-first, length-operands) (length-replicate {A = ℕ} (arity (getD s at 0)) 1)
+  module _ (s : ℕ) (target : ℤ) (es : List Entry) (w : Within reg sch (certificateOf s target es)) where
+    allowed : All EntryAllowed es
+    allowed = all-allowed es (w .multipliers) (w .squares)
 
-pub entries-long : (s : List ℕ) (at : ℕ) → length (squareRead s at .v) ≡ squareEntries
-unfolding squareRead operandsAt
-entries-long s at =
-    length-map (operandsAt (replicate squareEntries 2) s (at + 1 + 4)) (toZ w16) ∙ length-operands (replicate squareEntries 2) s (at + 1 + 4) ∙ length-replicate {A = ℕ} squareEntries 2
+    commands-bytes : encode P ((scaleCommand s target ∷ map commandOf es) ++ (endCommand ∷ [])) ≡ encodeBody s target es ++ (0x3F ∷ [])
+    unfolding encode flatMap encodeCommand rowOf fields
+    commands-bytes =
+        encode-append P (scaleCommand s target ∷ map commandOf es) (endCommand ∷ []) ∙ ap (λ x. x ++ (0x3F ∷ [])) (ap₂ (λ x y. x ++ y) (scale-bytes s target) (each es allowed))
+      where
+        each : (es : List Entry) → All EntryAllowed es → encode P (map commandOf es) ≡ flatMap encodeEntry es
+        each [] a = refl
+        each (x ∷ es) a = ap₂ (λ y z. y ++ z) (entry-bytes x (a .0)) (each es (a .1))
 
-module _ (reg : Register) (sch : Scheme) (s : List ℕ) (at : ℕ) (b : Bytes s) (room : at + size (P reg sch) (getD s at 0) ≤ length s) where
-  stands : (c : Command) → commandAt (P reg sch) s at ≡ c → drop at s ≡ encodeCommand (P reg sch) c ++ drop (at + size (P reg sch) (getD s at 0)) s
-  stands c e = rw e at (commandAt-bytes (P reg sch) s at b room)
+    commands-fit : variables n sch ≤ maxVariables → All (Fits reg sch) (scaleCommand s target ∷ map commandOf es)
+    unfolding rowOf
+    commands-fit few = (record { between = refl; operands = (omega (arith, w .scale-within), (fits-ofZ (fits-signed w64 target (omega (arith, w .target-within))) .fits, tt)) }, each es allowed)
+      where
+        each : (es : List Entry) → All EntryAllowed es → All (Fits reg sch) (map commandOf es)
+        each [] a = tt
+        each (x ∷ es) a = (entry-fits few x (a .0), each es (a .1))
 
-  pub read-scale : getD s at 0 ≡ 0x30 → drop at s ≡ encodeScale (natAt 4 s (at + 1)) (intAt w64 s (at + 1 + 4)) ++ drop (at + size (P reg sch) (getD s at 0)) s
-  unfolding rowOf operandsAt
-  read-scale f = rw (bytes-scale reg sch (natAt 4 s (at + 1)) (intAt w64 s (at + 1 + 4))) at (stands (scaleCommand (natAt 4 s (at + 1)) (intAt w64 s (at + 1 + 4))) same)
-    where
-      same : commandAt (P reg sch) s at ≡ scaleCommand (natAt 4 s (at + 1)) (intAt w64 s (at + 1 + 4))
-      same = rw (f, ofZ-intAt w64 s (at + 1 + 4) b)
+  -- ---- an encoding of a certificate within the limits is the bytes of commands that say it
 
-  pub read-multiplier : 0x31 ≤ getD s at 0 → getD s at 0 ≤ 0x39 → drop at s ≡ encodeMultiplier (multiplierAt s at) ++ drop (at + size (P reg sch) (getD s at 0)) s
-  unfolding multiplierAt intAt
-  read-multiplier p q =
-      let same : commandAt (P reg sch) s at ≡ multiplierCommand (multiplierAt s at) = rw (row-multiplier reg sch (getD s at 0) p q, names-first, multiplier-last, ofZ-intAt w64 s (at + 1 + arity (getD s at 0)) b, operands-names) in
-      rw (bytes-multiplier reg sch (multiplierAt s at) p q (names-long s at)) at (stands (multiplierCommand (multiplierAt s at)) same)
+  pub says-encodes : (k : Certificate) (s : List ℕ) → Within reg sch k → G.Encodes P (Commands reg sch) k s → Encodes k s
+  says-encodes k s w e =
+      let c = e .are in
+      let f = c .is-first in
+      rw (f .is) (record {
+        entries = f .entries;
+        commands = record { multipliers-are = refl; squares-are = refl };
+        bytes = e .bytes ∙ ap (encode P) (c .whole ∙ rw (f .whole, c .is-second .whole, c .is-second .form)) ∙ commands-bytes (f .scale) (f .target) (f .entries) (rw (f .is) at w);
+      })
 
-  pub read-square : getD s at 0 ≡ 0x3A → drop at s ≡ encodeSquare (squareRead s at) ++ drop (at + size (P reg sch) (getD s at 0)) s
-  unfolding rowOf operandsAt squareRead
-  read-square f = rw (bytes-square reg sch (squareRead s at) (entries-long s at)) at (stands (squareCommand (squareRead s at)) same)
-    where
-      same : commandAt (P reg sch) s at ≡ squareCommand (squareRead s at)
-      same = rw (f, signed-back squareEntries s (at + 1 + 4) b)
-
-  pub read-end : getD s at 0 ≡ 0x3F → drop at s ≡ (0x3F ∷ []) ++ drop (at + size (P reg sch) (getD s at 0)) s
-  unfolding rowOf operandsAt encodeCommand fields
-  read-end f =
-      let same : commandAt (P reg sch) s at ≡ endCommand = rw f in
-      stands endCommand same
+  pub encodes-says : variables n sch ≤ maxVariables → (k : Certificate) (s : List ℕ) → Within reg sch k → Encodes k s → G.Encodes P (Commands reg sch) k s
+  encodes-says few k s w e =
+      let cs = scaleCommand (k .scale) (k .target) ∷ map commandOf (e .entries) in
+      let is : k ≡ certificateOf (k .scale) (k .target) (e .entries) = λ i. record { scale = k .scale; target = k .target; multipliers = sym (e .commands .multipliers-are) i; squares = sym (e .commands .squares-are) i } in
+      let w′ = rw is at w in
+      record {
+        commands = cs ++ (endCommand ∷ []);
+        are = record {
+          first = cs;
+          second = endCommand ∷ [];
+          is-first = record { scale = k .scale; target = k .target; entries = e .entries; is = is; fit = commands-fit (k .scale) (k .target) (e .entries) w′ few; whole = refl };
+          is-second = record { command = endCommand; form = refl; whole = refl };
+          whole = refl;
+        };
+        bytes = e .bytes ∙ sym (commands-bytes (k .scale) (k .target) (e .entries) w′);
+      }

@@ -1,10 +1,10 @@
 -- The operands of a multiplier command and of a square, one by one.
 use mathlib.Core.Path.{_≡_, refl, sym, ap, _∙_}
-use mathlib.Core.List.{List, [], _∷_, _++_, map}
+use mathlib.Core.List.{List, [], _∷_, _++_, map, append-nil}
 use Prim.Native.Nat.{ℕ, zero, suc, _+_, _*_, _<_, _≤_}
 use native.Mathlib.Nat.{one-mul}
 use native.Mathlib.Omega.{arith}
-use lib.ListN.{length, getD, take, replicate, length-replicate, length-map, List·getD-eq-default, List·getD-map}
+use lib.ListN.{length, getD, replicate, length-replicate, length-map, List·getD-eq-default, List·getD-map}
 use lib.Seq.{ext-getD}
 use lib.IntN.{ℤ, pos}
 use mir.Syntax.{w16}
@@ -13,12 +13,29 @@ use Rattle.wire.specs.Number.{natAt, intAt}
 use Rattle.wire.specs.Part.{operandsAt, total}
 use Rattle.certificate.specs.declared.Square.{Square as Filled}
 use Rattle.certificate.specs.Limits.{squareEntries}
+use Rattle.certificate.specs.Format.{firstOf}
 use Rattle.certificate.specs.Answer.{filledOf, squareRead}
 
 pub length-operands : (ws s : List ℕ) (at : ℕ) → length (operandsAt ws s at) ≡ length ws
 unfolding operandsAt
 length-operands [] s at = refl
 length-operands (w ∷ ws) s at = ap suc (length-operands ws s (at + w))
+
+-- the first of a list: as many as asked, and all where there are as many
+
+pub length-first : (n : ℕ) (xs : List ℕ) → length (firstOf n xs) ≡ n
+length-first zero xs = refl
+length-first (suc n) [] = ap suc (length-first n [])
+length-first (suc n) (x ∷ xs) = ap suc (length-first n xs)
+
+pub first-at : (n : ℕ) (xs ys : List ℕ) → length xs ≡ n → firstOf n (xs ++ ys) ≡ xs
+first-at zero [] ys e = refl
+first-at zero (x ∷ xs) ys e = absurd (omega arith)
+first-at (suc n) [] ys e = absurd (omega arith)
+first-at (suc n) (x ∷ xs) ys e = ap (λ l. x ∷ l) (first-at n xs ys (omega arith))
+
+pub first-all : (n : ℕ) (xs : List ℕ) → length xs ≡ n → firstOf n xs ≡ xs
+first-all n xs e = ap (firstOf n) (sym (append-nil xs)) ∙ first-at n xs [] e
 
 -- one of several operands of one width
 pub operand-at : (k w : ℕ) (s : List ℕ) (at i : ℕ) → i < k → getD (operandsAt (replicate k w) s at) i 0 ≡ natAt w s (at + w * i)
@@ -38,7 +55,7 @@ name-past k s at i l =
 
 -- the variables that a multiplier command names, and the multiplier after them
 
-pub names-first : (k : ℕ) (s : List ℕ) (at : ℕ) → take k (operandsAt (replicate k 1 ++ (8 ∷ [])) s at) ≡ operandsAt (replicate k 1) s at
+pub names-first : (k : ℕ) (s : List ℕ) (at : ℕ) → firstOf k (operandsAt (replicate k 1 ++ (8 ∷ [])) s at) ≡ operandsAt (replicate k 1) s at
 unfolding operandsAt
 names-first zero s at = refl
 names-first (suc k) s at = ap (λ xs. natAt 1 s at ∷ xs) (names-first k s (at + 1))
@@ -66,4 +83,7 @@ entries-are k s at v l h =
 -- a square whose weight and entries are those at a position
 pub square-is : (s : List ℕ) (at : ℕ) (q : Filled) → q .weight ≡ natAt 4 s (at + 1) → q .entries ≡ map (toZ w16) (operandsAt (replicate squareEntries 2) s (at + 1 + 4)) → q ≡ filledOf (squareRead s at)
 unfolding squareRead operandsAt
-square-is s at q e f = λ i. record { weight = e i; entries = f i }
+square-is s at q e f =
+    let xs = operandsAt (replicate squareEntries 2) s (at + 1 + 4) in
+    let all : firstOf squareEntries xs ≡ xs = first-all squareEntries xs (length-operands (replicate squareEntries 2) s (at + 1 + 4) ∙ length-replicate {A = ℕ} squareEntries 2) in
+    λ i. record { weight = e i; entries = (f ∙ ap (map (toZ w16)) (sym all)) i }

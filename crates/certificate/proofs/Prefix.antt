@@ -1,9 +1,8 @@
--- The bytes that a certificate's reading can look at, and the bytes of an accepted one.
+-- The bytes that reading the commands can look at, and the bytes of accepted ones.
 use Prim.Native.Nat.{ℕ, _+_, _*_, _≤_}
 use native.Mathlib.Omega.{arith}
-use mathlib.Core.Path.{_≡_, refl, ap}
+use mathlib.Core.Path.{_≡_, refl}
 use mathlib.Core.List.{List, [], _∷_, map}
-use lib.IntN.{ℤ}
 use lib.ListN.{length, take, length-append}
 use borrow.Author.Tests.{eqb-true}
 use Rattle.integers.specs.Lists.{All}
@@ -16,10 +15,10 @@ use Rattle.scheme.specs.declared.Scheme.{Scheme}
 use Rattle.certificate.specs.Limits.{maxMultipliers, maxSquares}
 use Rattle.certificate.specs.Certificate.{Certificate, fresh}
 use Rattle.certificate.specs.Rules.{arity, byKey}
-use Rattle.certificate.specs.Format.{scaleRow, multiplierOf, multiplierRow, multiplierKinds, squareOf, squareRow, endRow, certificatePart, commandsInJob, dominanceChecked, certificateInJob}
+use Rattle.certificate.specs.Format.{commandSize, scaleRow, multiplierOf, multiplierRow, multiplierKinds, squareOf, squareRow, endRow, certificatePart, commandsInJob}
 use Rattle.certificate.proofs.Operands.{total-multiplier}
-use Rattle.certificate.proofs.Passes.{multiplier-passes, square-passes}
-use Rattle.certificate.proofs.Accept.{commands-accepted}
+use Rattle.certificate.proofs.Passes.{multiplier-passes, square-iff}
+use Rattle.certificate.proofs.Readback.{entries-long}
 
 -- the position of a command, by what has been read
 record Reach (p : Progress Certificate) (at : ℕ) : Type 0 where
@@ -27,6 +26,14 @@ record Reach (p : Progress Certificate) (at : ℕ) : Type 0 where
   near : at ≤ 13 + 13 * length (p .parsed .multipliers) + 135 * length (p .parsed .squares)
   multipliers : length (p .parsed .multipliers) ≤ maxMultipliers
   squares : length (p .parsed .squares) ≤ maxSquares
+
+-- the longest certificate: `30`, every multiplier that there may be, each naming four variables, every square, and `3F`
+unfoldable pub certificateLongest : ℕ
+certificateLongest = commandSize 0x30 + commandSize 0x34 * maxMultipliers + commandSize 0x3A * maxSquares + commandSize 0x3F
+
+-- the bytes that can matter: a square too many in place of `3F`
+unfoldable pub certificateReach : ℕ
+certificateReach = commandSize 0x30 + commandSize 0x34 * maxMultipliers + commandSize 0x3A * maxSquares + commandSize 0x3A
 
 -- the last position of a command
 abbrev far : ℕ
@@ -64,7 +71,7 @@ module _ (reg : Register) (sch : Scheme) where
         small = omega arith;
         moves = λ p at xs r e h.
             let more = length-append (p .parsed .squares) (squareOf xs ∷ []) in
-            record { start = λ z. absurd (omega arith); near = omega (arith, r .near); multipliers = r .multipliers; squares = omega (arith, square-passes _ _ _ h .few) };
+            record { start = λ z. absurd (omega arith); near = omega (arith, r .near); multipliers = r .multipliers; squares = omega (arith, square-iff _ _ sch (squareOf xs) (entries-long xs) .0 h .0) };
       }
 
       last : Kept endRow
@@ -74,16 +81,10 @@ module _ (reg : Register) (sch : Scheme) where
       each [] h = tt
       each (kind ∷ kinds) h = (multiplier kind (h .0), each kinds (h .1))
 
-  -- 13 + 13 · 1,024 + 135 · 64, and the 135 bytes of a 65th square
-  commands-prefix : (K : ℕ) (s : List ℕ) → 22_100 ≤ K → commandsInJob reg sch (take K s) ≡ commandsInJob reg sch s
-  unfolding commandsInJob
+  pub commands-prefix : (K : ℕ) (s : List ℕ) → certificateReach ≤ K → commandsInJob reg sch (take K s) ≡ commandsInJob reg sch s
+  unfolding commandsInJob certificateReach commandSize total arity byKey
   commands-prefix K s k = read-prefix (certificatePart reg sch) limits K s (omega arith)
 
-  pub certificate-prefix : (c : ℕ → ℤ) (K : ℕ) (s : List ℕ) → 22_100 ≤ K → certificateInJob c reg sch (take K s) ≡ certificateInJob c reg sch s
-  unfolding certificateInJob
-  certificate-prefix c K s k = ap (dominanceChecked c reg sch) (commands-prefix K s k)
-
-  -- 13 + 13 · 1,024 + 135 · 64, and `3F`
-  pub certificate-end : (c : ℕ → ℤ) (s : List ℕ) {p : Progress Certificate} {end : ℕ} → certificateInJob c reg sch s ≡ accepted p end → end ≤ 21_966
-  unfolding commandsInJob
-  certificate-end c s {p} {end} e = omega (arith, end-within (certificatePart reg sch) limits s (commands-accepted reg sch c s p end e .0))
+  pub commands-end : (s : List ℕ) {p : Progress Certificate} {end : ℕ} → commandsInJob reg sch s ≡ accepted p end → end ≤ certificateLongest
+  unfolding commandsInJob certificateLongest commandSize total arity byKey
+  commands-end s e = omega (arith, end-within (certificatePart reg sch) limits s e)

@@ -1,7 +1,7 @@
 -- Numbers in a range, and numbers in a list.
-use mathlib.Core.Path.{_≡_, refl, sym, subst, _∙_, ap}
+use mathlib.Core.Path.{_≡_, sym, subst, _∙_, ap}
 use mathlib.Core.Logic.{⊎-elim}
-use mathlib.Core.Bool.{_&&_}
+use mathlib.Core.Bool.{true, _&&_}
 use mathlib.Core.List.{List, [], _∷_, _++_, map}
 use Prim.Native.Nat.{ℕ, _+_, _-_, _≤_, _<_}
 use native.Mathlib.Omega.{arith}
@@ -9,8 +9,8 @@ use native.Mathlib.Decide.{ℕ-discrete}
 use lib.Dec.{T, eqb, leb, eqb→eq, leb→le}
 use borrow.Author.Tests.{ne-eqb, eq-eqb}
 use Rattle.integers.specs.Lists.{All, allBelow}
-use Rattle.integers.proofs.Lists.{T-and, T-or, T-ext, allBelow-at, _▹_}
-use Rattle.wire.specs.Rows.{Row, isAmong, rowOf, noRow}
+use Rattle.integers.proofs.Lists.{T-and, T-or, T-ext, T-true, All-map, allBelow-at, _▹_}
+use Rattle.wire.specs.Rows.{Row, isAmong, rowOf}
 use Rattle.certificate.specs.Format.{multiplierKinds, anyBefore}
 
 -- what holds of each number in a list holds of a number in it
@@ -31,12 +31,20 @@ pub is-multiplier : (b : ℕ) → 0x31 ≤ b → b ≤ 0x39 → T (isAmong b mul
 unfolding allBelow
 is-multiplier b p q = in-range 0x31 9 multiplierKinds tt b p (omega arith)
 
+-- what holds of `31` to `39`
+pub all-kinds : (P : ℕ → Type 0) → ((kind : ℕ) → 0x31 ≤ kind → kind ≤ 0x39 → P kind) → All P multiplierKinds
+all-kinds P h = All-map (λ kind. (0x31 ≤ kind) × (kind ≤ 0x39)) P (λ kind r. h kind (r .0) (r .1)) multiplierKinds (omega arith)
+
 -- what may stand before a command is `30` to `3A`
-pub before-any : (b : ℕ) → (leb 0x30 b && leb b 0x3A) ≡ isAmong b anyBefore
+
+pub among-between : (b : ℕ) → 0x30 ≤ b → b ≤ 0x3A → isAmong b anyBefore ≡ true
 unfolding allBelow
+among-between b p q = T-true _ .0 (in-range 0x30 11 anyBefore tt b p (omega arith))
+
+pub before-any : (b : ℕ) → (leb 0x30 b && leb b 0x3A) ≡ isAmong b anyBefore
 before-any b =
     T-ext (leb 0x30 b && leb b 0x3A) (isAmong b anyBefore) (
-      (λ t. let (p, q) = T-and (leb 0x30 b) (leb b 0x3A) .0 t in in-range 0x30 11 anyBefore tt b (leb→le 0x30 b p) (omega (arith, leb→le b 0x3A q))),
+      (λ t. let (p, q) = T-and (leb 0x30 b) (leb b 0x3A) .0 t in T-true _ .1 (among-between b (leb→le 0x30 b p) (leb→le b 0x3A q))),
       (λ t. among-all (λ b. T (leb 0x30 b && leb b 0x3A)) anyBefore (tt ▹ tt ▹ tt ▹ tt ▹ tt ▹ tt ▹ tt ▹ tt ▹ tt ▹ tt ▹ tt ▹ tt) b t),
     )
 
@@ -62,8 +70,10 @@ module _ {R : Type 0} where
       by (yes e) later = row-first (row k) _ b (e ∙ sym (same k)) ∙ ap row (sym e)
       by (no d) later = row-later (row k) _ b (λ e. d (e ∙ same k)) ∙ later (⊎-elim (λ u. absurd (d (eqb→eq b k u))) (λ u. u) (T-or (eqb b k) (isAmong b (l ∷ ks)) .0 t))
 
-  -- a byte that is no command
-  pub row-none : (rows : List (Row R)) (b : ℕ) → All (λ r. b ≡ r .byte → ⊥) rows → rowOf rows b ≡ noRow
-  unfolding rowOf
-  row-none [] b h = refl
-  row-none (r ∷ rows) b h = row-later r rows b (h .0) ∙ row-none rows b (h .1)
+  -- what holds of the row of each multiplier command
+  pub rows-alike : (P : Row R → Type 0) (row : ℕ → Row R) → ((kind : ℕ) → 0x31 ≤ kind → kind ≤ 0x39 → P (row kind)) → All P (map row multiplierKinds)
+  rows-alike P row h = mapped multiplierKinds (all-kinds (λ kind. P (row kind)) h)
+    where
+      mapped : (ks : List ℕ) → All (λ kind. P (row kind)) ks → All P (map row ks)
+      mapped [] a = tt
+      mapped (k ∷ ks) a = (a .0, mapped ks (a .1))

@@ -1,124 +1,64 @@
--- The commands of the certificate one by one: the checks at a position, and what has been read after it.
-use mathlib.Core.Path.{_≡_, refl, _∙_, ap}
-use mathlib.Core.Bool.{false}
-use mathlib.Core.List.{List, [], _∷_, _++_, map}
-use Prim.Native.Nat.{ℕ, _+_, _-_, _≤_}
+-- The row of a command by its byte.
+use mathlib.Core.Path.{_≡_, refl, sym, _∙_, ap}
+use mathlib.Core.Bool.{true, _&&_, false≢true, true≢false}
+use mathlib.Core.List.{List, [], _∷_}
+use Prim.Native.Nat.{ℕ, _≤_}
 use native.Mathlib.Omega.{arith}
-use lib.ListN.{length, getD}
-use mir.Syntax.{w64}
-use Rattle.wire.specs.Number.{natAt, intAt}
-use Rattle.wire.specs.Checks.{Check, refusal, commandChecks}
-use Rattle.wire.specs.Part.{Part, operandsAt, total, checksAt, afterAt}
-use Rattle.wire.specs.Rows.{Progress, Row, rowOf, noRow, isAmong}
-use Rattle.wire.proofs.Part.{own, own-at}
+use native.Mathlib.Decide.{ℕ-discrete}
+use lib.Dec.{leb}
+use borrow.Author.Tests.{leb-true, le-leb}
+use Rattle.integers.proofs.Lists.{flag, and-both}
+use Rattle.wire.specs.Rows.{Row, rowOf, noRow, isAmong}
+use Rattle.wire.proofs.Rest.{no-row}
 use Rattle.register.specs.declared.Register.{Register}
 use Rattle.scheme.specs.declared.Scheme.{Scheme}
-use Rattle.scheme.specs.Scheme.{variables}
-use Rattle.certificate.specs.Certificate.{Multiplier, Square, Certificate}
-use Rattle.certificate.specs.Rules.{byKey, ruleOf}
-use Rattle.certificate.specs.Format.{scaleChecks, scaleRow, multiplierChecks, multiplierKinds, multiplierRow, squareChecks, squareRow, endRow, anyBefore, commandSize, certificatePart}
-use Rattle.certificate.specs.Answer.{multiplierAt, squareRead}
-use Rattle.certificate.proofs.Ranges.{is-multiplier, row-later, row-alike, row-none}
-use Rattle.certificate.proofs.Sizes.{size-is, no-command}
-
--- what has been read so far
-abbrev pub reached : ℕ → Certificate → Progress Certificate
-reached previous k = record { previous = previous; parsed = k }
-
--- one multiplier more, and one square more
-
-abbrev pub withMultiplier : Certificate → Multiplier → Certificate
-withMultiplier k t = record { scale = k .scale; target = k .target; multipliers = k .multipliers ++ (t ∷ []); squares = k .squares }
-
-abbrev pub withSquare : Certificate → Square → Certificate
-withSquare k q = record { scale = k .scale; target = k .target; multipliers = k .multipliers; squares = k .squares ++ (q ∷ []) }
+use Rattle.certificate.specs.Certificate.{Certificate}
+use Rattle.certificate.specs.Format.{scaleRow, multiplierKinds, multiplierRow, squareRow, endRow, anyBefore, certificateRows}
+use Rattle.certificate.proofs.Ranges.{is-multiplier, row-later, row-alike}
+use Rattle.certificate.proofs.Sizes.{no-command}
 
 module _ (reg : Register) (sch : Scheme) where
-  abbrev pub part : Part (Progress Certificate)
-  part = certificatePart reg sch
-
-  abbrev pub rows : List (Row Certificate)
-  rows = scaleRow ∷ (map (multiplierRow reg sch) multiplierKinds ++ (squareRow reg sch ∷ endRow ∷ []))
-
-  -- ---- the row of a byte
+  abbrev rows : List (Row Certificate)
+  rows = certificateRows reg sch
 
   pub row-multiplier : (b : ℕ) → 0x31 ≤ b → b ≤ 0x39 → rowOf rows b ≡ multiplierRow reg sch b
   row-multiplier b p q =
       row-later scaleRow _ b (λ e. omega arith) ∙ row-alike (multiplierRow reg sch) (λ k. refl) multiplierKinds (squareRow reg sch ∷ endRow ∷ []) b (is-multiplier b p q)
 
-  row-other : (b : ℕ) → (0x30 ≤ b → b ≤ 0x3A → ⊥) → (b ≡ 0x3F → ⊥) → rowOf rows b ≡ noRow
-  row-other b h d = row-none rows b (no-command b h d)
+  pub row-other : (b : ℕ) → (0x30 ≤ b → b ≤ 0x3A → ⊥) → (b ≡ 0x3F → ⊥) → rowOf rows b ≡ noRow
+  row-other b h d = no-row rows b (no-command b h d)
 
-  -- ---- whether it ends the part
+  -- ---- where it may stand
 
-  pub last-multiplier : (b : ℕ) → 0x31 ≤ b → b ≤ 0x39 → part .last b ≡ false
-  last-multiplier b p q = ap (λ (r : Row Certificate). r .last) (row-multiplier b p q)
+  pub stands-between : (b : ℕ) → 0x31 ≤ b → b ≤ 0x3A → rowOf rows b .follows ≡ anyBefore
+  unfolding rowOf
+  stands-between b p q = by (ℕ-discrete b 0x3A)
+    where
+      by : Dec (b ≡ 0x3A) → rowOf rows b .follows ≡ anyBefore
+      by (yes e) = rw e
+      by (no d) = ap (λ (r : Row Certificate). r .follows) (row-multiplier b p (omega arith))
 
-  module _ (s : List ℕ) (previous : ℕ) (k : Certificate) (at : ℕ) where
-    abbrev p : Progress Certificate
-    p = reached previous k
+  -- a byte that may stand somewhere, and is none of the others
+  module _ (b previous : ℕ) (h : isAmong previous (rowOf rows b .follows) ≡ true) where
+    pub only-end : (0x30 ≤ b → b ≤ 0x3A → ⊥) → b ≡ 0x3F
+    only-end x = by (ℕ-discrete b 0x3F)
+      where
+        by : Dec (b ≡ 0x3F) → b ≡ 0x3F
+        by (yes e) = e
+        by (no d) = absurd (false≢true (rw (row-other b x d) at h))
 
-    abbrev left : ℕ
-    left = length s - at
+    pub only-multiplier : (b ≡ 0x30 → ⊥) → (b ≡ 0x3A → ⊥) → (b ≡ 0x3F → ⊥) → (0x31 ≤ b) × (b ≤ 0x39)
+    only-multiplier x y z =
+        flag (leb 0x31 b && leb b 0x39)
+        (λ t. let (p, q) = and-both _ _ t in (leb-true 0x31 b p, leb-true b 0x39 q))
+        (λ t. absurd (z (only-end (λ l u. true≢false (sym (rw (le-leb 0x31 b (omega arith), le-leb b 0x39 (omega arith)) at (sym t)))))))
 
-    -- the checks of a multiplier command and of a square, after what has been read
-
-    abbrev pub multiplierOwn : List Check
-    multiplierOwn = multiplierChecks (length (k .multipliers)) (ruleOf (reg .choices) sch (multiplierAt s at)) (multiplierAt s at .m)
-
-    abbrev pub squareOwn : List Check
-    squareOwn = squareChecks (length (k .squares)) (variables (reg .choices) sch) (squareRead s at)
-
-    -- ---- the checks
-
-    pub checks-scale : getD s at 0 ≡ 0x30 → checksAt part s p at ≡ commandChecks (isAmong previous (0 ∷ [])) left (commandSize 0x30) (scaleChecks (natAt 4 s (at + 1)) (intAt w64 s (at + 1 + 4)))
-    unfolding checksAt rowOf operandsAt total intAt commandSize byKey
-    checks-scale e = rw e
-
-    pub checks-multiplier : 0x31 ≤ getD s at 0 → getD s at 0 ≤ 0x39 → checksAt part s p at ≡ commandChecks (isAmong previous anyBefore) left (commandSize (getD s at 0)) multiplierOwn
-    unfolding checksAt multiplierAt
-    checks-multiplier p q = rw (← (size-is reg sch (getD s at 0)), row-multiplier (getD s at 0) p q)
-
-    pub checks-square : getD s at 0 ≡ 0x3A → checksAt part s p at ≡ commandChecks (isAmong previous anyBefore) left (commandSize 0x3A) squareOwn
-    unfolding checksAt rowOf total squareRead commandSize byKey
-    checks-square e = rw e
-
-    pub checks-end : getD s at 0 ≡ 0x3F → checksAt part s p at ≡ commandChecks (isAmong previous anyBefore) left (commandSize 0x3F) []
-    unfolding checksAt rowOf total commandSize byKey
-    checks-end e = rw e
-
-    pub checks-other : (0x30 ≤ getD s at 0 → getD s at 0 ≤ 0x3A → ⊥) → (getD s at 0 ≡ 0x3F → ⊥) → refusal (checksAt part s p at) ≡ 1
-    unfolding checksAt commandChecks refusal
-    checks-other h d = rw (row-other (getD s at 0) h d)
-
-    -- ---- its own checks
-
-    pub own-scale : getD s at 0 ≡ 0x30 → own part s p at ≡ scaleChecks (natAt 4 s (at + 1)) (intAt w64 s (at + 1 + 4))
-    unfolding rowOf operandsAt intAt
-    own-scale e = own-at part s p at 0x30 e
-
-    pub own-multiplier : 0x31 ≤ getD s at 0 → getD s at 0 ≤ 0x39 → own part s p at ≡ multiplierOwn
-    unfolding multiplierAt
-    own-multiplier p q = ap (λ (r : Row Certificate). r .checks k (operandsAt (r .widths) s (at + 1))) (row-multiplier (getD s at 0) p q)
-
-    pub own-square : getD s at 0 ≡ 0x3A → own part s p at ≡ squareOwn
-    unfolding rowOf squareRead
-    own-square e = own-at part s p at 0x3A e
-
-    -- ---- after it
-
-    pub after-scale : getD s at 0 ≡ 0x30 → afterAt part s p at ≡ reached 0x30 (record { scale = natAt 4 s (at + 1); target = intAt w64 s (at + 1 + 4); multipliers = k .multipliers; squares = k .squares })
-    unfolding afterAt rowOf operandsAt intAt
-    after-scale e = rw e
-
-    pub after-multiplier : 0x31 ≤ getD s at 0 → getD s at 0 ≤ 0x39 → afterAt part s p at ≡ reached (getD s at 0) (withMultiplier k (multiplierAt s at))
-    unfolding afterAt multiplierAt
-    after-multiplier p q = rw (row-multiplier (getD s at 0) p q)
-
-    pub after-square : getD s at 0 ≡ 0x3A → afterAt part s p at ≡ reached 0x3A (withSquare k (squareRead s at))
-    unfolding afterAt rowOf squareRead
-    after-square e = rw e
-
-    pub after-end : getD s at 0 ≡ 0x3F → afterAt part s p at ≡ reached 0x3F k
-    unfolding afterAt rowOf
-    after-end e = rw e
+  pub only-first : (b : ℕ) → isAmong 0 (rowOf rows b .follows) ≡ true → b ≡ 0x30
+  unfolding rowOf
+  only-first b h = by (ℕ-discrete b 0x30)
+    where
+      by : Dec (b ≡ 0x30) → b ≡ 0x30
+      by (yes e) = e
+      by (no d) =
+          let e : b ≡ 0x3F = only-end b 0 h (λ l u. false≢true (rw (stands-between b (omega arith) u) at h)) in
+          absurd (false≢true (rw e at h))

@@ -2,19 +2,19 @@
 use Prim.Native.Nat.{ℕ, suc, _+_, _*_, _≤_}
 use mathlib.Core.Path.{_≡_, refl, ap}
 use mathlib.Core.Bool.{Bool, true, false, cond}
-use mathlib.Core.List.{List, [], _∷_, map}
+use mathlib.Core.List.{List, [], _∷_, _++_, map}
 use native.Mathlib.Omega.{arith}
 use lib.Dec.{eqb}
 use borrow.Author.Tests.{ne-eqb}
 use Rattle.integers.specs.Lists.{All, allBelow}
-use Rattle.integers.proofs.Lists.{_▹_}
+use Rattle.integers.proofs.Lists.{_▹_, All-append, All-map}
 use Rattle.wire.specs.Part.{total, size}
 use Rattle.wire.specs.Rows.{Row, rowOf}
 use Rattle.register.specs.declared.Register.{Register}
 use Rattle.scheme.specs.declared.Scheme.{Scheme}
 use Rattle.certificate.specs.Limits.{squareEntries}
 use Rattle.certificate.specs.Rules.{arity, byKey}
-use Rattle.certificate.specs.Format.{multiplierKinds, widthsByByte, commandSize, certificatePart}
+use Rattle.certificate.specs.Format.{scaleWidths, multiplierWidths, squareWidths, multiplierKinds, widthsByByte, commandSize, certificatePart}
 use Rattle.certificate.proofs.Ranges.{among-all, in-range, is-multiplier}
 
 -- what stands by no key
@@ -45,20 +45,8 @@ size-above b = omega arith
 -- a byte that is no command
 pub no-command : (b : ℕ) → (0x30 ≤ b → b ≤ 0x3A → ⊥) → (b ≡ 0x3F → ⊥) → All (λ e. b ≡ e .0 → ⊥) widthsByByte
 no-command b h d =
-    let other : (k : ℕ) → 0x30 ≤ k → k ≤ 0x3A → b ≡ k → ⊥ = λ k p q e. h (omega arith) (omega arith) in
-    other 0x30 (omega arith) (omega arith)
-    ▹ other 0x31 (omega arith) (omega arith)
-    ▹ other 0x32 (omega arith) (omega arith)
-    ▹ other 0x33 (omega arith) (omega arith)
-    ▹ other 0x34 (omega arith) (omega arith)
-    ▹ other 0x35 (omega arith) (omega arith)
-    ▹ other 0x36 (omega arith) (omega arith)
-    ▹ other 0x37 (omega arith) (omega arith)
-    ▹ other 0x38 (omega arith) (omega arith)
-    ▹ other 0x39 (omega arith) (omega arith)
-    ▹ other 0x3A (omega arith) (omega arith)
-    ▹ d
-    ▹ tt
+    let inside : List (ℕ × List ℕ) = (0x30, scaleWidths) ∷ (map (λ kind. (kind, multiplierWidths kind)) multiplierKinds ++ ((0x3A, squareWidths) ∷ [])) in
+    All-append (λ e. b ≡ e .0 → ⊥) inside ((0x3F, []) ∷ []) (All-map (λ e. (0x30 ≤ e .0) × (e .0 ≤ 0x3A)) (λ e. b ≡ e .0 → ⊥) (λ e r q. h (omega arith) (omega arith)) inside (omega arith)) (d, tt)
 
 pub size-none : (b : ℕ) → (0x30 ≤ b → b ≤ 0x3A → ⊥) → (b ≡ 0x3F → ⊥) → commandSize b ≡ 1
 unfolding commandSize total

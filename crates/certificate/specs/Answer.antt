@@ -2,9 +2,10 @@
 -- to. The code's records have the paper's names too: here they are Counts, Named, Filled and RuleTests.
 use Prim.Native.Nat.{ℕ, _+_}
 use mathlib.Core.Path.{_≡_}
-use mathlib.Core.Bool.{true}
+use mathlib.Core.Bool.{Bool, true, _&&_, _||_}
 use mathlib.Core.List.{List}
-use lib.IntN.{pos}
+use lib.Dec.{leb}
+use lib.IntN.{ℤ, pos, natAbs}
 use lib.ListN.{length, getD, replicate}
 use Rattle.wire.specs.Part.{Reading, refused, accepted, operandsAt}
 use Rattle.wire.specs.Rows.{Progress}
@@ -16,8 +17,9 @@ use Rattle.certificate.specs.declared.Certificate.{Certificate as Counts
 use Rattle.certificate.specs.declared.Multiplier.{Multiplier as Named}
 use Rattle.certificate.specs.declared.Square.{Square as Filled}
 use Rattle.certificate.specs.declared.Rule.{Rule as RuleTests}
+use Rattle.certificate.specs.declared.Seen.{Seen}
 use Rattle.certificate.specs.declared.CertificateRead.{CertificateRead}
-use Rattle.certificate.specs.Limits.{squareEntries}
+use Rattle.certificate.specs.Limits.{squareEntries, maxEntry}
 use Rattle.certificate.specs.Certificate.{Multiplier, Square, Certificate}
 use Rattle.certificate.specs.Rules.{Rule, byKey, noRule, rules}
 use Rattle.certificate.specs.Format.{multiplierWidths, squareWidths, multiplierOf, squareOf}
@@ -62,30 +64,41 @@ multiplierAt s at = let kind = getD s at 0 in multiplierOf kind (operandsAt (mul
 unfoldable pub squareRead : List ℕ → ℕ → Square
 squareRead s at = squareOf (operandsAt squareWidths s (at + 1))
 
+-- an entry of a square is within its range, and past a place at most a limit in magnitude
+abbrev pub smallPast : (place limit : ℕ) → List ℤ → ℕ → Bool
+smallPast place limit v i =
+    let size = natAbs (getD v i (pos 0)) in
+    leb size maxEntry && (leb i place || leb size limit)
+
 -- ---- what the checks look at
 
 -- n choices, N variables, and the sets of the variables
 pub record Known (reg : Register) (sch : Scheme) (n N : ℕ) (sets : List ℕ) : Type 0 where
   pub choices-is : reg .choices ≡ n
-  pub variables-is : variables n sch ≡ N
-  pub sets-are : SetsBelow n sch N sets
+  pub variables-is : variables (reg .choices) sch ≡ N
+  pub sets-are : SetsBelow (reg .choices) sch N sets
+
+-- of what has been read so far, with a register and a scheme
+abbrev pub seenOf : Register → Scheme → Progress Certificate → Seen
+seenOf reg sch p = record {
+  previous = p .previous;
+  multipliers = length (p .parsed .multipliers);
+  squares = length (p .parsed .squares);
+  choices = reg .choices;
+  variables = variables (reg .choices) sch;
+}
 
 -- the rule of a multiplier command
-unfoldable pub ruleAsked : ℕ → Scheme → Named → Rule
-ruleAsked n sch t = byKey noRule (t .kind) (rules n sch (t .i) (t .j) (t .k) (t .l))
+unfoldable pub ruleAsked : Register → Scheme → Named → Rule
+ruleAsked reg sch t = byKey noRule (t .kind) (rules reg sch (t .i) (t .j) (t .k) (t .l))
 
 -- the tests of a rule: whether the sets fit is said where the variables are there
 pub record TestsOf (rule : Rule) (r : RuleTests) : Type 0 where
-  pub null-is : rule .null ≡ r .null
+  pub least-is : rule .least ≡ r .least
+  pub most-is : rule .most ≡ r .most
   pub there-is : rule .there ≡ r .there
   pub ordered-is : rule .ordered ≡ r .ordered
   pub fits-is : rule .there ≡ true → rule .fits ≡ r .fits
-
--- the last command's byte, and the counts
-pub record Shows (p : Progress Certificate) (previous multipliers squares : ℕ) : Type 0 where
-  pub previous-is : p .previous ≡ previous
-  pub multipliers-is : length (p .parsed .multipliers) ≡ multipliers
-  pub squares-is : length (p .parsed .squares) ≡ squares
 
 -- ---- answers
 

@@ -1,25 +1,24 @@
 -- The certificate's commands, with a register and a scheme: `30` scale and target, `31` to `39` multipliers, `3A` square,
--- `3F` end. c t is the coefficient of term t.
-use Prim.Native.Nat.{ℕ, suc, _-_}
-use mathlib.Core.Bool.{Bool, true, false, not, cond, _&&_, _||_}
+-- `3F` end.
+use Prim.Native.Nat.{ℕ, zero, suc}
+use mathlib.Core.Bool.{true, false, not, _||_}
 use mathlib.Core.List.{List, [], _∷_, _++_, map}
 use lib.Dec.{ltb, leb, eqb}
 use lib.IntN.{ℤ, pos, natAbs}
-use lib.ListN.{length, getD, take, drop, replicate}
+use lib.ListN.{length, getD, drop, replicate}
 use lib.Signed.{ltZ}
 use mir.Syntax.{w16, w64}
 use mir.Val.{toZ}
 use Rattle.integers.specs.Lists.{allBelow}
 use Rattle.wire.specs.Checks.{Check, check}
-use Rattle.wire.specs.Part.{Part, Reading, refused, accepted, total, readPart, byItself}
+use Rattle.wire.specs.Part.{Part, Reading, total, readPart}
 use Rattle.wire.specs.Rows.{Progress, Row, partOf, binary}
 use Rattle.register.specs.declared.Register.{Register}
 use Rattle.scheme.specs.declared.Scheme.{Scheme}
 use Rattle.scheme.specs.Scheme.{variables}
-use Rattle.certificate.specs.Limits.{maxScale, maxTarget, maxMultipliers, maxMultiplier, maxSquares, maxWeight, squareEntries, maxEntry}
-use Rattle.certificate.specs.Certificate.{Multiplier, Square, Certificate, fresh}
+use Rattle.certificate.specs.Limits.{maxScale, maxTarget, maxMultipliers, maxSquares, maxWeight, squareEntries, maxEntry}
+use Rattle.certificate.specs.Certificate.{Multiplier, Square, Certificate, fresh, withMultiplier, withSquare}
 use Rattle.certificate.specs.Rules.{Rule, arity, byKey, ruleOf}
-use Rattle.certificate.specs.Residual.{carries}
 
 -- ---- the widths in bytes of the operands
 
@@ -64,19 +63,21 @@ scaleRow = record {
   last = false;
 }
 
+-- the first n operands, 0 where there are fewer; a command has no fewer
+abbrev pub firstOf : ℕ → List ℕ → List ℕ
+firstOf zero xs = []
+firstOf (suc n) [] = 0 ∷ firstOf n []
+firstOf (suc n) (x ∷ xs) = x ∷ firstOf n xs
+
 -- the multiplier command with this byte and these operands: the variables, one byte each, and m
 abbrev pub multiplierOf : ℕ → List ℕ → Multiplier
-multiplierOf kind xs = record { kind = kind; names = take (arity kind) xs; m = toZ w64 (getD xs (arity kind) 0) }
-
--- m is past its limit, or negative for a subtracted form
-unfoldable pub outOfRange : Bool → ℤ → Bool
-outOfRange null m = ltb maxMultiplier (natAbs m) || not null && ltZ m (pos 0)
+multiplierOf kind xs = record { kind = kind; names = firstOf (arity kind) xs; m = toZ w64 (getD xs (arity kind) 0) }
 
 -- at most 1,024 multiplier commands, each by its rule
 unfoldable pub multiplierChecks : ℕ → Rule → ℤ → List Check
 multiplierChecks multipliers rule m =
     check 3 (leb maxMultipliers multipliers)
-    ∷ check 4 (outOfRange (rule .null) m)
+    ∷ check 4 (ltZ m (rule .least) || ltZ (rule .most) m)
     ∷ check 5 (not (rule .there))
     ∷ check 6 (not (rule .ordered))
     ∷ check 8 (not (rule .fits))
@@ -94,19 +95,14 @@ multiplierRow reg sch kind = record {
   widths = multiplierWidths kind;
   checks = λ cert xs.
       let t = multiplierOf kind xs in
-      multiplierChecks (length (cert .multipliers)) (ruleOf (reg .choices) sch t) (t .m);
-  after = λ cert xs. record {
-    scale = cert .scale;
-    target = cert .target;
-    multipliers = cert .multipliers ++ (multiplierOf kind xs ∷ []);
-    squares = cert .squares;
-  };
+      multiplierChecks (length (cert .multipliers)) (ruleOf reg sch t) (t .m);
+  after = λ cert xs. withMultiplier cert (multiplierOf kind xs);
   last = false;
 }
 
 -- the square with these operands: weight w u32, then 65 entries v i16
 abbrev pub squareOf : List ℕ → Square
-squareOf xs = record { w = getD xs 0 0; v = map (toZ w16) (drop 1 xs) }
+squareOf xs = record { w = getD xs 0 0; v = map (toZ w16) (firstOf squareEntries (drop 1 xs)) }
 
 -- at most 64 squares: weight 1–1,000,000, entries within ±10,000, those past N zero
 unfoldable pub squareChecks : (squares N : ℕ) → Square → List Check
@@ -124,12 +120,7 @@ squareRow reg sch = record {
   follows = anyBefore;
   widths = squareWidths;
   checks = λ cert xs. squareChecks (length (cert .squares)) (variables (reg .choices) sch) (squareOf xs);
-  after = λ cert xs. record {
-    scale = cert .scale;
-    target = cert .target;
-    multipliers = cert .multipliers;
-    squares = cert .squares ++ (squareOf xs ∷ []);
-  };
+  after = λ cert xs. withSquare cert (squareOf xs);
   last = false;
 }
 
@@ -144,24 +135,12 @@ endRow = record {
   last = true;
 }
 
+abbrev pub certificateRows : Register → Scheme → List (Row Certificate)
+certificateRows reg sch = scaleRow ∷ (map (multiplierRow reg sch) multiplierKinds ++ (squareRow reg sch ∷ endRow ∷ []))
+
 abbrev pub certificatePart : Register → Scheme → Part (Progress Certificate)
-certificatePart reg sch =
-    partOf fresh (scaleRow ∷ (map (multiplierRow reg sch) multiplierKinds ++ (squareRow reg sch ∷ endRow ∷ [])))
+certificatePart reg sch = partOf fresh (certificateRows reg sch)
 
 -- the commands of a certificate at the front of a run of bytes: `3F` is reached without 1 to 8, or not
 unfoldable pub commandsInJob : Register → Scheme → List ℕ → Reading (Progress Certificate)
 commandsInJob reg sch s = readPart (certificatePart reg sch) s
-
--- at `3F`, R falls short, that is, does not carry T: 9, at the position of `3F`, one byte before the end (`end-stands` in
--- proofs/Accept)
-unfoldable pub dominanceChecked : (ℕ → ℤ) → Register → Scheme → Reading (Progress Certificate) → Reading (Progress Certificate)
-dominanceChecked c reg sch (refused number at) = refused number at
-dominanceChecked c reg sch (accepted p end) = cond (carries c reg sch (p .parsed)) (accepted p end) (refused 9 (end - 1))
-
--- the certificate at the front of a run of bytes, as in a job
-unfoldable pub certificateInJob : (ℕ → ℤ) → Register → Scheme → List ℕ → Reading (Progress Certificate)
-certificateInJob c reg sch s = dominanceChecked c reg sch (commandsInJob reg sch s)
-
--- the certificate as a run of bytes by itself
-unfoldable pub certificateByItself : (ℕ → ℤ) → Register → Scheme → List ℕ → Reading (Progress Certificate)
-certificateByItself c reg sch s = byItself s (certificateInJob c reg sch s)

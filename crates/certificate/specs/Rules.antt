@@ -2,21 +2,26 @@
 use Prim.Native.Nat.{ℕ}
 use mathlib.Core.List.{List, [], _∷_}
 use mathlib.Core.Bool.{Bool, true, false, cond, _&&_}
-use lib.IntN.{ℤ, pos, negsuc}
+use lib.IntN.{ℤ, pos, negsuc, negℤ}
 use lib.ListN.{getD}
 use lib.Dec.{eqb, ltb, leb}
 use lib.Bits.{bitOr}
 use Rattle.forms.specs.Form.{Form, mono, place}
 use Rattle.sets.specs.Sets.{isProperSubset}
+use Rattle.register.specs.declared.Register.{Register}
 use Rattle.scheme.specs.declared.Scheme.{Scheme}
 use Rattle.scheme.specs.Scheme.{left, right, variables}
 use Rattle.scheme.specs.Variables.{E}
+use Rattle.certificate.specs.Limits.{maxMultiplier}
 use Rattle.certificate.specs.Certificate.{Multiplier}
 
 -- what the paper says of a multiplier command
 pub record Rule : Type 0 where
   -- a null form (the paper's own term; 000's null function): 0 on every plan; the others are never negative on plans
   pub null : Bool
+  -- m is from the least to the most, or it is refused 4
+  pub least : ℤ
+  pub most : ℤ
   -- the variables or the product that it names are there, or it is refused 5
   pub there : Bool
   -- its pairs are in order, or it is refused 6
@@ -33,16 +38,19 @@ byKey none k (e ∷ es) = cond (eqb k (e .0)) (e .1) (byKey none k es)
 abbrev pub minus1 : ℤ
 minus1 = negsuc 0
 
+-- m within ±10¹²
 abbrev pub nullRule : Bool → Bool → Bool → Form → Rule
-nullRule there ordered fits form = record { null = true; there = there; ordered = ordered; fits = fits; form = form }
+nullRule there ordered fits form = record { null = true; least = negℤ (pos maxMultiplier); most = pos maxMultiplier; there = there; ordered = ordered; fits = fits; form = form }
 
+-- m 0–10¹²
 abbrev pub subtractedRule : Bool → Form → Rule
-subtractedRule there form = record { null = false; there = there; ordered = true; fits = true; form = form }
+subtractedRule there form = record { null = false; least = pos 0; most = pos maxMultiplier; there = there; ordered = true; fits = true; form = form }
 
--- the rules, with n choices, where i, j, k, l are the variables named; for `35` to `37` product i is the paper's product k,
--- and a and b are its operands
-abbrev pub rules : ℕ → Scheme → ℕ → ℕ → ℕ → ℕ → List (ℕ × Rule)
-rules n s i j k l =
+-- the rules, with a register and a scheme, where i, j, k, l are the variables named; for `35` to `37` product i is the paper's
+-- product k, and a and b are its operands
+abbrev pub rules : Register → Scheme → ℕ → ℕ → ℕ → ℕ → List (ℕ × Rule)
+rules r s i j k l =
+    let n = r .choices in
     let a = left n s i in
     let b = right n s i in
     let e : ℕ → ℕ = E n s in
@@ -75,7 +83,7 @@ arity kind = byKey 1 kind ((0x32, 2) ∷ (0x33, 3) ∷ (0x34, 4) ∷ [])
 abbrev pub noRule : Rule
 noRule = nullRule false false false []
 
-unfoldable pub ruleOf : ℕ → Scheme → Multiplier → Rule
-ruleOf n s t =
+unfoldable pub ruleOf : Register → Scheme → Multiplier → Rule
+ruleOf r s t =
     let name : ℕ → ℕ = λ i. getD (t .names) i 0 in
-    byKey noRule (t .kind) (rules n s (name 0) (name 1) (name 2) (name 3))
+    byKey noRule (t .kind) (rules r s (name 0) (name 1) (name 2) (name 3))

@@ -2,32 +2,26 @@
 use super::Certificate;
 use super::Multiplier;
 use super::Rule;
+use super::Seen;
 use super::Square;
 use scheme::Scheme;
 use wire::command_refusal;
 use wire::first_of;
 ghost use mathlib.Core.Path.{_≡_};
-ghost use mathlib.Core.List.{[], _∷_};
-ghost use Prim.Native.Nat.{_+_, _-_, _≤_, _<_};
-ghost use lib.Dec.{leb, eqb};
-ghost use lib.IntN.{ℤ, pos, natAbs};
+ghost use Prim.Native.Nat.{_<_};
 ghost use lib.ListN.{length, getD};
-ghost use mathlib.Core.Bool.{_||_};
-ghost use mir.Syntax.{w64};
 ghost use Rattle.integers.specs.Lists.{allBelow};
 ghost use Rattle.sets.specs.Sets.{isProperSubset};
-ghost use Rattle.wire.specs.Number.{natAt, intAt};
-ghost use Rattle.wire.specs.Checks.{commandChecks, refusal};
+ghost use Rattle.wire.specs.Checks.{refusal};
 ghost use Rattle.wire.specs.Part.{checksAt};
-ghost use Rattle.wire.specs.Rows.{Progress, isAmong};
+ghost use Rattle.wire.specs.Rows.{Progress, isAmong, rowOf};
 ghost use Rattle.register.specs.declared.Register.{Register};
 ghost use Rattle.scheme.specs.Scheme.{variables};
 ghost use Rattle.scheme.specs.Sets.{SetsBelow};
-ghost use Rattle.certificate.specs.Limits.{maxEntry};
 ghost use Rattle.certificate.specs.Certificate.{Certificate as Whole};
-ghost use Rattle.certificate.specs.Rules.{Rule as Ruled, ruleOf};
-ghost use Rattle.certificate.specs.Format.{commandSize, scaleChecks, multiplierChecks, squareChecks, anyBefore, certificatePart};
-ghost use Rattle.certificate.specs.Answer.{squareIn, multiplierAt, squareRead, Known, ruleAsked, TestsOf, Shows};
+ghost use Rattle.certificate.specs.Rules.{Rule as Ruled};
+ghost use Rattle.certificate.specs.Format.{scaleChecks, multiplierChecks, squareChecks, anyBefore, certificateRows, certificatePart};
+ghost use Rattle.certificate.specs.Answer.{squareIn, smallPast, Known, seenOf, ruleAsked, TestsOf};
 
 // The refusal of a scale and a target, or 0.
 fn scale_refusal(scale: u32, target: i64) -> u8
@@ -53,8 +47,7 @@ fn is_proper_subset(a: u32, b: u32) -> bool
 
 // What a multiplier command's kind asks, by the sets of the variables, where there are n choices and count variables.
 fn rule_of(sets: &[u32], n: usize, count: usize, t: Multiplier) -> Rule
-    ensures { λ r. ⌜ ((sch : Scheme) → variables n sch ≡ count → SetsBelow n sch count (now (sets .entry)) →
-        TestsOf (ruleAsked n sch t) r) ⌝ }
+    ensures { λ r. ⌜ ((reg : Register) (sch : Scheme) → Known reg sch n count (now (sets .entry)) → TestsOf (ruleAsked reg sch t) r) ⌝ }
 {
     let kind = t.kind;
     let i = t.i;
@@ -84,8 +77,7 @@ fn rule_of(sets: &[u32], n: usize, count: usize, t: Multiplier) -> Rule
 fn multiplier_refusal(multipliers: usize, rule: Rule, m: i64) -> u8
     ensures { λ r. ⌜ ((whole : Ruled) → TestsOf whole rule → r ≡ refusal (multiplierChecks multipliers whole m)) ⌝ }
 {
-    let far = Multiplier::MAX_MAGNITUDE < wire::magnitude(m);
-    let out = far | (!rule.null & (m < 0));
+    let out = (m < rule.least) | (rule.most < m);
     let fits = first_of(!rule.ordered, 6, first_of(!rule.fits, 8, 0));
     let named = first_of(!rule.there, 5, fits);
     first_of(
@@ -95,28 +87,15 @@ fn multiplier_refusal(multipliers: usize, rule: Rule, m: i64) -> u8
     )
 }
 
-// The entries of a square are within their range.
-fn are_within(entries: &[i16]) -> bool
-    ensures { λ r. ⌜ r ≡ allBelow (length (now (entries .entry))) (λ i. leb (natAbs (getD (now (entries .entry)) i (pos 0))) maxEntry) ⌝ }
+// The entries of a square are within their range, and those past a place are at most a limit in magnitude.
+fn are_within(entries: &[i16], place: usize, limit: u64) -> bool
+    ensures { λ r. ⌜ r ≡ allBelow (length (now (entries .entry))) (smallPast place limit (now (entries .entry))) ⌝ }
 {
     let mut i = 0;
     while i < entries.len() {
-        if Square::MAX_ENTRY < wire::magnitude(entries[i] as i64) {
-            return false;
-        }
-        i += 1;
-    }
-    true
-}
-
-// The entries of a square past a place are 0.
-fn end_in_zeros(entries: &[i16], place: usize) -> bool
-    ensures { λ r. ⌜ r ≡ allBelow (length (now (entries .entry))) (λ i. leb i place || eqb (natAbs (getD (now (entries .entry)) i (pos 0))) 0) ⌝ }
-{
-    let mut i = 0;
-    while i < entries.len() {
-        let fine = (i <= place) | (wire::magnitude(entries[i] as i64) == 0);
-        if !fine {
+        let size = wire::magnitude(entries[i] as i64);
+        let small = (size <= Square::MAX_ENTRY) & ((i <= place) | (size <= limit));
+        if !small {
             return false;
         }
         i += 1;
@@ -129,29 +108,14 @@ fn square_refusal(squares: usize, count: usize, square: Square) -> u8
     ensures { λ r. ⌜ r ≡ refusal (squareChecks squares count (squareIn square)) ⌝ }
 {
     let weight = square.weight;
-    let within = are_within(&square.entries);
-    let zeros = end_in_zeros(&square.entries, count);
+    let within = are_within(&square.entries, count, Square::MAX_ENTRY);
+    let zeros = are_within(&square.entries, count, 0);
     let out = (weight == 0) | (Square::MAX_WEIGHT < weight) | !within;
     first_of(
         Certificate::MAX_SQUARES <= squares,
         3,
         first_of(out, 4, first_of(!zeros, 5, 0)),
     )
-}
-
-// The refusal of the scale and target at a position, or 0.
-fn scale_command_refusal(bytes: &[u8], at: usize, previous: u8) -> u8
-    requires { ⌜ at < length (now bytes) ⌝ }
-    ensures { λ r. ⌜ r ≡ refusal (commandChecks (isAmong previous (0 ∷ [])) (length (now (bytes .entry)) - at) (commandSize 0x30)
-        (scaleChecks (natAt 4 (now (bytes .entry)) (at + 1)) (intAt w64 (now (bytes .entry)) (at + 1 + 4)))) ⌝ }
-{
-    let placed = command_refusal(previous == 0, bytes.len() - at, super::command_size(0x30));
-    if placed != 0 {
-        return placed;
-    }
-    let scale = wire::u32_at(bytes, at + 1);
-    let target = wire::i64_at(bytes, at + 1 + 4);
-    scale_refusal(scale, target)
 }
 
 // A multiplier, a square or the end may stand here.
@@ -161,83 +125,47 @@ fn after_scale(previous: u8) -> bool
     (0x30 <= previous) & (previous <= 0x3a)
 }
 
-// The refusal of the multiplier command at a position, or 0.
-fn multiplier_command_refusal(
-    bytes: &[u8],
-    at: usize,
-    previous: u8,
-    sets: &[u32],
-    n: usize,
-    count: usize,
-    multipliers: usize,
-) -> u8
-    requires { ⌜ at < length (now bytes) ⌝ }
-    requires { ⌜ (0x31 ≤ getD (now bytes) at 0) × (getD (now bytes) at 0 ≤ 0x39) ⌝ }
-    ensures { λ r. ⌜ ((sch : Scheme) → variables n sch ≡ count → SetsBelow n sch count (now (sets .entry)) →
-        r ≡ refusal (commandChecks (isAmong previous anyBefore) (length (now (bytes .entry)) - at) (commandSize (getD (now (bytes .entry)) at 0))
-        (multiplierChecks multipliers (ruleOf n sch (multiplierAt (now (bytes .entry)) at)) (multiplierAt (now (bytes .entry)) at .m)))) ⌝ }
+// A command may stand directly after another, or first where that is 0.
+fn stands_after(previous: u8, command: u8) -> bool
+    ensures { λ r. ⌜ ((reg : Register) (sch : Scheme) → r ≡ isAmong previous (rowOf (certificateRows reg sch) command .follows)) ⌝ }
 {
-    let kind = bytes[at];
-    let size = super::command_size(kind);
-    let placed = command_refusal(after_scale(previous), bytes.len() - at, size);
-    if placed != 0 {
-        return placed;
+    match command {
+        0x30 => previous == 0,
+        0x31..=0x3a => after_scale(previous),
+        0x3f => after_scale(previous),
+        _ => false,
     }
-    let t = super::multiplier_at(bytes, at);
-    multiplier_refusal(multipliers, rule_of(sets, n, count, t), t.m)
 }
 
-// The refusal of the square at a position, or 0.
-fn square_command_refusal(bytes: &[u8], at: usize, previous: u8, count: usize, squares: usize) -> u8
+// The refusal of the command at a position, or 0, by what has been seen and the sets of the variables. Place and size first,
+// then its operands.
+pub fn refusal_at(bytes: &[u8], at: usize, seen: Seen, sets: &[u32]) -> u8
     requires { ⌜ at < length (now bytes) ⌝ }
-    ensures { λ r. ⌜ r ≡ refusal (commandChecks (isAmong previous anyBefore) (length (now (bytes .entry)) - at) (commandSize 0x3A)
-        (squareChecks squares count (squareRead (now (bytes .entry)) at))) ⌝ }
+    ensures { λ r. ⌜ ((reg : Register) (sch : Scheme) (p : Progress Whole) → seenOf reg sch p ≡ seen → SetsBelow (reg .choices) sch (variables (reg .choices) sch) (now (sets .entry)) →
+        r ≡ refusal (checksAt (certificatePart reg sch) (now (bytes .entry)) p at)) ⌝ }
 {
+    let command = bytes[at];
+    let previous = seen.previous;
     let placed = command_refusal(
-        after_scale(previous),
+        stands_after(previous, command),
         bytes.len() - at,
-        super::command_size(0x3a),
+        super::command_size(command),
     );
     if placed != 0 {
         return placed;
     }
-    square_refusal(squares, count, super::square_at(bytes, at))
-}
-
-// The refusal of the end at a position, or 0.
-fn end_command_refusal(bytes: &[u8], at: usize, previous: u8) -> u8
-    requires { ⌜ at < length (now bytes) ⌝ }
-    ensures { λ r. ⌜ r ≡ refusal (commandChecks (isAmong previous anyBefore) (length (now (bytes .entry)) - at) (commandSize 0x3F) []) ⌝ }
-{
-    command_refusal(
-        after_scale(previous),
-        bytes.len() - at,
-        super::command_size(0x3f),
-    )
-}
-
-// The refusal of the command at a position, or 0, by what its checks look at: the last command's byte, the sets of the
-// variables, the numbers of choices and variables, and the counts.
-pub fn refusal_at(
-    bytes: &[u8],
-    at: usize,
-    previous: u8,
-    sets: &[u32],
-    n: usize,
-    count: usize,
-    multipliers: usize,
-    squares: usize,
-) -> u8
-    requires { ⌜ at < length (now bytes) ⌝ }
-    ensures { λ r. ⌜ ((reg : Register) (sch : Scheme) (p : Progress Whole) → Known reg sch n count (now (sets .entry)) → Shows p previous multipliers squares →
-        r ≡ refusal (checksAt (certificatePart reg sch) (now (bytes .entry)) p at)) ⌝ }
-{
-    let command = bytes[at];
     match command {
-        0x30 => scale_command_refusal(bytes, at, previous),
-        0x31..=0x39 => multiplier_command_refusal(bytes, at, previous, sets, n, count, multipliers),
-        0x3a => square_command_refusal(bytes, at, previous, count, squares),
-        0x3f => end_command_refusal(bytes, at, previous),
-        0x00..=0x2f | 0x3b..=0x3e | 0x40..=0xff => 1,
+        0x30 => {
+            let scale = wire::u32_at(bytes, at + 1);
+            let target = wire::i64_at(bytes, at + 1 + 4);
+            scale_refusal(scale, target)
+        }
+        0x3a => square_refusal(seen.squares, seen.variables, super::square_at(bytes, at)),
+        0x3f => 0,
+        _ => {
+            let t = super::multiplier_at(bytes, at);
+            let rule = rule_of(sets, seen.choices, seen.variables, t);
+            multiplier_refusal(seen.multipliers, rule, t.m)
+        }
     }
 }

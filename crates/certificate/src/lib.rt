@@ -1,25 +1,24 @@
-// Part 3 of the job file, the certificate: multipliers and squares that carry a bound.
+// Part 3 of the job file, the certificate, as far as its commands go: multipliers and squares that carry a bound.
 use register::Register;
 use scheme::Scheme;
 
-pub mod check;
 mod checks;
-mod dominance;
-mod residual;
+mod layout;
 
 use checks::refusal_at;
+pub use layout::command_size;
+pub use layout::multiplier_at;
+pub use layout::square_at;
 ghost use mathlib.Core.Path.{_≡_};
-ghost use mathlib.Core.Bool.{true, false};
-ghost use Prim.Native.Nat.{_+_, _≤_, _<_};
-ghost use lib.ListN.{length, getD, replicate};
-ghost use Rattle.wire.specs.Part.{operandsAt};
+ghost use mathlib.Core.Bool.{true};
+ghost use lib.IntN.{pos, negℤ};
 ghost use Rattle.register.specs.Valid.{Valid as RegisterValid};
 ghost use Rattle.scheme.specs.Valid.{Valid as SchemeValid};
 ghost use Rattle.scheme.specs.Sets.{SetsBelow};
 ghost use Rattle.scheme.specs.Scheme.{variables};
-ghost use Rattle.certificate.specs.Format.{commandSize, commandsInJob};
-ghost use Rattle.certificate.specs.Check.{refusedCheck, refusedAnswer};
-ghost use Rattle.certificate.specs.Answer.{freshCounts, freshSquare, namedOf, filledOf, multiplierAt, squareRead, refusedRead, commandsRead};
+ghost use Rattle.certificate.specs.Limits.{maxMultiplier};
+ghost use Rattle.certificate.specs.Format.{commandsInJob};
+ghost use Rattle.certificate.specs.Answer.{freshCounts, freshSquare, refusedRead, commandsRead};
 
 // A certificate by its counts: scale s, target T, how many multipliers and how many squares.
 #[repr(C)]
@@ -46,13 +45,23 @@ pub struct Square {
     pub entries: [i16; Square::ENTRIES],
 }
 
-// What a multiplier command's kind asks: a null form or one that is subtracted; the variables are there; the pairs are in
-// order; the sets fit.
+// What a multiplier command's kind asks: m is from the least to the most; the variables are there; the pairs are in order;
+// the sets fit.
 pub struct Rule {
-    pub null: bool,
+    pub least: i64,
+    pub most: i64,
     pub there: bool,
     pub ordered: bool,
     pub fits: bool,
+}
+
+// What the checks of a command look at: the byte of the last command, the counts, and how many choices and variables there are.
+pub struct Seen {
+    pub previous: u8,
+    pub multipliers: usize,
+    pub squares: usize,
+    pub choices: usize,
+    pub variables: usize,
 }
 
 // What reading the commands at the front of a run of bytes leads to: a refusal's number and position, or 0, the position
@@ -61,23 +70,6 @@ pub struct CertificateRead {
     pub number: u8,
     pub position: usize,
     pub certificate: Certificate,
-}
-
-// What checking the certificate at the front of a run of bytes leads to: a refusal's number and position, or 0, the position
-// past the end, and the bound.
-pub struct CheckRead {
-    pub number: u8,
-    pub position: usize,
-    pub bound: i64,
-}
-
-// The answer of the call: a refusal's number, part and position, or zeros and the bound.
-#[repr(C)]
-pub struct CheckAnswer {
-    pub number: u8,
-    pub part: u8,
-    pub position: usize,
-    pub bound: i64,
 }
 
 impl Certificate {
@@ -104,11 +96,12 @@ impl Certificate {
 
 impl Multiplier {
     // The largest magnitude of m.
-    pub const MAX_MAGNITUDE: u64 = 1_000_000_000_000;
+    pub const MAX_MAGNITUDE: i64 = 1_000_000_000_000;
 }
 
 impl Square {
-    pub const ENTRIES: usize = 65;
+    // One for each variable, and one for the constant.
+    pub const ENTRIES: usize = Scheme::MAX_VARIABLES + 1;
 
     pub const MAX_WEIGHT: u32 = 1_000_000;
 
@@ -127,10 +120,11 @@ impl Square {
 
 impl Rule {
     fn null_form(there: bool, ordered: bool, fits: bool) -> Rule
-        ensures { λ r. ⌜ r ≡ record { null = true; there = there; ordered = ordered; fits = fits } ⌝ }
+        ensures { λ r. ⌜ r ≡ record { least = negℤ (pos maxMultiplier); most = pos maxMultiplier; there = there; ordered = ordered; fits = fits } ⌝ }
     {
         Rule {
-            null: true,
+            least: -Multiplier::MAX_MAGNITUDE,
+            most: Multiplier::MAX_MAGNITUDE,
             there: there,
             ordered: ordered,
             fits: fits,
@@ -138,10 +132,11 @@ impl Rule {
     }
 
     fn subtracted(there: bool) -> Rule
-        ensures { λ r. ⌜ r ≡ record { null = false; there = there; ordered = true; fits = true } ⌝ }
+        ensures { λ r. ⌜ r ≡ record { least = pos 0; most = pos maxMultiplier; there = there; ordered = true; fits = true } ⌝ }
     {
         Rule {
-            null: false,
+            least: 0,
+            most: Multiplier::MAX_MAGNITUDE,
             there: there,
             ordered: true,
             fits: true,
@@ -162,94 +157,6 @@ impl CertificateRead {
     }
 }
 
-impl CheckRead {
-    fn refused(number: u8, position: usize) -> CheckRead
-        ensures { λ r. ⌜ r ≡ refusedCheck number position ⌝ }
-    {
-        CheckRead {
-            number: number,
-            position: position,
-            bound: 0,
-        }
-    }
-}
-
-impl CheckAnswer {
-    fn refused(number: u8, part: u8, position: usize) -> CheckAnswer
-        ensures { λ r. ⌜ r ≡ refusedAnswer number part position ⌝ }
-    {
-        CheckAnswer {
-            number: number,
-            part: part,
-            position: position,
-            bound: 0,
-        }
-    }
-}
-
-// The bytes of a command: its byte, then a scale u32 and a target i64; or variables u8 each and m i64; or a weight u32 and entries
-// i16 each; or nothing. 1 where the byte is no command.
-pub fn command_size(command: u8) -> usize
-    ensures { λ r. ⌜ r ≡ commandSize command ⌝ }
-{
-    match command {
-        0x30 => 13,
-        0x31 | 0x35..=0x39 => 10,
-        0x32 => 11,
-        0x33 => 12,
-        0x34 => 13,
-        0x3a => 5 + 2 * Square::ENTRIES,
-        0x3f => 1,
-        0x00..=0x2f | 0x3b..=0x3e | 0x40..=0xff => 1,
-    }
-}
-
-// The variable that the multiplier command at a position names at a place, 0 where it names fewer.
-fn name_at(bytes: &[u8], at: usize, count: usize, place: usize) -> u8
-    requires { ⌜ at + 1 + count ≤ length (now bytes) ⌝ }
-    ensures { λ r. ⌜ r ≡ getD (operandsAt (replicate count 1) (now (bytes .entry)) (at + 1)) place 0 ⌝ }
-{
-    if place < count {
-        wire::u8_at(bytes, at + 1 + place)
-    } else {
-        0
-    }
-}
-
-// The multiplier command at a position.
-pub fn multiplier_at(bytes: &[u8], at: usize) -> Multiplier
-    requires { ⌜ (0x31 ≤ getD (now bytes) at 0) × (getD (now bytes) at 0 ≤ 0x39) ⌝ }
-    requires { ⌜ at + commandSize (getD (now bytes) at 0) ≤ length (now bytes) ⌝ }
-    ensures { λ r. ⌜ r ≡ namedOf (multiplierAt (now (bytes .entry)) at) ⌝ }
-{
-    let kind = bytes[at];
-    // The variables stand between the command's byte and the 8 bytes of m.
-    let count = command_size(kind) - 9;
-    Multiplier {
-        kind: kind,
-        i: name_at(bytes, at, count, 0),
-        j: name_at(bytes, at, count, 1),
-        k: name_at(bytes, at, count, 2),
-        l: name_at(bytes, at, count, 3),
-        m: wire::i64_at(bytes, at + 1 + count),
-    }
-}
-
-// The square at a position.
-pub fn square_at(bytes: &[u8], at: usize) -> Square
-    requires { ⌜ at + commandSize 0x3A ≤ length (now bytes) ⌝ }
-    ensures { λ r. ⌜ r ≡ filledOf (squareRead (now (bytes .entry)) at) ⌝ }
-{
-    let mut square = Square::fresh();
-    square.weight = wire::u32_at(bytes, at + 1);
-    let mut i = 0;
-    while i < Square::ENTRIES {
-        square.entries[i] = wire::i16_at(bytes, at + 5 + 2 * i);
-        i += 1;
-    }
-    square
-}
-
 // The commands at the front of a run of bytes, checked by refusals 1 to 8, with the sets of the variables.
 fn read_with_sets(bytes: &[u8], sets: &[u32], register: Register, scheme: Scheme) -> CertificateRead
     requires { ⌜ RegisterValid register ⌝ }
@@ -261,11 +168,16 @@ fn read_with_sets(bytes: &[u8], sets: &[u32], register: Register, scheme: Scheme
     let mut previous: u8 = 0;
     let mut at: usize = 0;
     while at < bytes.len() {
-        let n = register.choices;
-        let count = n + scheme.products;
         let multipliers = certificate.multipliers;
         let squares = certificate.squares;
-        let number = refusal_at(bytes, at, previous, sets, n, count, multipliers, squares);
+        let seen = Seen {
+            previous: previous,
+            multipliers: multipliers,
+            squares: squares,
+            choices: register.choices,
+            variables: register.choices + scheme.products,
+        };
+        let number = refusal_at(bytes, at, seen, sets);
         if number != 0 {
             return CertificateRead::refused(number, at);
         }

@@ -11,7 +11,7 @@ fn answers(
     certificate: &[u8],
     table: &mut [i64],
 ) -> bool {
-    let answer = certificate::check::feedcheck_check(register, scheme, certificate, table);
+    let answer = bound::check::feedcheck_check(register, scheme, certificate, table);
     let next = from.refusal(line, answer.number, answer.part, answer.position);
     let next = next.signed(line, answer.bound);
     let next = tables::compared(next, line, table);

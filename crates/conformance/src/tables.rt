@@ -9,7 +9,7 @@ use vectors::Taken;
 ghost use mathlib.Core.Path.{_≡_};
 ghost use Prim.Native.Nat.{_+_, _≤_};
 ghost use lib.ListN.{length, take};
-ghost use Rattle.scheme.specs.Sets.{maxVariables};
+ghost use Rattle.scheme.specs.Scheme.{maxVariables};
 
 // What each number of a table is before a call.
 const BEFORE: i64 = 77;

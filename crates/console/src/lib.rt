@@ -22,8 +22,8 @@ pub fn lines_of(job: &[u8], text: &mut [u8]) -> usize
     answer.count
 }
 
-// Reads a job from one descriptor and prints its lines to another. What a job leads to stands in its first 25,435 bytes, so what
-// stands past the 65,536 bytes that are read makes no difference.
+// Reads a job from one descriptor and prints its lines to another. What a job leads to stands in fewer bytes (`reach-is` in
+// job/proofs/Prefix) than the 65,536 that are read, so what stands past these makes no difference.
 pub fn print_listing(input: i32, output: i32) {
     let mut job = io::large_buffer();
     let n = io::read_full(input, &mut job);

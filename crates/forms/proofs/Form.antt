@@ -3,7 +3,7 @@
 use Prim.Native.Nat.{ℕ, suc, _<_}
 use mathlib.Core.Path.{_≡_, refl, sym, _∙_, ap, ap₂}
 use mathlib.Core.List.{List, [], _∷_, _++_, map, flatMap}
-use mathlib.Core.Bool.{Bool, true, false, cond, _&&_, _||_, and-false, and-comm, or-comm}
+use mathlib.Core.Bool.{Bool, true, false, cond, _&&_, _||_, and-false, and-comm}
 use native.Mathlib.Omega.{arith}
 use lib.IntN.{ℤ, pos, negsuc, _+ℤ_, _-ℤ_, _*ℤ_, zero-*ℤ, *ℤ-zero, +ℤ-idl, +ℤ-idr, +ℤ-comm}
 use lib.Dec.{T, eqb, eqb→eq}
@@ -178,13 +178,6 @@ pub semidefinite-tail : (n : ℕ) (a : ℕ → ℕ → ℤ) → Semidefinite (su
 semidefinite-tail n a h x = rw (← (quadratic-tail n a x)) (h (places (pos 0) x))
 
 -- ---- the table by the form's coefficients
-
-pub coefficientOf-symmetric : (f : Form) (i j : ℕ) → coefficientOf f i j ≡ coefficientOf f j i
-unfolding coefficientOf
-coefficientOf-symmetric f i j = λ x. sumOver f (λ m. cond (swap (eqb i (m .p)) (eqb j (m .q)) (eqb i (m .q)) (eqb j (m .p)) x) (m .c) (pos 0))
-  where
-    swap : (a b c d : Bool) → (a && b || c && d) ≡ (d && c || b && a)
-    swap a b c d = or-comm (a && b) (c && d) ∙ ap₂ _||_ (and-comm c d) (and-comm a b)
 
 pub entry-diagonal : (f : Form) (i : ℕ) → entry f i i ≡ pos 2 *ℤ coefficientOf f i i
 unfolding entry coefficientOf

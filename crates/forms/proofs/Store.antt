@@ -2,7 +2,7 @@
 -- don't change, and no number grows by more than the form's norm.
 use Prim.Native.Nat.{ℕ, zero, suc, _+_, _*_, _/_, _%_, _≤_, _<_}
 use mathlib.Core.Path.{_≡_, refl, sym, _∙_, ap, ap₂}
-use mathlib.Core.List.{List, [], _∷_, _++_, flatMap}
+use mathlib.Core.List.{List, [], _∷_, _++_}
 use mathlib.Core.Bool.{Bool, true, false, cond, _&&_, and-false}
 use native.Mathlib.Omega.{arith}
 use native.Mathlib.Decide.{ℕ-discrete}
@@ -177,11 +177,6 @@ unfolding joinBelow norm1
 norm1-join zero b f h = omega arith
 norm1-join (suc n) b f h =
     omega (arith, norm1-append (joinBelow n f) (f n), norm1-join n b f (λ i l. h i (omega arith)), h n (omega arith))
-
-pub norm1-flatMap {ℓ} : {A : Type ℓ} (b : ℕ) (f : A → Form) (l : List A) → All (λ x. norm1 (f x) ≤ b) l → norm1 (flatMap f l) ≤ b * length l
-unfolding flatMap
-norm1-flatMap b f [] h = omega (arith, norm1-[])
-norm1-flatMap b f (x ∷ l) h = omega (arith, norm1-append (f x) (flatMap f l), h .0, norm1-flatMap b f l (h .1))
 
 pub norm1-times : (k : ℤ) (f : Form) → norm1 (times k f) ≡ natAbs k * norm1 f
 unfolding norm1 times

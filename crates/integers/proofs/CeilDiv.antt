@@ -24,9 +24,6 @@ ceil-between t s r above below =
 pub ceil-unique : (t : ℤ) (s : ℕ) (r r′ : ℤ) → IsCeilDiv t s r → IsCeilDiv t s r′ → r ≡ r′
 ceil-unique t s r r′ h k = ≤ℤ-antisym r r′ (h .least r′ (k .above)) (k .least r (h .above))
 
-pub ceil-mono : (t t′ : ℤ) (s : ℕ) (r r′ : ℤ) → t ≤ℤ t′ → IsCeilDiv t s r → IsCeilDiv t′ s r′ → r ≤ℤ r′
-ceil-mono t t′ s r r′ l h k = h .least r′ (≤ℤ-trans _ _ _ l (k .above))
-
 -- the quotient toward zero is less than one away
 module _ (s : ℕ) (positive : 0 < s) where
   quotient-near : (t : ℤ) → (t <ℤ (quotZ t (pos s) *ℤ pos s +ℤ pos s)) × ((quotZ t (pos s) *ℤ pos s -ℤ pos s) <ℤ t)

@@ -9,8 +9,7 @@ use native.Mathlib.Omega.{arith}
 use native.Mathlib.Decide.{decLe}
 use lib.IntN.{ℤ, pos, negsuc, negℤ, subℕ, _+ℤ_, _*ℤ_, natAbs}
 use lib.Signed.{_≤ℤ_, _<ℤ_, mag}
-use Rattle.integers.specs.Integer.{abs}
-use Rattle.integers.specs.Integer.{posPart, negPart}
+use Rattle.integers.specs.Integer.{abs, posPart, negPart}
 use Rattle.integers.proofs.Parts.{orders, posPart-neg, negPart-neg, subℕ-parts, +-parts}
 
 infixl 6 _⊖_

@@ -7,13 +7,12 @@ use native.Mathlib.Omega.{arith}
 use native.Mathlib.Decide.{ℕ-discrete}
 use lib.IntN.{ℤ, pos, natAbs, negsuc, negℤ, _+ℤ_, _-ℤ_, _*ℤ_, zero-*ℤ}
 use lib.Signed.{_≤ℤ_, ≤ℤ-refl}
-use Rattle.integers.specs.Quadratic.{Symmetric, offDiagonal, DiagonallyDominant}
+use Rattle.integers.specs.Quadratic.{Symmetric, offDiagonal, DiagonallyDominant, quadratic, Semidefinite}
 use Rattle.integers.specs.Integer.{abs}
 use Rattle.integers.proofs.Diff.{diff₄, diffs}
 use Rattle.integers.proofs.Ring.{*ℤ-distribˡ, *ℤ-sub-distribʳ, *ℤ-assoc}
 use Rattle.integers.proofs.Solver.{quote, atoms, ring}
 use Rattle.integers.proofs.Order.{abs-nonneg, ≤ℤ-by, ≤ℤ-sub, ≤ℤ-trans, nonneg, pos-nonneg, square-nonneg, *ℤ-nonneg}
-use Rattle.integers.specs.Quadratic.{quadratic, Semidefinite}
 use Rattle.integers.specs.Sum.{sumBelow, except}
 use lib.Dec.{eqb}
 use Rattle.integers.proofs.Lists.{cond-cases}

@@ -5,6 +5,7 @@ pub mod Solver
 pub mod Order
 pub mod Lists
 pub mod Join
+pub mod Search
 pub mod Entries
 pub mod Sum
 pub mod Quadratic

@@ -1,7 +1,6 @@
 -- What machine code asks of signed integers, at every width. A signed local holds bits: an operation reads them by `toZ w` and
 -- writes its result by `ofZ w`, so a goal has `toZ w (ofZ w z)`, which is z where z fits the width.
 use mathlib.Core.Path.{_≡_, sym, _∙_, ap, subst}
-use mathlib.Core.Logic.{_⊎_, inl, inr}
 use mathlib.Core.Bool.{true, false, not}
 use Prim.Native.Nat.{ℕ, _<_, _≤_, _^_, _*_, _%_}
 use native.Mathlib.Omega.{arith}
@@ -9,13 +8,12 @@ use native.Mathlib.Nat.{one-mul, mod-eq-of-lt}
 use lib.Pow.{pow-lt}
 use lib.Dec.{T}
 use lib.IntN.{ℤ, pos, natAbs}
-use lib.Signed.{mag, ltZ, leZ, _<ℤ_, _≤ℤ_, ltZ-no}
+use lib.Signed.{mag, ltZ, _<ℤ_, _≤ℤ_, ltZ-no}
 use mir.Syntax.{Width}
 use mir.Val.{SFits, toZ, ofZ, bits, hbits}
 use mir.ValLaws.{toZ-pos}
 use mir.Facts.{toZ-ofZ}
 use Rattle.integers.proofs.Diff.{diff₁, diffs}
-use Rattle.integers.proofs.Order.{≤ℤ-or->}
 
 -- an integer whose absolute value is below the width's half fits the width
 pub fits-signed : (w : Width) (z : ℤ) → natAbs z < 2 ^ hbits w → SFits w z
@@ -43,10 +41,6 @@ read-bits w z e h = ap (toZ w) e ∙ read-signed w z h
 pub read-unsigned : (w : Width) (n : ℕ) → n < 2 ^ hbits w → toZ w n ≡ pos n
 read-unsigned w n h = toZ-pos w n h
 
--- what a callee says of a signed number that was passed to it as bits, said of the number
-pub passed : {A : Type 0} (w : Width) (z : ℤ) (f : ℤ → A) {a : A} → SFits w z → a ≡ f (toZ w (ofZ w z)) → f z ≡ a
-passed w z f h e = sym (e ∙ ap f (toZ-ofZ h))
-
 -- a signed number cast to a width that is not narrower
 pub cast-fits : (v w : Width) (z : ℤ) → 2 ^ hbits v < 2 ^ hbits w → SFits v z → SFits w (toZ v (ofZ v z))
 cast-fits v w z l f = rw (toZ-ofZ f) (fits-signed w z (omega (arith, signed-small v z f)))
@@ -60,20 +54,6 @@ ltZ-true a b e = record { lt = subst T (sym e) tt }
 
 pub ltZ-false : (a b : ℤ) → ltZ a b ≡ false → b ≤ℤ a
 ltZ-false a b e = ltZ-no (subst (λ x. T (not x)) (sym e) tt)
-
-pub leZ-true : (a b : ℤ) → leZ a b ≡ true → a ≤ℤ b
-leZ-true a b e = record { le = subst T (sym e) tt }
-
-pub leZ-false : (a b : ℤ) → leZ a b ≡ false → b <ℤ a
-leZ-false a b e = go (≤ℤ-or-> a b)
-  where
-    go : (a ≤ℤ b) ⊎ (b <ℤ a) → b <ℤ a
-    go (inl h) = absurd (subst T e (h .le))
-    go (inr h) = h
-
--- equal bits, as `==` compares
-pub same-bits : (w : Width) {a b : ℤ} → SFits w a → SFits w b → ofZ w a ≡ ofZ w b → a ≡ b
-same-bits w f g e = sym (toZ-ofZ f) ∙ ap (toZ w) e ∙ toZ-ofZ g
 
 -- one bit at place n of a word
 pub one-shifted : (w : Width) (n : ℕ) → n < bits w → 2 ^ n ≡ 1 * 2 ^ n % 2 ^ bits w

@@ -1,18 +1,16 @@
 -- ℤ is a totally ordered ring: the laws of order, and of the absolute value, that `lib.Signed` lacks.
 -- A linear law is proved by `diffs`, one that multiplies an order by a natural with that product in `omega`'s list.
 -- `search nonneg` proves that a polynomial is at least 0 from its form, and `grw (monotone, h)` rewrites an order by h.
-use mathlib.Core.Path.{_≡_, refl, sym, ap}
+use mathlib.Core.Path.{_≡_, refl}
 use mathlib.Core.Logic.{_⊎_, inl, inr, _↔_}
 use Prim.Native.Nat.{ℕ, suc, _+_, _*_, _≤_}
 use native.Mathlib.Nat.{mul-le-mul-left, mul-le-mul}
 use native.Mathlib.Omega.{arith}
 use native.Mathlib.Decide.{decLe}
-use lib.IntN.{ℤ, pos, negsuc, negℤ, _+ℤ_, _-ℤ_, _*ℤ_, natAbs, *ℤ-comm}
-use lib.Dec.{ltb→lt}
-use lib.Signed.{_≤ℤ_, _<ℤ_, ≤ℤ-refl, clashℤ}
-use Rattle.integers.specs.Integer.{posPart, negPart}
+use lib.IntN.{ℤ, pos, negsuc, negℤ, _+ℤ_, _-ℤ_, _*ℤ_, natAbs}
+use lib.Signed.{_≤ℤ_, _<ℤ_, ≤ℤ-refl}
+use Rattle.integers.specs.Integer.{posPart, negPart, abs}
 use Rattle.integers.proofs.Parts.{orders, parts→≤, parts→<}
-use Rattle.integers.specs.Integer.{abs}
 use Rattle.integers.proofs.Diff.{diff₁, diff₂, diff₃, diff₄, diffs}
 
 -- ---- a total order
@@ -75,28 +73,6 @@ pub *ℤ-monoˡ : (c a b : ℤ) → pos 0 ≤ℤ c → a ≤ℤ b → (c *ℤ a)
     scale : (n : ℕ) (a b : ℤ) → a ≤ℤ b → (pos n *ℤ a) ≤ℤ (pos n *ℤ b)
     scale n = diff₂ _ λ p q r s. simp diffs λ k. omega (arith, mul-le-mul-left n k)
 
-pub *ℤ-monoʳ : (c a b : ℤ) → pos 0 ≤ℤ c → a ≤ℤ b → (a *ℤ c) ≤ℤ (b *ℤ c)
-*ℤ-monoʳ c a b h k = rw (*ℤ-comm a c, *ℤ-comm b c) (*ℤ-monoˡ c a b h k)
-
-pub *ℤ-mono-< : (c a b : ℤ) → pos 0 <ℤ c → a <ℤ b → (c *ℤ a) <ℤ (c *ℤ b)
-*ℤ-mono-< (pos n) a b h k = scale a b k
-  where
-    scale : (a b : ℤ) → a <ℤ b → (pos n *ℤ a) <ℤ (pos n *ℤ b)
-    scale = diff₂ _ λ p q r s. simp diffs λ k. omega (arith, mul-le-mul-left n k, ltb→lt 0 n (h .lt))
-*ℤ-mono-< (negsuc n) a b h k = absurd (h .lt)
-
--- cancellation of a positive factor
-pub *ℤ-cancelˡ-≤ : (c a b : ℤ) → pos 0 <ℤ c → (c *ℤ a) ≤ℤ (c *ℤ b) → a ≤ℤ b
-*ℤ-cancelˡ-≤ c a b h k = go (≤ℤ-or-> a b)
-  where
-    go : (a ≤ℤ b) ⊎ (b <ℤ a) → a ≤ℤ b
-    go (inl l) = l
-    go (inr l) = clashℤ (*ℤ-mono-< c b a h l) k
-
-pub *ℤ-cancelˡ : (c a b : ℤ) → pos 0 <ℤ c → c *ℤ a ≡ c *ℤ b → a ≡ b
-*ℤ-cancelˡ c a b h e =
-    ≤ℤ-antisym a b (*ℤ-cancelˡ-≤ c a b h (≡→≤ℤ _ _ e)) (*ℤ-cancelˡ-≤ c b a h (≡→≤ℤ _ _ (sym e)))
-
 pub *ℤ-nonneg : (a b : ℤ) → pos 0 ≤ℤ a → pos 0 ≤ℤ b → pos 0 ≤ℤ (a *ℤ b)
 *ℤ-nonneg (pos m) (pos n) h k = pos-nonneg (m * n)
 *ℤ-nonneg (pos m) (negsuc n) h k = absurd (k .le)
@@ -118,26 +94,6 @@ abs-of-nonneg = diff₁ _ λ p q. simp diffs (omega arith)
 pub abs-of-nonpos : (a : ℤ) → a ≤ℤ pos 0 → abs a ≡ negℤ a
 abs-of-nonpos = diff₁ _ λ p q. simp diffs (omega arith)
 
-pub ≤ℤ-abs : (a : ℤ) → a ≤ℤ abs a
-≤ℤ-abs = diff₁ _ λ p q. simp diffs (omega arith)
-
-pub neg-abs-≤ℤ : (a : ℤ) → negℤ (abs a) ≤ℤ a
-neg-abs-≤ℤ = diff₁ _ λ p q. simp diffs (omega arith)
-
-pub abs-≤ℤ : (a b : ℤ) → (abs a ≤ℤ b) ↔ ((negℤ b ≤ℤ a) × (a ≤ℤ b))
-abs-≤ℤ = diff₂ _ λ p q r s. simp diffs (omega arith)
-
-pub abs-neg : (a : ℤ) → abs (negℤ a) ≡ abs a
-abs-neg = diff₁ _ λ p q. simp diffs (omega arith)
-
-pub abs-triangle : (a b : ℤ) → abs (a +ℤ b) ≤ℤ (abs a +ℤ abs b)
-abs-triangle = diff₂ _ λ p q r s. simp diffs (omega arith)
-
-pub abs-square : (a : ℤ) → abs a *ℤ abs a ≡ a *ℤ a
-unfolding abs
-abs-square (pos n) = refl
-abs-square (negsuc n) = refl
-
 pub natAbs-neg : (a : ℤ) → natAbs (negℤ a) ≡ natAbs a
 natAbs-neg = diff₁ _ λ p q. simp diffs (omega arith)
 
@@ -155,10 +111,6 @@ natAbs-* (negsuc m) (negsuc n) = refl
 
 pub natAbs-*-≤ : (a b : ℤ) (m n : ℕ) → natAbs a ≤ m → natAbs b ≤ n → natAbs (a *ℤ b) ≤ m * n
 natAbs-*-≤ a b m n h k = rw natAbs-* (mul-le-mul h k)
-
-pub abs-* : (a b : ℤ) → abs (a *ℤ b) ≡ abs a *ℤ abs b
-unfolding abs
-abs-* a b = ap pos (natAbs-* a b)
 
 pub ruleset nonneg = (square-nonneg, *ℤ-nonneg, +ℤ-nonneg, abs-nonneg, pos-nonneg)
 

@@ -1,14 +1,14 @@
--- The positive and the negative part of an integer: each integer is the first minus the second, and a sum, a product, an
+-- The positive and the negative part of an integer: each integer is the first minus the second, and a sum, an
 -- order or an equation of integers is an equation or an inequation of naturals between the parts, which `omega` reads.
 -- `omega (arith, orders, +-parts a b)` proves a linear statement from hypotheses on ℤ: `orders` turns the statements, and
--- each sum, difference or multiple in them has its `..-parts` in the list.
+-- each sum in them has its `+-parts` in the list.
 use mathlib.Core.Path.{_≡_, refl, ap}
 use mathlib.Core.Bool.{Bool, true, false, not, cond}
-use Prim.Native.Nat.{ℕ, zero, suc, _+_, _*_, _-_, _<_, _≤_}
+use Prim.Native.Nat.{ℕ, zero, suc, _+_, _-_, _<_, _≤_}
 use native.Mathlib.Omega.{arith}
 use lib.Dec.{T, ltb, ltb→lt, lt→ltb, nltb→le, leb→le, le→leb}
-use lib.IntN.{ℤ, pos, negsuc, negℤ, subℕ, _+ℤ_, _-ℤ_, _*ℤ_, natAbs}
-use lib.Signed.{_≤ℤ_, _<ℤ_, mag}
+use lib.IntN.{ℤ, pos, negsuc, negℤ, subℕ, _+ℤ_, natAbs}
+use lib.Signed.{_≤ℤ_, _<ℤ_}
 use Rattle.integers.specs.Integer.{posPart, negPart}
 
 -- ---- equality and order
@@ -79,20 +79,7 @@ pub +-parts : (x y : ℤ) → posPart (x +ℤ y) + (negPart x + negPart y) ≡ n
 +-parts (negsuc a) (pos b) = omega (arith, subℕ-parts b (suc a))
 +-parts (negsuc a) (negsuc b) = omega arith
 
-pub sub-parts : (x y : ℤ) → posPart (x -ℤ y) + (negPart x + posPart y) ≡ negPart (x -ℤ y) + (posPart x + negPart y)
-sub-parts x y = omega (arith, +-parts x (negℤ y), posPart-neg y, negPart-neg y)
-
-pub *-parts : (x y : ℤ) → posPart (x *ℤ y) + (posPart x * negPart y + negPart x * posPart y) ≡ negPart (x *ℤ y) + (posPart x * posPart y + negPart x * negPart y)
-*-parts (pos a) (pos b) = omega arith
-*-parts (pos a) (negsuc b) = rw (posPart-neg, negPart-neg) (omega arith)
-*-parts (negsuc a) (pos b) = rw (posPart-neg, negPart-neg) (omega arith)
-*-parts (negsuc a) (negsuc b) = omega arith
-
 -- the absolute value, and the magnitude that says whether an integer fits a signed width
 pub natAbs-parts : (x : ℤ) → natAbs x ≡ posPart x + negPart x
 natAbs-parts (pos n) = omega arith
 natAbs-parts (negsuc n) = omega arith
-
-pub mag-parts : (x : ℤ) → mag x ≡ posPart x + (negPart x - 1)
-mag-parts (pos n) = omega arith
-mag-parts (negsuc n) = omega arith

@@ -1,9 +1,8 @@
 -- Quadratic forms over ℤ: `quadratic n a x` is Σ_i Σ_j a i j x i x j, over i, j < n.
-use mathlib.Core.Path.{_≡_, refl, sym, _∙_, ap, subst}
-use mathlib.Core.Bool.{Bool, true, false, cond, _&&_}
+use mathlib.Core.Path.{_≡_, sym, _∙_, ap, subst}
 use mathlib.Core.List.{List, [], _∷_}
 use Prim.Native.Nat.{ℕ, _<_}
-use lib.IntN.{ℤ, pos, _+ℤ_, _*ℤ_, zero-*ℤ, *ℤ-zero}
+use lib.IntN.{ℤ, pos, _+ℤ_, _*ℤ_, zero-*ℤ}
 use lib.Signed.{_≤ℤ_}
 use Rattle.integers.specs.Quadratic.{quadratic, Semidefinite}
 use Rattle.integers.proofs.Ring.{*ℤ-assoc, *ℤ-distribʳ}
@@ -63,27 +62,3 @@ semidefinite-square n v x = rw (quadratic-square n v x) (search nonneg)
 pub semidefinite-sumOver {ℓ} : {A : Type ℓ} (n : ℕ) (l : List A) (a : A → ℕ → ℕ → ℤ) → All (λ e. Semidefinite n (a e)) l → Semidefinite n (λ i j. sumOver l (λ e. a e i j))
 semidefinite-sumOver n l a h x =
     rw (quadratic-sumOver n l a x) (sumOver-nonneg l (λ e. quadratic n (a e) x) (All-map _ _ (λ e p. p x) l h))
-
--- a square of weight w, added to a table that is never negative, keeps it so
-pub semidefinite-weighted : (n : ℕ) (a : ℕ → ℕ → ℤ) (w : ℤ) (v : ℕ → ℤ) → pos 0 ≤ℤ w → Semidefinite n a → Semidefinite n (λ i j. a i j +ℤ w *ℤ (v i *ℤ v j))
-semidefinite-weighted n a w v h p =
-    semidefinite-+ n a (λ i j. w *ℤ (v i *ℤ v j)) p (semidefinite-* n w (λ i j. v i *ℤ v j) h (semidefinite-square n v))
-
--- ---- principal parts: the rows and columns that a test keeps
-
-pub principal : (n : ℕ) (keep : ℕ → Bool) (a : ℕ → ℕ → ℤ) (x : ℕ → ℤ) →
-    quadratic n (λ i j. cond (keep i && keep j) (a i j) (pos 0)) x ≡ quadratic n a (λ i. cond (keep i) (x i) (pos 0))
-unfolding quadratic
-principal n keep a x = sumBelow-cong n _ _ λ i l. sumBelow-cong n _ _ λ j k. go (keep i) (keep j) (a i j) (x i) (x j)
-  where
-    none : (u v : ℤ) → pos 0 *ℤ u *ℤ v ≡ pos 0
-    none u v = ap (λ x. x *ℤ v) (zero-*ℤ u) ∙ zero-*ℤ v
-
-    go : (p q : Bool) (c u v : ℤ) → cond (p && q) c (pos 0) *ℤ u *ℤ v ≡ c *ℤ cond p u (pos 0) *ℤ cond q v (pos 0)
-    go true true c u v = refl
-    go true false c u v = none u v ∙ sym (*ℤ-zero (c *ℤ u))
-    go false true c u v = none u v ∙ sym (ap (λ x. x *ℤ v) (*ℤ-zero c) ∙ zero-*ℤ v)
-    go false false c u v = none u v ∙ sym (*ℤ-zero (c *ℤ pos 0))
-
-pub semidefinite-principal : (n : ℕ) (keep : ℕ → Bool) (a : ℕ → ℕ → ℤ) → Semidefinite n a → Semidefinite n (λ i j. cond (keep i && keep j) (a i j) (pos 0))
-semidefinite-principal n keep a p x = rw (principal n keep a x) (p (λ i. cond (keep i) (x i) (pos 0)))

@@ -1,8 +1,8 @@
 -- ℤ is a commutative ring: the laws that `lib.IntN` lacks.
 use mathlib.Core.Path.{_≡_}
 use native.Mathlib.Omega.{arith}
-use lib.IntN.{ℤ, pos, negℤ, _+ℤ_, _-ℤ_, _*ℤ_}
-use Rattle.integers.proofs.Diff.{diff₁, diff₂, diff₃, diff₄, diffs}
+use lib.IntN.{ℤ, pos, _+ℤ_, _-ℤ_, _*ℤ_}
+use Rattle.integers.proofs.Diff.{diff₁, diff₃, diff₄, diffs}
 
 pub *ℤ-assoc : (a b c : ℤ) → a *ℤ b *ℤ c ≡ a *ℤ (b *ℤ c)
 *ℤ-assoc = diff₃ _ λ p q r s t u. simp diffs (omega arith)
@@ -13,32 +13,14 @@ pub *ℤ-distribˡ : (a b c : ℤ) → a *ℤ (b +ℤ c) ≡ a *ℤ b +ℤ a *�
 pub *ℤ-distribʳ : (a b c : ℤ) → (a +ℤ b) *ℤ c ≡ a *ℤ c +ℤ b *ℤ c
 *ℤ-distribʳ = diff₃ _ λ p q r s t u. simp diffs (omega arith)
 
-pub *ℤ-sub-distribˡ : (a b c : ℤ) → a *ℤ (b -ℤ c) ≡ a *ℤ b -ℤ a *ℤ c
-*ℤ-sub-distribˡ = diff₃ _ λ p q r s t u. simp diffs (omega arith)
-
 pub *ℤ-sub-distribʳ : (a b c : ℤ) → (a -ℤ b) *ℤ c ≡ a *ℤ c -ℤ b *ℤ c
 *ℤ-sub-distribʳ = diff₃ _ λ p q r s t u. simp diffs (omega arith)
 
 pub one-*ℤ : (a : ℤ) → pos 1 *ℤ a ≡ a
 one-*ℤ = diff₁ _ λ p q. simp diffs (omega arith)
 
-pub neg-*ℤ : (a b : ℤ) → negℤ a *ℤ b ≡ negℤ (a *ℤ b)
-neg-*ℤ = diff₂ _ λ p q r s. simp diffs (omega arith)
-
-pub *ℤ-neg : (a b : ℤ) → a *ℤ negℤ b ≡ negℤ (a *ℤ b)
-*ℤ-neg = diff₂ _ λ p q r s. simp diffs (omega arith)
-
 pub -ℤ-self : (a : ℤ) → a -ℤ a ≡ pos 0
 -ℤ-self = diff₁ _ λ p q. simp diffs (omega arith)
-
-pub -ℤ≡0→≡ : (a b : ℤ) → a -ℤ b ≡ pos 0 → a ≡ b
--ℤ≡0→≡ = diff₂ _ λ p q r s. simp diffs (omega arith)
-
-pub +ℤ-cancelˡ : (a b c : ℤ) → a +ℤ b ≡ a +ℤ c → b ≡ c
-+ℤ-cancelˡ = diff₃ _ λ p q r s t u. simp diffs (omega arith)
-
-pub +ℤ-cancelʳ : (a b c : ℤ) → a +ℤ c ≡ b +ℤ c → a ≡ b
-+ℤ-cancelʳ = diff₃ _ λ p q r s t u. simp diffs (omega arith)
 
 pub +ℤ-left-comm : (a b c : ℤ) → a +ℤ (b +ℤ c) ≡ b +ℤ (a +ℤ c)
 +ℤ-left-comm = diff₃ _ λ p q r s t u. simp diffs (omega arith)

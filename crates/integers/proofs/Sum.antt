@@ -7,13 +7,12 @@ use native.Mathlib.Omega.{arith}
 use native.Mathlib.Decide.{ℕ-discrete}
 use native.Mathlib.Nat.{add-zero, add-suc, zero-mul, suc-mul}
 use lib.Dec.{T, eqb, eqb→eq, eqb-refl}
-use lib.ListN.{length, getD}
+use lib.ListN.{length}
 use lib.IntN.{ℤ, pos, negℤ, _+ℤ_, _-ℤ_, _*ℤ_, natAbs, +ℤ-assoc, +ℤ-comm, +ℤ-idl, +ℤ-idr, *ℤ-zero, *ℤ-comm, negℤ-+ℤ}
 use lib.Signed.{_≤ℤ_, ≤ℤ-refl}
 use Rattle.integers.specs.Lists.{All, joinBelow}
 use Rattle.integers.specs.Sum.{sumBelow, sumOver, except}
-use Rattle.integers.specs.Integer.{abs}
-use Rattle.integers.proofs.Diff.{diff₂, diff₃, diffs}
+use Rattle.integers.proofs.Diff.{diff₂, diffs}
 use Rattle.integers.proofs.Ring.{+ℤ-interchange, *ℤ-distribˡ}
 use Rattle.integers.proofs.Order.{+ℤ-mono, +ℤ-nonneg, ≤ℤ-+ʳ, natAbs-+}
 
@@ -130,33 +129,10 @@ sumBelow-split (suc n) k f h = go (ℕ-discrete k n) (λ l. sumBelow-split n k f
         rw (except-other k f n (λ e. d (sym e)))
         (ap (λ x. x +ℤ f n) (ih (omega arith)) ∙ +ℤ-assoc (f k) (sumBelow n (except k f)) (f n))
 
--- two sums whose terms differ at one index only
-pub sumBelow-update : (n k : ℕ) (f g : ℕ → ℤ) → k < n → ((i : ℕ) → (i ≡ k → ⊥) → g i ≡ f i) → sumBelow n g ≡ sumBelow n f +ℤ (g k -ℤ f k)
-sumBelow-update n k f g l h =
-    sumBelow-split n k g l
-    ∙ ap (λ x. g k +ℤ x) (sumBelow-cong n (except k g) (except k f) (λ i m. same i (ℕ-discrete i k)))
-    ∙ move (g k) (f k) (sumBelow n (except k f))
-    ∙ ap (λ x. x +ℤ (g k -ℤ f k)) (sym (sumBelow-split n k f l))
-  where
-    same : (i : ℕ) → Dec (i ≡ k) → except k g i ≡ except k f i
-    same i (yes e) = rw e (except-same k g ∙ sym (except-same k f))
-    same i (no d) = except-other k g i d ∙ h i d ∙ sym (except-other k f i d)
-
-    move : (a b c : ℤ) → a +ℤ c ≡ b +ℤ c +ℤ (a -ℤ b)
-    move = diff₃ _ λ p q r s t u. simp diffs (omega arith)
-
 -- ---- bounds
 
 pub sumBelow-nonneg : (n : ℕ) (f : ℕ → ℤ) → ((i : ℕ) → i < n → pos 0 ≤ℤ f i) → pos 0 ≤ℤ sumBelow n f
 sumBelow-nonneg n f h = subst (λ z. z ≤ℤ sumBelow n f) (sumBelow-0 n) (sumBelow-mono n (λ i. pos 0) f h)
-
-pub sumBelow-abs : (n : ℕ) (f : ℕ → ℤ) → abs (sumBelow n f) ≤ℤ sumBelow n (λ i. abs (f i))
-unfolding sumBelow abs
-sumBelow-abs zero f = ≤ℤ-refl (pos 0)
-sumBelow-abs (suc n) f = step (sumBelow n f) (f n) (sumBelow n (λ i. abs (f i))) (sumBelow-abs n f)
-  where
-    step : (a b c : ℤ) → abs a ≤ℤ c → abs (a +ℤ b) ≤ℤ (c +ℤ abs b)
-    step = diff₃ _ λ p q r s t u. simp diffs (omega arith)
 
 -- n terms of absolute value at most b
 pub natAbs-sum : (n b : ℕ) (f : ℕ → ℤ) → ((i : ℕ) → i < n → natAbs (f i) ≤ b) → natAbs (sumBelow n f) ≤ b * n
@@ -202,33 +178,15 @@ sumOver-append [] r f = sym (+ℤ-idl (sumOver r f))
 sumOver-append (a ∷ l) r f =
     ap (λ x. f a +ℤ x) (sumOver-append l r f) ∙ sym (+ℤ-assoc (f a) (sumOver l f) (sumOver r f))
 
--- by the elements' places: the laws of `sumBelow` are then laws of `sumOver`
-pub sumOver-sum {ℓ} : {A : Type ℓ} (d : A) (l : List A) (f : A → ℤ) → sumOver l f ≡ sumBelow (length l) (λ i. f (getD l i d))
-unfolding sumOver
-sumOver-sum d [] f = sym (sumBelow-zero _)
-sumOver-sum d (a ∷ l) f =
-    ap (λ x. f a +ℤ x) (sumOver-sum d l f) ∙ sym (sumBelow-first (length l) (λ i. f (getD (a ∷ l) i d)))
-
 pub sumOver-0 {ℓ} : {A : Type ℓ} (l : List A) (f : A → ℤ) → All (λ x. f x ≡ pos 0) l → sumOver l f ≡ pos 0
 unfolding sumOver
 sumOver-0 [] f h = refl
 sumOver-0 (x ∷ l) f h = ap₂ _+ℤ_ (h .0) (sumOver-0 l f (h .1))
 
-pub sumOver-cong {ℓ} : {A : Type ℓ} (l : List A) (f g : A → ℤ) → All (λ x. f x ≡ g x) l → sumOver l f ≡ sumOver l g
-unfolding sumOver
-sumOver-cong [] f g h = refl
-sumOver-cong (x ∷ l) f g h = ap₂ _+ℤ_ (h .0) (sumOver-cong l f g (h .1))
-
 pub sumOver-nonneg {ℓ} : {A : Type ℓ} (l : List A) (f : A → ℤ) → All (λ x. pos 0 ≤ℤ f x) l → pos 0 ≤ℤ sumOver l f
 unfolding sumOver
 sumOver-nonneg [] f h = ≤ℤ-refl (pos 0)
 sumOver-nonneg (x ∷ l) f h = +ℤ-nonneg _ _ (h .0) (sumOver-nonneg l f (h .1))
-
-pub sumOver-+ {ℓ} : {A : Type ℓ} (l : List A) (f g : A → ℤ) → sumOver l (λ x. f x +ℤ g x) ≡ sumOver l f +ℤ sumOver l g
-unfolding sumOver
-sumOver-+ [] f g = refl
-sumOver-+ (x ∷ l) f g =
-    ap (λ u. f x +ℤ g x +ℤ u) (sumOver-+ l f g) ∙ +ℤ-interchange (f x) (g x) (sumOver l f) (sumOver l g)
 
 pub sumOver-*ˡ {ℓ} : {A : Type ℓ} (l : List A) (c : ℤ) (f : A → ℤ) → sumOver l (λ x. c *ℤ f x) ≡ c *ℤ sumOver l f
 unfolding sumOver
@@ -251,13 +209,6 @@ unfolding joinBelow sumBelow sumOver
 sumOver-join w zero f = refl
 sumOver-join w (suc n) f =
     sumOver-append (joinBelow n f) (f n) w ∙ ap (λ x. x +ℤ sumOver (f n) w) (sumOver-join w n f)
-
--- exchange: a sum below n of sums over a list
-pub sumOver-swap {ℓ} : {A : Type ℓ} (n : ℕ) (l : List A) (f : ℕ → A → ℤ) → sumBelow n (λ i. sumOver l (f i)) ≡ sumOver l (λ x. sumBelow n (λ i. f i x))
-unfolding sumOver
-sumOver-swap n [] f = sumBelow-0 n
-sumOver-swap n (x ∷ l) f =
-    sumBelow-+ n (λ i. f i x) (λ i. sumOver l (f i)) ∙ ap (λ u. sumBelow n (λ i. f i x) +ℤ u) (sumOver-swap n l f)
 
 pub natAbs-sumOver {ℓ} : {A : Type ℓ} (b : ℕ) (l : List A) (f : A → ℤ) → All (λ x. natAbs (f x) ≤ b) l → natAbs (sumOver l f) ≤ b * length l
 unfolding sumOver

@@ -1,59 +1,51 @@
--- What acceptance of a job means, over all runs of bytes: its four parts are valid, and the job is their bytes after each other.
-use Prim.Native.Nat.{ℕ, _+_, _^_, _≤_, _<_}
+-- What acceptance of a job means, over all runs of bytes: its four parts are valid, and the job is encodings of them after each other.
+use Prim.Native.Nat.{ℕ, _+_, _≤_}
 use mathlib.Core.Path.{_≡_, refl, sym, _∙_, ap, subst}
 use mathlib.Core.Logic.{_↔_}
 use mathlib.Core.Bool.{Bool, true, false, cond}
-use mathlib.Core.List.{List, [], _++_, append-nil}
+use mathlib.Core.List.{List, [], _∷_, _++_, append-nil}
 use native.Mathlib.Nat.{zero-add}
 use native.Mathlib.Omega.{arith}
 use lib.Dec.{ltb}
 use lib.IntN.{ℤ}
 use lib.ListN.{length, take, drop, length-drop, take-append-drop}
-use lib.Pow.{pow-mono}
-use lib.Seq.{drop-drop}
+use lib.Seq.{take-all, drop-drop}
 use borrow.Author.Tests.{ltb-false, le-ltb}
 use Rattle.wire.specs.Number.{Bytes}
-use Rattle.wire.specs.Part.{Reading, refused, accepted}
+use Rattle.wire.specs.Rows.{Progress}
+use Rattle.wire.specs.Outcome.{Outcome, refuses, accepts}
 use Rattle.wire.proofs.Number.{bytes-take, bytes-drop}
+use Rattle.wire.proofs.Outcome.{next-by, not-both, accepts-one}
 use Rattle.forms.specs.Table.{tableNumbers}
 use Rattle.register.specs.declared.Register.{Register}
 use Rattle.register.specs.Register.{coefficient}
 use Rattle.register.specs.Format.{registerInJob}
 use Rattle.register.specs.Valid as R
-use Rattle.register.specs.Encoding.{encodeRegister}
 use Rattle.register.proofs.Accept as RA
-use Rattle.register.proofs.Complete.{register-accepted}
 use Rattle.scheme.specs.declared.Scheme.{Scheme}
 use Rattle.scheme.specs.Format.{schemeInJob}
-use Rattle.scheme.specs.Encoding.{encodeScheme}
+use Rattle.scheme.specs.Encoding as SE
 use Rattle.scheme.proofs.Accept as SA
 use Rattle.certificate.specs.Certificate.{Certificate}
-use Rattle.certificate.specs.Format.{certificatePart, commandsInJob, certificateInJob}
+use Rattle.certificate.specs.Certificate as CF
+use Rattle.certificate.specs.Format.{certificatePart, commandsInJob}
+use Rattle.bound.specs.Format.{certificateInJob}
 use Rattle.certificate.specs.Encoding as CE
-use Rattle.certificate.proofs.Accept as CA
+use Rattle.certificate.proofs.Accept.{encodes-accepted}
+use Rattle.bound.proofs.Accept as CA
 use Rattle.plan.specs.Format.{planInJob}
-use Rattle.plan.specs.Encoding.{encodePlan}
+use Rattle.plan.specs.Encoding as PE
 use Rattle.plan.proofs.Accept as PA
-use Rattle.job.specs.Outcome.{Parts, Outcome, refuses, accepts, follow, outcome, fromPlan, fromCertificate, fromScheme}
+use Rattle.job.specs.Outcome.{Parts, partThree, partFour, outcome}
+use Rattle.job.specs.Rest.{fromPlan, fromCertificate, fromScheme}
 use Rattle.job.specs.declared.Tally.{Tally}
 use Rattle.job.specs.Answer.{refusedAnswer, acceptedAnswer, afterJob, jobAnswer}
 use Rattle.job.specs.Valid.{Valid, Encodes}
-use Rattle.job.proofs.Sound.{Sound, outcome-sound, accepted-valid}
-use Rattle.wire.proofs.Fronts.{front-whole, behind, empty}
+use Rattle.job.proofs.Sound.{Sound, outcome-sound, accepts-at, accepted-valid}
+use Rattle.wire.proofs.Encoding.{after-first}
+use Rattle.wire.proofs.Fronts.{front-whole}
 
 -- ---- from the outcome to the parts
-
--- a part after which the job is accepted
-record Followed {S : Type 0} (from : ℕ) (x : Reading S) (rest : S → ℕ → Outcome) (p : Parts) : Type 0 where
-  read : S
-  end : ℕ
-  reads : x ≡ accepted read end
-  goes-on : rest read (from + end) ≡ accepts p
-
-followed : {S : Type 0} (part from : ℕ) (x : Reading S) (rest : S → ℕ → Outcome) (p : Parts) → follow part from x rest ≡ accepts p → Followed from x rest p
-unfolding follow
-followed part from (refused n at) rest p e = let z : _≡_ {A = ℕ} 0 1 = cc in absurd (omega arith)
-followed part from (accepted read end) rest p e = record { read = read; end = end; reads = refl; goes-on = e }
 
 abbrev parts : Register → Scheme → Certificate → ℕ → Parts
 parts reg sch cert plan = record { register = reg; scheme = sch; certificate = cert; plan = plan }
@@ -61,92 +53,97 @@ parts reg sch cert plan = record { register = reg; scheme = sch; certificate = c
 -- the rest of a job from the plan on
 record PlanFrom (s : List ℕ) (reg : Register) (sch : Scheme) (cert : Certificate) (from : ℕ) (p : Parts) : Type 0 where
   plan : ℕ
-  bytes : drop from s ≡ encodePlan plan
+  encodes : PE.Encodes reg plan (drop from s)
   parts-are : parts reg sch cert plan ≡ p
 
-plan-from : (s : List ℕ) (reg : Register) (sch : Scheme) (cert : Certificate) (from : ℕ) (p : Parts) → Bytes s → fromPlan s reg sch cert from ≡ accepts p → PlanFrom s reg sch cert from p
-plan-from s reg sch cert from p b e =
-    let f = followed 4 from (planInJob reg (drop from s)) _ p e in
-    let x = PA.accepted-front reg (drop from s) (bytes-drop from s b) (f .reads) in
-    by f x (ltb (from + f .end) (length s)) refl (f .goes-on)
-  where
-    by : (f : Followed from (planInJob reg (drop from s)) (λ four end. cond (ltb end (length s)) (refuses 12 4 end) (accepts (parts reg sch cert (four .parsed)))) p) → PA.Front reg (drop from s) (f .read) (f .end) →
-        (t : Bool) → ltb (from + f .end) (length s) ≡ t → cond t (refuses 12 4 (from + f .end)) (accepts (parts reg sch cert (f .read .parsed))) ≡ accepts p → PlanFrom s reg sch cert from p
-    by f x true u q = let z : _≡_ {A = ℕ} 0 1 = cc in absurd (omega arith)
-    by f x false u q =
-        let none : drop 5 (drop from s) ≡ [] = empty (drop 5 (drop from s)) (omega (arith, length-drop 5 (drop from s), length-drop from s, ltb-false (from + f .end) (length s) u, x .end-is)) in
-        record {
-          plan = f .read .parsed;
-          bytes = x .bytes-are ∙ rw (none, append-nil);
-          parts-are = cc;
-        }
+module _ (s : List ℕ) (b : Bytes s) (p : Parts) (reg : Register) (v : R.Valid reg) where
+  plan-from : (sch : Scheme) (cert : Certificate) (from : ℕ) → fromPlan s reg sch cert from ≡ accepts p → PlanFrom s reg sch cert from p
+  plan-from sch cert from e =
+      accepts-at s 4 from (parts reg sch cert) (planInJob reg (drop from s)) [] p e λ read end q g.
+      by read end (PA.bytes-accepted reg (v .within .choices .few) (drop from s) read end q (bytes-drop from s b) .0) (ltb (from + end) (length s)) refl g
+    where
+      by : (read : Progress ℕ) (end : ℕ) → PE.Encodes reg (read .parsed) (take end (drop from s)) →
+          (t : Bool) → ltb (from + end) (length s) ≡ t → cond t (refuses 12 4 (from + end)) (accepts (parts reg sch cert (read .parsed))) ≡ accepts p → PlanFrom s reg sch cert from p
+      by read end x true u q = absurd (not-both q)
+      by read end x false u q = record {
+        plan = read .parsed;
+        encodes = rw (take-all end (drop from s) (omega (arith, length-drop from s, ltb-false (from + end) (length s) u))) at x;
+        parts-are = accepts-one q;
+      }
 
--- from the certificate on
-record CertificateFrom (s : List ℕ) (reg : Register) (sch : Scheme) (from : ℕ) (p : Parts) : Type 0 where
-  cert : Certificate
-  plan : ℕ
-  third : List ℕ
-  encodes : CE.Encodes cert third
-  bytes : drop from s ≡ third ++ encodePlan plan
-  parts-are : parts reg sch cert plan ≡ p
+  -- the certificate and the plan
+  record CertificateFrom (sch : Scheme) (from : ℕ) : Type 0 where
+    cert : Certificate
+    plan : ℕ
+    third : List ℕ
+    fourth : List ℕ
+    encodes : CE.Encodes cert third
+    encodes-plan : PE.Encodes reg plan fourth
+    bytes : drop from s ≡ third ++ fourth
+    parts-are : parts reg sch cert plan ≡ p
 
-certificate-from : (s : List ℕ) (reg : Register) (sch : Scheme) (from : ℕ) (p : Parts) → Bytes s → fromCertificate s reg sch from ≡ accepts p → CertificateFrom s reg sch from p
-unfolding commandsInJob
-certificate-from s reg sch from p b e =
-    let t = drop from s in
-    let bt = bytes-drop from s b in
-    let f = followed 3 from (certificateInJob (coefficient reg) reg sch t) _ p e in
-    let (q, _) = CA.commands-accepted reg sch (coefficient reg) t (f .read) (f .end) (f .reads) in
-    let (w, l) = front-whole (certificatePart reg sch) t (f .read) (f .end) bt q in
-    let r = plan-from s reg sch (f .read .parsed) (from + f .end) p b (f .goes-on) in
-    record {
-      cert = f .read .parsed;
-      plan = r .plan;
-      third = take (f .end) t;
-      encodes = CA.encodes-accepted reg sch (take (f .end) t) (f .read) (f .end) w (bytes-take (f .end) t bt) (sym l);
-      bytes = sym (take-append-drop (f .end) t) ∙ ap (λ x. take (f .end) t ++ x) (drop-drop (f .end) from s ∙ r .bytes);
-      parts-are = r .parts-are;
-    }
+  certificate-from : (sch : Scheme) (from : ℕ) → fromCertificate s reg sch from ≡ accepts p → CertificateFrom sch from
+  unfolding commandsInJob
+  certificate-from sch from e =
+      let t = drop from s in
+      let bt = bytes-drop from s b in
+      accepts-at s 3 from (λ cert. parts reg sch cert 0) (certificateInJob (coefficient reg) reg sch t) (partFour ∷ []) p e λ read end reads goes.
+      let (q, _) = CA.commands-accepted reg sch (coefficient reg) t read end reads in
+      let (w, l) = front-whole (certificatePart reg sch) t read end bt q in
+      let r = plan-from sch (read .parsed) (from + end) goes in
+      record {
+        cert = read .parsed;
+        plan = r .plan;
+        third = take end t;
+        fourth = drop (from + end) s;
+        encodes = encodes-accepted reg sch (take end t) read end w (bytes-take end t bt) (sym l);
+        encodes-plan = r .encodes;
+        bytes = sym (take-append-drop end t) ∙ ap (λ x. take end t ++ x) (drop-drop end from s);
+        parts-are = r .parts-are;
+      }
 
--- from the scheme on
-record SchemeFrom (s : List ℕ) (reg : Register) (from : ℕ) (p : Parts) : Type 0 where
-  sch : Scheme
-  cert : Certificate
-  plan : ℕ
-  third : List ℕ
-  encodes : CE.Encodes cert third
-  bytes : drop from s ≡ encodeScheme (reg .choices) sch ++ (third ++ encodePlan plan)
-  parts-are : parts reg sch cert plan ≡ p
+  -- the scheme, and the rest
+  record SchemeFrom (from : ℕ) : Type 0 where
+    sch : Scheme
+    second : List ℕ
+    later : ℕ
+    encodes : SE.Encodes reg sch second
+    bytes : drop from s ≡ second ++ drop later s
+    rest : CertificateFrom sch later
 
-scheme-from : (s : List ℕ) (reg : Register) (from : ℕ) (p : Parts) → R.Valid reg → Bytes s → fromScheme s reg from ≡ accepts p → SchemeFrom s reg from p
-scheme-from s reg from p v b e =
-    let t = drop from s in
-    let f = followed 2 from (schemeInJob reg t) _ p e in
-    let r = certificate-from s reg (f .read .parsed) (from + f .end) p b (f .goes-on) in
-    record {
-      sch = f .read .parsed;
-      cert = r .cert;
-      plan = r .plan;
-      third = r .third;
-      encodes = r .encodes;
-      bytes = SA.bytes-accepted reg v t (f .read) (f .end) (f .reads) ∙ ap (λ x. encodeScheme (reg .choices) (f .read .parsed) ++ x) (drop-drop (f .end) from s ∙ r .bytes);
-      parts-are = r .parts-are;
-    }
+  scheme-from : (from : ℕ) → fromScheme s reg from ≡ accepts p → SchemeFrom from
+  scheme-from from e =
+      let t = drop from s in
+      accepts-at s 2 from (λ sch. parts reg sch CF.fresh 0) (schemeInJob reg t) (partThree ∷ partFour ∷ []) p e λ read end reads goes.
+      record {
+        sch = read .parsed;
+        second = take end t;
+        later = from + end;
+        encodes = SA.bytes-accepted reg v t read end reads .0;
+        bytes = sym (take-append-drop end t) ∙ ap (λ x. take end t ++ x) (drop-drop end from s);
+        rest = certificate-from (read .parsed) (from + end) goes;
+      }
 
 job-from : (s : List ℕ) (p : Parts) → Bytes s → outcome s ≡ accepts p → Valid p × Encodes p s
 unfolding outcome
-job-from s p b e =
-    let f = followed 1 0 (registerInJob s) _ p e in
-    let reg = f .read .parsed in
-    let v = RA.valid-accepted s (f .read) (f .end) (f .reads) .0 in
-    let r = scheme-from s reg (0 + f .end) p v b (f .goes-on) in (
-      accepted-valid s p e,
-      subst (λ p. Encodes p s) (r .parts-are) (record {
-        third = r .third;
-        certificate = r .encodes;
-        bytes = RA.bytes-accepted s (f .read) (f .end) (f .reads) b ∙ ap (λ x. encodeRegister reg ++ x) (ap (λ n. drop n s) (sym (zero-add (f .end))) ∙ r .bytes);
-      }),
-    )
+job-from s p b e = (accepted-valid s p e, encodes e)
+  where
+    encodes : outcome s ≡ accepts p → Encodes p s
+    encodes =
+        next-by (λ o. o ≡ accepts p → Encodes p s) 1 (registerInJob s) (λ one end. fromScheme s (one .parsed) end) (λ n at x q. absurd (not-both q)) λ read end x q.
+        let r = scheme-from s b p (read .parsed) (RA.valid-accepted s read end x .0) end q in
+        let k = r .rest in
+        subst (λ p. Encodes p s) (k .parts-are) (record {
+          first = take end s;
+          second = r .second;
+          third = k .third;
+          fourth = k .fourth;
+          register = RA.bytes-accepted s read end x b .0;
+          scheme = r .encodes;
+          certificate = k .encodes;
+          plan = k .encodes-plan;
+          bytes = sym (take-append-drop end s) ∙ ap (λ x. take end s ++ x) (r .bytes ∙ ap (λ x. r .second ++ x) (k .bytes));
+        })
 
 -- ---- from the parts to the outcome
 
@@ -160,36 +157,29 @@ module _ (p : Parts) (v : Valid p) where
   abbrev cert : Certificate
   cert = p .certificate
 
-  to-plan : (s : List ℕ) (from : ℕ) → drop from s ≡ encodePlan (p .plan) → fromPlan s reg sch cert from ≡ accepts p
-  unfolding follow
-  to-plan s from e =
-      let wide : p .plan < 2 ^ 32 = omega (arith, v .plan, pow-mono (v .register .within .choices-within)) in
-      let q = PA.front-accepted reg (p .plan) (v .plan) wide (drop from s) [] (e ∙ sym (append-nil (encodePlan (p .plan)))) in
-      let l : length (drop from s) ≡ 5 = ap length e ∙ PA.length-encodePlan (p .plan) in
-      rw (q, le-ltb (from + 5) (length s) (omega (arith, length-drop from s)))
+  to-plan : (s : List ℕ) (from : ℕ) → PE.Encodes reg (p .plan) (drop from s) → fromPlan s reg sch cert from ≡ accepts p
+  to-plan s from k =
+      let q = ap (planInJob reg) (sym (append-nil (drop from s))) ∙ PA.front-accepted reg (v .register .within .choices .few) (p .plan) (drop from s) [] (v .plan) k in
+      rw (q, le-ltb (from + length (drop from s)) (length s) (omega (arith, length-drop from s)))
 
-  to-certificate : (s : List ℕ) (from : ℕ) (third : List ℕ) → CE.Encodes cert third → drop from s ≡ third ++ encodePlan (p .plan) → fromCertificate s reg sch from ≡ accepts p
-  unfolding follow
-  to-certificate s from third k e =
-      let q = CA.encoding-front reg (v .register) sch (v .scheme) (coefficient reg) cert third (encodePlan (p .plan)) (v .certificate) k in
-      rw (e, q) (to-plan s (from + length third) (behind s from third (encodePlan (p .plan)) e))
+  module _ (s : List ℕ) (k : Encodes p s) where
+    to-certificate : (from : ℕ) → drop from s ≡ k .third ++ k .fourth → fromCertificate s reg sch from ≡ accepts p
+    to-certificate from e =
+        let q = CA.encoding-front reg (v .register) sch (v .scheme) (coefficient reg) cert (k .third) (k .fourth) (v .certificate) (k .certificate) in
+        rw (e, q) (to-plan s (from + length (k .third)) (rw (after-first s from (length (k .third)) (k .third) (k .fourth) refl e) (k .plan)))
 
-  to-scheme : (s : List ℕ) (from : ℕ) (third : List ℕ) → CE.Encodes cert third → drop from s ≡ encodeScheme (reg .choices) sch ++ (third ++ encodePlan (p .plan)) → fromScheme s reg from ≡ accepts p
-  unfolding follow
-  to-scheme s from third k e =
-      let front = encodeScheme (reg .choices) sch in
-      let d = behind s from front (third ++ encodePlan (p .plan)) e in
-      let q = SA.job-iff reg (v .register) (drop from s) sch (length front) .1 (v .scheme, (e ∙ ap (λ x. front ++ x) (sym (drop-drop (length front) from s ∙ d)), refl)) in
-      rw q (to-certificate s (from + length front) third k d)
+    to-scheme : (from : ℕ) → drop from s ≡ k .second ++ (k .third ++ k .fourth) → fromScheme s reg from ≡ accepts p
+    to-scheme from e =
+        let q = SA.scheme-accepted reg (v .register) sch (k .second) (k .third ++ k .fourth) (v .scheme) (k .scheme) in
+        rw (e, q) (to-certificate (from + length (k .second)) (after-first s from (length (k .second)) (k .second) (k .third ++ k .fourth) refl e))
 
-  to-job : (s : List ℕ) → Encodes p s → outcome s ≡ accepts p
-  unfolding outcome follow
-  to-job s k =
-      let front = encodeRegister reg in
-      let rest = encodeScheme (reg .choices) sch ++ (k .third ++ encodePlan (p .plan)) in
-      let d : drop (0 + length front) s ≡ rest = behind s 0 front rest (k .bytes) in
-      let q = ap registerInJob (k .bytes) ∙ register-accepted reg rest (v .register) in
-      rw q (to-scheme s (0 + length front) (k .third) (k .certificate) d)
+    to-job : outcome s ≡ accepts p
+    unfolding outcome
+    to-job =
+        let after = k .second ++ (k .third ++ k .fourth) in
+        let d : drop (length (k .first)) s ≡ after = rw (← (zero-add (length (k .first)))) (after-first s 0 (length (k .first)) (k .first) after refl (k .bytes)) in
+        let q = ap registerInJob (k .bytes) ∙ RA.register-accepted reg (k .first) after (v .register) (k .register) in
+        rw q (to-scheme (length (k .first)) d)
 
 -- a job is accepted with just the parts that are valid and whose bytes, after each other, it is
 pub accepted-iff : (s : List ℕ) (p : Parts) → Bytes s → (outcome s ≡ accepts p) ↔ (Valid p × Encodes p s)
@@ -212,7 +202,7 @@ module _ (s : List ℕ) (lent : List ℤ) (tally : Tally) where
   unfolding jobAnswer
   answered h = by (ltb (length lent) tableNumbers) refl h
     where
-      go : (x : Outcome) → outcome s ≡ x → Sound x → tableNumbers ≤ length lent → jobAnswer s lent tally ≡ afterJob x tally → afterJob x tally .number ≡ 0 → Answered
+      go : (x : Outcome Parts) → outcome s ≡ x → Sound x → tableNumbers ≤ length lent → jobAnswer s lent tally ≡ afterJob x tally → afterJob x tally .number ≡ 0 → Answered
       go (refuses n part at) e d l a h = absurd (d h)
       go (accepts p) e d l a h = record { parts-are = p; long = l; leads = e; answers = a }
 

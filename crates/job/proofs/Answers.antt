@@ -1,16 +1,16 @@
 -- What reading a job comes to, from what the readers of its parts answer.
 use Prim.Native.Nat.{ℕ, _+_, _-_, _≤_, _<_}
-use mathlib.Core.Path.{_≡_, refl, sym, _∙_, ap}
+use mathlib.Core.Path.{_≡_, refl, _∙_, ap}
 use mathlib.Core.List.{List}
-use native.Mathlib.Nat.{zero-add}
 use native.Mathlib.Omega.{arith}
 use lib.IntN.{ℤ, natAbs}
 use lib.ListN.{length, take, drop, length-drop}
 use lib.Seq.{take-length}
 use borrow.Author.Tests.{lt-ltb, le-ltb}
-use Rattle.wire.specs.Part.{Reading, refused, accepted}
+use Rattle.wire.specs.Part.{Reading, accepted}
 use Rattle.wire.specs.Rows.{Progress}
-use Rattle.wire.proofs.Part.{NumberedReading, readPart-numbered}
+use Rattle.wire.proofs.Part.{readPart-numbered}
+use Rattle.wire.proofs.Outcome.{told-position, told-refused, told-accepted, told-read}
 use Rattle.register.specs.declared.Register.{Register}
 use Rattle.register.specs.declared.RegisterRead.{RegisterRead}
 use Rattle.register.specs.Register.{coefficient}
@@ -18,44 +18,31 @@ use Rattle.register.specs.Format.{registerPart, registerInJob}
 use Rattle.register.specs.Valid as R
 use Rattle.register.specs.Answer.{registerRead}
 use Rattle.register.proofs.Accept as RegisterAccept
+use Rattle.register.proofs.Answers.{register-tells, register-went}
 use Rattle.scheme.specs.declared.Scheme.{Scheme}
 use Rattle.scheme.specs.declared.SchemeRead.{SchemeRead}
 use Rattle.scheme.specs.Format.{schemePart, schemeInJob}
 use Rattle.scheme.specs.Valid as S
 use Rattle.scheme.specs.Answer.{schemeRead}
 use Rattle.scheme.proofs.Accept as SchemeAccept
-use Rattle.certificate.specs.declared.CheckRead.{CheckRead}
+use Rattle.scheme.proofs.Answers.{scheme-tells}
+use Rattle.bound.specs.declared.CheckRead.{CheckRead}
 use Rattle.certificate.specs.Limits.{maxTarget}
 use Rattle.certificate.specs.Certificate.{Certificate}
-use Rattle.certificate.specs.Residual.{bound}
-use Rattle.certificate.specs.Format.{certificateInJob}
-use Rattle.certificate.specs.Check.{checkRead}
-use Rattle.certificate.proofs.Accept as CertificateAccept
-use Rattle.certificate.proofs.Answers.{job-numbered}
+use Rattle.bound.specs.Bound.{bound}
+use Rattle.bound.specs.Format.{certificateInJob}
+use Rattle.bound.specs.Check.{checkRead}
+use Rattle.bound.proofs.Accept as CertificateAccept
+use Rattle.bound.proofs.Answers.{check-tells, job-numbered}
 use Rattle.plan.specs.declared.PlanRead.{PlanRead}
 use Rattle.plan.specs.Format.{planPart, planInJob}
 use Rattle.plan.specs.Answer.{planRead}
-use Rattle.job.specs.Outcome.{follow, outcome, fromPlan, fromCertificate, fromScheme, tableAfter, tableFromScheme, tableFromCertificate}
+use Rattle.plan.proofs.Answers.{plan-tells}
+use Rattle.job.specs.Outcome.{outcome, tableAfter, tableFromCertificate}
+use Rattle.job.specs.Rest.{fromPlan, fromCertificate, fromScheme, tableFromScheme}
 use Rattle.job.specs.Answer.{refusedRead, acceptedRead, jobRead}
-use Rattle.job.proofs.Positions.{numberOf, positionOf, is-refused, is-accepted, part-within, certificate-within}
-use Rattle.job.proofs.Bounds.{bound-small}
-
--- ---- a reader's number and position
-
--- where an answer gives the number and position of each reading, they are those of the reading that it answers
-shown : {S A : Type 0} (answer : Reading S → A) (number position : A → ℕ) →
-    ((n at : ℕ) → (number (answer (refused n at)) ≡ n) × (position (answer (refused n at)) ≡ at)) →
-    ((p : S) (end : ℕ) → (number (answer (accepted p end)) ≡ 0) × (position (answer (accepted p end)) ≡ end)) →
-    (part : A) (x : Reading S) → part ≡ answer x → (number part ≡ numberOf x) × (position part ≡ positionOf x)
-shown answer number position h k part (refused n at) e = (ap number e ∙ h n at .0, ap position e ∙ h n at .1)
-shown answer number position h k part (accepted p end) e = (ap number e ∙ k p end .0, ap position e ∙ k p end .1)
-
-module _ {S : Type 0} (x : Reading S) (number position : ℕ) (e : (number ≡ numberOf x) × (position ≡ positionOf x)) where
-  pub stopped : (number ≡ 0 → ⊥) → x ≡ refused number position
-  stopped h = is-refused x (λ d. h (e .0 ∙ d)) ∙ rw (e .0, e .1)
-
-  pub went : NumberedReading x → number ≡ 0 → (read : S) × (x ≡ accepted read position)
-  went d h = let (read, q) = is-accepted x d (sym (e .0) ∙ h) in (read, q ∙ rw (e .1))
+use Rattle.job.proofs.Positions.{part-within, certificate-within}
+use Rattle.bound.proofs.Bound.{bound-small}
 
 -- what a reader says of the part `&s[from..]`, said of the rest of the list
 pub of-rest : {A : Type 0} (s : List ℕ) (from : ℕ) (f : List ℕ → A) {a : A} → a ≡ f (take (length s - from) (drop from s)) → a ≡ f (drop from s)
@@ -68,39 +55,29 @@ further s from position l h = omega (arith, length-drop from s)
 -- ---- the plan
 
 module _ (s : List ℕ) (reg : Register) (from : ℕ) (part : PlanRead) (e : part ≡ planRead (planInJob reg (drop from s))) where
-  plan-shown : (part .number ≡ numberOf (planInJob reg (drop from s))) × (part .position ≡ positionOf (planInJob reg (drop from s)))
-  plan-shown = shown planRead (λ r. r .number) (λ r. r .position) (λ n at. (refl, refl)) (λ p end. (refl, refl)) part (planInJob reg (drop from s)) e
+  abbrev fourth : Reading (Progress ℕ)
+  fourth = planInJob reg (drop from s)
 
   pub plan-within : from ≤ length s → from + part .position ≤ length s
   unfolding planInJob
-  plan-within l = further s from (part .position) l (rw (plan-shown .1) (part-within (planPart reg) (drop from s)))
+  plan-within l = further s from (part .position) l (rw (told-position planRead _ _ plan-tells part fourth e) (part-within (planPart reg) (drop from s)))
 
   module _ (sch : Scheme) (cert : Certificate) where
     pub plan-refused : (part .number ≡ 0 → ⊥) → refusedRead (part .number) 4 (from + part .position) ≡ jobRead (fromPlan s reg sch cert from)
-    unfolding follow
-    plan-refused h = rw (stopped (planInJob reg (drop from s)) _ _ plan-shown h)
+    plan-refused h = rw (told-refused planRead _ _ plan-tells part fourth e h)
 
   -- where it is not refused
   module _ (h : part .number ≡ 0) where
-    plan-went : (read : Progress ℕ) × (planInJob reg (drop from s) ≡ accepted read (part .position))
+    plan-went : (previous : ℕ) × (fourth ≡ accepted (record { previous = previous; parsed = part .plan }) (part .position))
     unfolding planInJob
-    plan-went = went (planInJob reg (drop from s)) _ _ plan-shown (readPart-numbered (planPart reg) (drop from s)) h
-
-    plan-read : part .plan ≡ plan-went .0 .parsed
-    plan-read = ap (λ (r : PlanRead). r .plan) (e ∙ ap planRead (plan-went .1))
+    plan-went = told-read planRead _ _ (λ r. r .plan) plan-tells (λ p end. refl) part fourth e (readPart-numbered (planPart reg) (drop from s)) h
 
     module _ (sch : Scheme) (cert : Certificate) where
       pub plan-past : from + part .position < length s → refusedRead 12 4 (from + part .position) ≡ jobRead (fromPlan s reg sch cert from)
-      unfolding follow
       plan-past l = rw (plan-went .1, lt-ltb (from + part .position) (length s) l)
 
       pub plan-last : length s ≤ from + part .position → (b : ℤ) → b ≡ bound cert → acceptedRead reg (part .plan) b ≡ jobRead (fromPlan s reg sch cert from)
-      unfolding follow
-      plan-last l b d = go (plan-went .0) (plan-went .1) plan-read
-        where
-          go : (read : Progress ℕ) → planInJob reg (drop from s) ≡ accepted read (part .position) → part .plan ≡ read .parsed →
-              acceptedRead reg (part .plan) b ≡ jobRead (fromPlan s reg sch cert from)
-          go read q g = rw (q, le-ltb (from + part .position) (length s) l, g, d)
+      plan-last l b d = rw (plan-went .1, le-ltb (from + part .position) (length s) l, d)
 
 -- ---- the certificate
 
@@ -108,20 +85,16 @@ module _ (s : List ℕ) (reg : Register) (sch : Scheme) (from : ℕ) (part : Che
   abbrev third : Reading (Progress Certificate)
   third = certificateInJob (coefficient reg) reg sch (drop from s)
 
-  certificate-shown : (part .number ≡ numberOf third) × (part .position ≡ positionOf third)
-  certificate-shown = shown checkRead (λ r. r .number) (λ r. r .position) (λ n at. (refl, refl)) (λ p end. (refl, refl)) part third e
-
   pub certificate-position : from ≤ length s → from + part .position ≤ length s
   certificate-position l =
-      further s from (part .position) l (rw (certificate-shown .1) (certificate-within (coefficient reg) reg sch (drop from s)))
+      further s from (part .position) l (rw (told-position checkRead _ _ check-tells part third e) (certificate-within (coefficient reg) reg sch (drop from s)))
 
   pub certificate-refused : (part .number ≡ 0 → ⊥) → refusedRead (part .number) 3 (from + part .position) ≡ jobRead (fromCertificate s reg sch from)
-  unfolding follow
-  certificate-refused h = rw (stopped third _ _ certificate-shown h)
+  certificate-refused h = rw (told-refused checkRead _ _ check-tells part third e h)
 
   module _ (h : part .number ≡ 0) where
     pub certificate-went : (read : Progress Certificate) × (third ≡ accepted read (part .position))
-    certificate-went = went third _ _ certificate-shown (job-numbered (coefficient reg) reg sch (drop from s)) h
+    certificate-went = told-accepted checkRead _ _ check-tells part third e (job-numbered (coefficient reg) reg sch (drop from s)) h
 
     abbrev pub certificateOf : Certificate
     certificateOf = certificate-went .0 .parsed
@@ -135,7 +108,6 @@ module _ (s : List ℕ) (reg : Register) (sch : Scheme) (from : ℕ) (part : Che
         rw bound-is (bound-small certificateOf (v .within .scale-above) (v .within .target-within))
 
     pub then-plan : jobRead (fromPlan s reg sch certificateOf (from + part .position)) ≡ jobRead (fromCertificate s reg sch from)
-    unfolding follow
     then-plan = rw (certificate-went .1)
 
 -- ---- the scheme
@@ -144,82 +116,48 @@ module _ (s : List ℕ) (reg : Register) (from : ℕ) (part : SchemeRead) (e : p
   abbrev second : Reading (Progress Scheme)
   second = schemeInJob reg (drop from s)
 
-  scheme-shown : (part .number ≡ numberOf second) × (part .position ≡ positionOf second)
-  scheme-shown = shown schemeRead (λ r. r .number) (λ r. r .position) (λ n at. (refl, refl)) (λ p end. (refl, refl)) part second e
-
   pub scheme-position : from ≤ length s → from + part .position ≤ length s
   unfolding schemeInJob
-  scheme-position l = further s from (part .position) l (rw (scheme-shown .1) (part-within (schemePart reg) (drop from s)))
+  scheme-position l = further s from (part .position) l (rw (told-position schemeRead _ _ scheme-tells part second e) (part-within (schemePart reg) (drop from s)))
 
   pub scheme-refused : (part .number ≡ 0 → ⊥) → (lent : List ℤ) →
       (refusedRead (part .number) 2 (from + part .position) ≡ jobRead (fromScheme s reg from)) × (lent ≡ tableFromScheme s reg from lent)
-  unfolding follow
-  scheme-refused h lent = let q = stopped second _ _ scheme-shown h in (rw q, rw q)
+  scheme-refused h lent = let q = told-refused schemeRead _ _ scheme-tells part second e h in (rw q, rw q)
 
   module _ (h : part .number ≡ 0) where
-    scheme-went : (read : Progress Scheme) × (second ≡ accepted read (part .position))
+    scheme-went : (previous : ℕ) × (second ≡ accepted (record { previous = previous; parsed = part .scheme }) (part .position))
     unfolding schemeInJob
-    scheme-went = went second _ _ scheme-shown (readPart-numbered (schemePart reg) (drop from s)) h
-
-    scheme-read : part .scheme ≡ scheme-went .0 .parsed
-    scheme-read = ap (λ (r : SchemeRead). r .scheme) (e ∙ ap schemeRead (scheme-went .1))
+    scheme-went = told-read schemeRead _ _ (λ r. r .scheme) scheme-tells (λ p end. refl) part second e (readPart-numbered (schemePart reg) (drop from s)) h
 
     pub scheme-valid : R.Valid reg → S.Valid reg (part .scheme)
-    scheme-valid v = rw scheme-read (SchemeAccept.valid-accepted reg v (drop from s) _ _ (scheme-went .1) .0)
+    scheme-valid v = SchemeAccept.valid-accepted reg v (drop from s) _ _ (scheme-went .1) .0
 
     pub then-certificate : jobRead (fromCertificate s reg (part .scheme) (from + part .position)) ≡ jobRead (fromScheme s reg from)
-    unfolding follow
-    then-certificate = go (scheme-went .0) (scheme-went .1) scheme-read
-      where
-        go : (read : Progress Scheme) → second ≡ accepted read (part .position) → part .scheme ≡ read .parsed →
-            jobRead (fromCertificate s reg (part .scheme) (from + part .position)) ≡ jobRead (fromScheme s reg from)
-        go read q g = rw (q, g)
+    then-certificate = rw (scheme-went .1)
 
     pub then-residual : (lent : List ℤ) → tableFromCertificate s reg (part .scheme) (from + part .position) lent ≡ tableFromScheme s reg from lent
-    then-residual lent = go (scheme-went .0) (scheme-went .1) scheme-read
-      where
-        go : (read : Progress Scheme) → second ≡ accepted read (part .position) → part .scheme ≡ read .parsed →
-            tableFromCertificate s reg (part .scheme) (from + part .position) lent ≡ tableFromScheme s reg from lent
-        go read q g = rw (q, g)
+    then-residual lent = rw (scheme-went .1)
 
 -- ---- the register
 
 module _ (s : List ℕ) (part : RegisterRead) (e : part ≡ registerRead (registerInJob s)) where
-  register-shown : (part .number ≡ numberOf (registerInJob s)) × (part .position ≡ positionOf (registerInJob s))
-  register-shown = shown registerRead (λ r. r .number) (λ r. r .position) (λ n at. (refl, refl)) (λ p end. (refl, refl)) part (registerInJob s) e
-
   pub register-position : part .position ≤ length s
   unfolding registerInJob
-  register-position = rw (register-shown .1) (part-within registerPart s)
+  register-position = rw (told-position registerRead _ _ register-tells part (registerInJob s) e) (part-within registerPart s)
 
   pub register-refused : (part .number ≡ 0 → ⊥) → (lent : List ℤ) →
       (refusedRead (part .number) 1 (part .position) ≡ jobRead (outcome s)) × (lent ≡ tableAfter s lent)
-  unfolding outcome follow tableAfter
-  register-refused h lent = let q = stopped (registerInJob s) _ _ register-shown h in (rw (q, zero-add), rw q)
+  unfolding outcome tableAfter
+  register-refused h lent = let q = told-refused registerRead _ _ register-tells part (registerInJob s) e h in (rw q, rw q)
 
   module _ (h : part .number ≡ 0) where
-    register-went : (read : Progress Register) × (registerInJob s ≡ accepted read (part .position))
-    unfolding registerInJob
-    register-went = went (registerInJob s) _ _ register-shown (readPart-numbered registerPart s) h
-
-    register-read : part .register ≡ register-went .0 .parsed
-    register-read = ap (λ (r : RegisterRead). r .register) (e ∙ ap registerRead (register-went .1))
-
     pub register-valid : R.Valid (part .register)
-    register-valid = rw register-read (RegisterAccept.valid-accepted s _ _ (register-went .1) .0)
+    register-valid = RegisterAccept.valid-accepted s _ _ (register-went s part e h .1) .0
 
     pub then-scheme : jobRead (fromScheme s (part .register) (part .position)) ≡ jobRead (outcome s)
-    unfolding outcome follow
-    then-scheme = go (register-went .0) (register-went .1) register-read
-      where
-        go : (read : Progress Register) → registerInJob s ≡ accepted read (part .position) → part .register ≡ read .parsed →
-            jobRead (fromScheme s (part .register) (part .position)) ≡ jobRead (outcome s)
-        go read q g = rw (q, g, zero-add)
+    unfolding outcome
+    then-scheme = rw (register-went s part e h .1)
 
     pub then-table : (lent : List ℤ) → tableFromScheme s (part .register) (part .position) lent ≡ tableAfter s lent
     unfolding tableAfter
-    then-table lent = go (register-went .0) (register-went .1) register-read
-      where
-        go : (read : Progress Register) → registerInJob s ≡ accepted read (part .position) → part .register ≡ read .parsed →
-            tableFromScheme s (part .register) (part .position) lent ≡ tableAfter s lent
-        go read q g = rw (q, g)
+    then-table lent = rw (register-went s part e h .1)

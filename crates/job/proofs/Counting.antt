@@ -8,9 +8,10 @@ use lib.Dec.{ltb}
 use lib.IntN.{ℤ}
 use lib.ListN.{length}
 use borrow.Author.Tests.{lt-ltb, le-ltb}
+use Rattle.wire.specs.Outcome.{Outcome, refuses, accepts}
 use Rattle.forms.specs.Table.{tableNumbers}
 use Rattle.job.specs.declared.Tally.{Tally}
-use Rattle.job.specs.Outcome.{Outcome, refuses, accepts, outcome}
+use Rattle.job.specs.Outcome.{Parts, outcome}
 use Rattle.job.specs.Tally.{maxCount, raised}
 use Rattle.job.specs.Answer.{refusedAnswer, afterJob, jobAnswer}
 use Rattle.job.specs.Counting.{Counts, Counted, Counting}
@@ -27,7 +28,7 @@ module _ (tally : Tally) where
   of-refused : (number part at : ℕ) → (number ≡ 0 → ⊥) → Counted tally (refusedAnswer number part at tally)
   of-refused number part at n = record { accepted = λ z. absurd (n z); refused = λ _. (raised-counts (tally .refused), refl) }
 
-  of-outcome : (x : Outcome) → Sound x → Counted tally (afterJob x tally)
+  of-outcome : (x : Outcome Parts) → Sound x → Counted tally (afterJob x tally)
   of-outcome (refuses number part at) n = of-refused number part at n
   of-outcome (accepts p) v = record { accepted = λ _. (raised-counts (tally .accepted), refl); refused = λ n. absurd (n refl) }
 

@@ -1,6 +1,5 @@
 -- What the job's call answers; which jobs are accepted; how long a job can be.
 pub mod Positions
-pub mod Bounds
 pub mod Answers
 pub mod Sound
 pub mod Call

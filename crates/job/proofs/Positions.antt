@@ -1,5 +1,4 @@
--- What a part's reader answers of a part that starts in the middle of a job: where its position lies, and what it says of the
--- reading.
+-- Where the position that a part's reader answers lies.
 use Prim.Native.Nat.{ℕ, _-_, _≤_}
 use mathlib.Core.Path.{_≡_, refl}
 use mathlib.Core.Bool.{Bool, true, false, cond}
@@ -9,31 +8,14 @@ use lib.IntN.{ℤ}
 use lib.ListN.{length}
 use Rattle.wire.specs.Part.{Part, Reading, refused, accepted, readPart}
 use Rattle.wire.specs.Rows.{Progress}
-use Rattle.wire.proofs.Part.{NumberedReading, readFrom-end, readFrom-position}
+use Rattle.wire.proofs.Part.{readFrom-end, readFrom-position}
+use Rattle.wire.proofs.Outcome.{positionOf}
 use Rattle.register.specs.declared.Register.{Register}
 use Rattle.scheme.specs.declared.Scheme.{Scheme}
 use Rattle.certificate.specs.Certificate.{Certificate}
-use Rattle.certificate.specs.Residual.{carries}
-use Rattle.certificate.specs.Format.{certificatePart, commandsInJob, dominanceChecked, certificateInJob}
-
--- a reader's number and position, by what reading leads to
-
-abbrev pub numberOf : {S : Type 0} → Reading S → ℕ
-numberOf (refused number at) = number
-numberOf (accepted read end) = 0
-
-abbrev pub positionOf : {S : Type 0} → Reading S → ℕ
-positionOf (refused number at) = at
-positionOf (accepted read end) = end
-
--- a refusal, or what was read
-pub is-refused : {S : Type 0} (x : Reading S) → (numberOf x ≡ 0 → ⊥) → x ≡ refused (numberOf x) (positionOf x)
-is-refused (refused number at) h = refl
-is-refused (accepted read end) h = absurd (h refl)
-
-pub is-accepted : {S : Type 0} (x : Reading S) → NumberedReading x → numberOf x ≡ 0 → (read : S) × (x ≡ accepted read (positionOf x))
-is-accepted (refused number at) d h = absurd (d h)
-is-accepted (accepted read end) d h = (read, refl)
+use Rattle.bound.specs.Bound.{carries}
+use Rattle.certificate.specs.Format.{certificatePart, commandsInJob}
+use Rattle.bound.specs.Format.{dominanceChecked, certificateInJob}
 
 -- the position is within the bytes, or just past them
 

@@ -4,3 +4,5 @@ pub mod Tally
 pub mod Answer
 pub mod Counting
 pub mod Valid
+-- not the paper's: the rest of a job as the code's functions read it
+pub mod Rest

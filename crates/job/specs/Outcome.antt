@@ -1,59 +1,88 @@
--- The four parts of a job after each other, positions from the job's start, and the table after a job.
-use Prim.Native.Nat.{ℕ, _+_}
+-- The parts of a job after each other, positions from the job's start, and the table after a job.
+use Prim.Native.Nat.{ℕ}
 use mathlib.Core.Bool.{cond}
-use mathlib.Core.List.{List}
-use lib.Dec.{ltb}
+use mathlib.Core.List.{List, [], _∷_}
+use lib.Dec.{ltb, eqb}
 use lib.IntN.{ℤ, _-ℤ_}
 use lib.ListN.{length, drop}
-use Rattle.wire.specs.Part.{Reading, refused, accepted}
-use Rattle.wire.specs.Rows.{Progress}
+use Rattle.wire.specs.Part.{Reading}
+use Rattle.wire.specs.Outcome.{Outcome, refuses, accepts, next, andThen, answerBy, startingAt, addedBy}
 use Rattle.register.specs.declared.Register.{Register}
 use Rattle.register.specs.Register.{coefficient}
 use Rattle.register.specs.Format.{registerInJob}
 use Rattle.scheme.specs.declared.Scheme.{Scheme}
+use Rattle.scheme.specs.Scheme as S
 use Rattle.scheme.specs.Format.{schemeInJob}
 use Rattle.certificate.specs.Certificate.{Certificate}
-use Rattle.certificate.specs.Residual.{bound}
-use Rattle.certificate.specs.Format.{commandsInJob, certificateInJob}
-use Rattle.certificate.specs.Check.{withResidual}
+use Rattle.certificate.specs.Certificate as C
+use Rattle.bound.specs.Bound.{bound}
+use Rattle.certificate.specs.Format.{commandsInJob}
+use Rattle.bound.specs.Format.{certificateInJob}
+use Rattle.bound.specs.Check.{withResidual}
 use Rattle.plan.specs.Plan.{cost}
 use Rattle.plan.specs.Format.{planInJob}
 
--- the parts of an accepted job
+-- the parts of a job; a part that is not read yet is empty
 pub record Parts : Type 0 where
   pub register : Register
   pub scheme : Scheme
   pub certificate : Certificate
   pub plan : ℕ
 
--- what a job leads to: a refusal's number, part and position from the job's start, or the parts
-pub data Outcome : Type 0 where
-  refuses : ℕ → ℕ → ℕ → Outcome
-  accepts : Parts → Outcome
+abbrev pub ofRegister : Register → Parts
+ofRegister reg = record { register = reg; scheme = S.fresh; certificate = C.fresh; plan = 0 }
 
--- a part that starts at a position is handed on to that part's reader; the next part starts where it ends
-unfoldable pub follow : {S : Type 0} → ℕ → ℕ → Reading S → (S → ℕ → Outcome) → Outcome
-follow part from (refused number at) rest = refuses number part (from + at)
-follow part from (accepted read end) rest = rest read (from + end)
+abbrev pub withScheme : Parts → Scheme → Parts
+withScheme p sch = record { register = p .register; scheme = sch; certificate = p .certificate; plan = p .plan }
 
--- the parts of a job s, the last first, each from the position where it starts
+abbrev pub withCertificate : Parts → Certificate → Parts
+withCertificate p cert = record { register = p .register; scheme = p .scheme; certificate = cert; plan = p .plan }
 
--- the plan, where the job ends: bytes after it are refused 12
-abbrev pub fromPlan : List ℕ → Register → Scheme → Certificate → ℕ → Outcome
-fromPlan s reg sch cert from =
-    follow 4 from (planInJob reg (drop from s)) λ four end.
-    cond (ltb end (length s)) (refuses 12 4 end)
-    (accepts (record { register = reg; scheme = sch; certificate = cert; plan = four .parsed }))
+abbrev pub withPlan : Parts → ℕ → Parts
+withPlan p plan = record { register = p .register; scheme = p .scheme; certificate = p .certificate; plan = plan }
 
-abbrev pub fromCertificate : List ℕ → Register → Scheme → ℕ → Outcome
-fromCertificate s reg sch from =
-    follow 3 from (certificateInJob (coefficient reg) reg sch (drop from s)) λ three end. fromPlan s reg sch (three .parsed) end
+-- ---- the parts after the register
 
-abbrev pub fromScheme : List ℕ → Register → ℕ → Outcome
-fromScheme s reg from = follow 2 from (schemeInJob reg (drop from s)) λ two end. fromCertificate s reg (two .parsed) end
+-- a part: its number, and how it is read at the front of a run of bytes, with the parts before it
+pub record JobPart : Type 0 where
+  pub number : ℕ
+  pub reads : Parts → List ℕ → Reading Parts
 
-unfoldable pub outcome : List ℕ → Outcome
-outcome s = follow 1 0 (registerInJob s) λ one end. fromScheme s (one .parsed) end
+abbrev pub partTwo : JobPart
+partTwo = record { number = 2; reads = λ p s. addedBy (withScheme p) (schemeInJob (p .register) s) }
+
+abbrev pub partThree : JobPart
+partThree = record { number = 3; reads = λ p s. addedBy (withCertificate p) (certificateInJob (coefficient (p .register)) (p .register) (p .scheme) s) }
+
+abbrev pub partFour : JobPart
+partFour = record { number = 4; reads = λ p s. addedBy (withPlan p) (planInJob (p .register) s) }
+
+-- their order, the same for every register
+abbrev pub order : Register → List JobPart
+order reg = partTwo ∷ partThree ∷ partFour ∷ []
+
+-- ---- a job
+
+-- parts of a job s after each other: each is read with the parts before it, and the next starts where it ends
+abbrev pub inTurn : List JobPart → List ℕ → Parts → ℕ → Outcome (Parts × ℕ)
+inTurn [] s p from = accepts (p, from)
+inTurn (k ∷ ks) s p from = next (k .number) (startingAt from (k .reads p (drop from s))) (inTurn ks s)
+
+-- the number of the last part, n where there are none
+abbrev pub lastOf : ℕ → List JobPart → ℕ
+lastOf n [] = n
+lastOf n (k ∷ ks) = lastOf (k .number) ks
+
+-- bytes after the last part are refused 12
+abbrev pub ended : ℕ → List ℕ → Parts × ℕ → Outcome Parts
+ended last s (p, end) = cond (ltb end (length s)) (refuses 12 last end) (accepts p)
+
+-- part 1, and then the others in their order: a refusal's number, part and position from the job's start, or the parts
+unfoldable pub outcome : List ℕ → Outcome Parts
+outcome s =
+    next 1 (registerInJob s) λ one end.
+    let reg = one .parsed in
+    andThen (inTurn (order reg) s (ofRegister reg) end) (ended (lastOf 1 (order reg)) s)
 
 -- the bound, the cost of the plan, and the gap
 
@@ -67,21 +96,20 @@ costOf p = cost (coefficient (p .register)) (p .register) (p .plan)
 abbrev pub gapOf : Parts → ℤ
 gapOf p = costOf p -ℤ boundOf p
 
--- the table after a job: R once the certificate's commands are read to their end, whatever follows; else unchanged
+-- ---- the table after a job: R once the certificate's commands are read to their end, whatever follows; else unchanged
 
+-- the parts before the one with a number
+abbrev pub before : ℕ → List JobPart → List JobPart
+before n [] = []
+before n (k ∷ ks) = cond (eqb (k .number) n) [] (k ∷ before n ks)
+
+-- once parts 1 and 2 are read, and part 3 starts at a position
 abbrev pub tableFromCertificate : List ℕ → Register → Scheme → ℕ → List ℤ → List ℤ
 tableFromCertificate s reg sch from lent = withResidual reg sch (commandsInJob reg sch (drop from s)) lent
 
-abbrev pub tableAfterScheme : List ℕ → Register → ℕ → Reading (Progress Scheme) → List ℤ → List ℤ
-tableAfterScheme s reg from (refused number at) lent = lent
-tableAfterScheme s reg from (accepted p end) lent = tableFromCertificate s reg (p .parsed) (from + end) lent
-
-abbrev pub tableFromScheme : List ℕ → Register → ℕ → List ℤ → List ℤ
-tableFromScheme s reg from lent = tableAfterScheme s reg from (schemeInJob reg (drop from s)) lent
-
-abbrev pub tableAfterRegister : List ℕ → Reading (Progress Register) → List ℤ → List ℤ
-tableAfterRegister s (refused number at) lent = lent
-tableAfterRegister s (accepted p end) lent = tableFromScheme s (p .parsed) end lent
+-- by what the parts before part 3 lead to
+abbrev pub tableBy : List ℕ → List ℤ → Outcome (Parts × ℕ) → List ℤ
+tableBy s lent x = answerBy (λ number part at. lent) (λ (p, from). tableFromCertificate s (p .register) (p .scheme) from lent) x
 
 unfoldable pub tableAfter : List ℕ → List ℤ → List ℤ
-tableAfter s lent = tableAfterRegister s (registerInJob s) lent
+tableAfter s lent = tableBy s lent (next 1 (registerInJob s) λ one end. let reg = one .parsed in inTurn (before 3 (order reg)) s (ofRegister reg) end)

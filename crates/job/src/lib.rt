@@ -1,5 +1,5 @@
 // The whole job: its four parts after each other, each handed on to that part's reader, and the tally.
-use certificate::check::check_certificate;
+use bound::check::check_certificate;
 use forms::WorkingTable;
 use plan::cost_of;
 use plan::read_plan;
@@ -16,9 +16,10 @@ ghost use Rattle.register.specs.Valid.{Within, Valid as RegisterValid};
 ghost use Rattle.scheme.specs.Valid.{Valid as SchemeValid};
 ghost use Rattle.certificate.specs.Limits.{maxTarget};
 ghost use Rattle.certificate.specs.Certificate.{Certificate};
-ghost use Rattle.certificate.specs.Residual.{bound as boundIn};
+ghost use Rattle.bound.specs.Bound.{bound as boundIn};
 ghost use Rattle.job.specs.Tally.{raised as oneMore, withAccepted, withRefused};
-ghost use Rattle.job.specs.Outcome.{outcome, fromScheme, fromCertificate, fromPlan, tableAfter, tableFromScheme, tableFromCertificate};
+ghost use Rattle.job.specs.Outcome.{outcome, tableAfter, tableFromCertificate};
+ghost use Rattle.job.specs.Rest.{fromScheme, fromCertificate, fromPlan, tableFromScheme};
 ghost use Rattle.job.specs.Answer.{refusedRead, acceptedRead, jobRead, refusedAnswer, jobAnswer, jobTable};
 
 // Accepted and refused jobs so far.

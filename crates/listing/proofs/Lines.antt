@@ -5,14 +5,13 @@ use native.Mathlib.Omega.{arith}
 use mathlib.Core.Path.{_≡_, refl, sym, ap, ap₂, _∙_, subst}
 use mathlib.Core.Logic.{_↔_, ⊎-elim}
 use mathlib.Core.Bool.{Bool, true, false, cond, true≢false}
-use mathlib.Core.List.{List, [], _∷_, _++_, append-nil}
+use mathlib.Core.List.{List, [], _∷_, _++_}
 use lib.Dec.{ltb}
 use lib.IntN.{ℤ, pos, natAbs}
 use lib.ListN.{length, getD, drop}
-use lib.Pow.{pow-mono}
 use borrow.Author.Tests.{ltb-true, ltb-false}
 use Rattle.integers.specs.Lists.{All, joinBelow}
-use Rattle.integers.proofs.Lists.{flag, All-append, All-join}
+use Rattle.integers.proofs.Lists.{flag, cond-cases, All-append, All-join}
 use Rattle.integers.proofs.Join.{join-cong, length-join, getD-join}
 use Rattle.integers.proofs.Entries.{below-or-last}
 use Rattle.sets.specs.Sets.{isMember}
@@ -21,14 +20,14 @@ use Rattle.register.specs.declared.Register.{Register}
 use Rattle.register.specs.Limits.{maxMinute}
 use Rattle.register.specs.Register.{tank, minute}
 use Rattle.register.specs.Valid.{Valid}
-use Rattle.register.specs.Encoding.{encodeRegister}
-use Rattle.register.proofs.Accept.{encode-determines}
-use Rattle.plan.specs.Encoding.{encodePlan}
-use Rattle.wire.specs.Number.{Bytes, bytesOf, natAt}
-use Rattle.wire.proofs.Number.{natAt-front}
-use Rattle.job.specs.Valid.{Valid as JobValid}
+use Rattle.register.specs.Encoding as RE
+use Rattle.register.proofs.Accept.{encodes-determines}
+use Rattle.plan.specs.Encoding as PE
+use Rattle.plan.proofs.Accept.{plan-determines}
+use Rattle.wire.specs.Number.{Bytes}
+use Rattle.wire.specs.Outcome.{accepts}
 use Rattle.job.proofs.Accept.{accepted-iff}
-use Rattle.job.specs.Outcome.{Parts, accepts, outcome}
+use Rattle.job.specs.Outcome.{Parts, outcome}
 use Rattle.listing.specs.Listing.{choiceLine, choiceLines, fedLine, fedLines, planLines}
 use Rattle.listing.specs.Same.{SamePlan}
 use Rattle.job.proofs.Sound.{accepted-valid}
@@ -65,11 +64,9 @@ choice-lines r = texts-join (r .choices) (λ i. choice r i ∷ []) ∙ join-cong
 
 fed-lines : (r : Register) (plan : ℕ) → texts (feeds r plan) ≡ fedLines r plan
 unfolding fedLines
-fed-lines r plan = texts-join (r .choices) (λ i. cond (isMember i plan) (feed r i ∷ []) []) ∙ join-cong (r .choices) _ _ (λ i l. one (isMember i plan) (tank r i) (minute r i))
-  where
-    one : (b : Bool) (t m : ℕ) → texts (cond b ((0x46, pos t ∷ pos m ∷ []) ∷ []) []) ≡ cond b (fedLine t m) []
-    one true t m = texts-one 0x46 (pos t ∷ pos m ∷ [])
-    one false t m = texts-none
+fed-lines r plan =
+    texts-join (r .choices) (λ i. cond (isMember i plan) (feed r i ∷ []) [])
+    ∙ join-cong (r .choices) _ _ (λ i l. flag (isMember i plan) (λ e. rw e (texts-one 0x46 (pos (tank r i) ∷ pos (minute r i) ∷ []))) (λ e. rw e texts-none))
 
 plan-lines : (r : Register) (plan : ℕ) → texts (choices r ++ feeds r plan) ≡ planLines r plan
 plan-lines r plan = texts-append (choices r) (feeds r plan) ∙ ap₂ _++_ (choice-lines r) (fed-lines r plan)
@@ -93,11 +90,7 @@ choices-have : (r : Register) → All (Has 0x54) (choices r)
 choices-have r = All-join (Has 0x54) (r .choices) _ (λ i l. (refl, tt))
 
 feeds-have : (r : Register) (plan : ℕ) → All (Has 0x46) (feeds r plan)
-feeds-have r plan = All-join (Has 0x46) (r .choices) _ (λ i l. one (isMember i plan) (feed r i) refl)
-  where
-    one : (b : Bool) (x : Line) → Has 0x46 x → All (Has 0x46) (cond b (x ∷ []) [])
-    one true x h = (h, tt)
-    one false x h = tt
+feeds-have r plan = All-join (Has 0x46) (r .choices) _ (λ i l. cond-cases (All (Has 0x46)) (isMember i plan) (feed r i ∷ []) [] (λ _. (refl, tt)) (λ _. tt))
 
 -- ---- the choices of equal `T` lines
 
@@ -123,9 +116,9 @@ module _ (r : Register) (v : Valid r) where
   next : (i : ℕ) → suc i < r .choices → place i < place (suc i)
   next i l =
       ⊎-elim
-      (λ (h : tank r i < tank r (suc i)). omega (arith, v .within .choices i (omega arith) .minute-within))
+      (λ (h : tank r i < tank r (suc i)). omega (arith, v .within .choices .each i (omega arith) .minute-within))
       (λ h. omega (arith, h .0, h .1))
-      (v .within .choices-rise i l)
+      (v .within .choices .rise i l)
 
   rises : (j i : ℕ) → i < j → j < r .choices → place i < place j
   rises zero i l h = absurd (omega arith)
@@ -219,14 +212,10 @@ unfolding choiceLines fedLines
 lines-without r plan =
     All-append Other (choiceLines r) (fedLines r plan)
     (All-join Other (r .choices) _ (λ i l. line-without 0x42 0x54 (pos i ∷ pos (tank r i) ∷ pos (minute r i) ∷ []) (omega arith) (λ e. omega arith)))
-    (All-join Other (r .choices) _ (λ i l. one (isMember i plan) (tank r i) (minute r i)))
+    (All-join Other (r .choices) _ (λ i l. cond-cases (All Other) (isMember i plan) (fedLine (tank r i) (minute r i)) [] (λ _. line-without 0x42 0x46 _ (omega arith) (λ e. omega arith)) (λ _. tt)))
   where
     Other : ℕ → Type 0
     Other b = b ≡ 0x42 → ⊥
-
-    one : (b : Bool) (t m : ℕ) → All Other (cond b (fedLine t m) [])
-    one true t m = line-without 0x42 0x46 (pos t ∷ pos m ∷ []) (omega arith) (λ e. omega arith)
-    one false t m = tt
 
 -- "Whoever wrote the scheme and the certificate, the same register and plan give the same lines": the `T` and `F` lines of two
 -- accepted jobs are equal just where both jobs have the same choices and feed the same ones.
@@ -244,17 +233,11 @@ pub same-parts : (p p′ : Parts) → p .register ≡ p′ .register → p .plan
 same-parts p p′ e f = ap₂ planLines e f
 
 -- two accepted jobs with the same bytes of part 1 and the same bytes of part 4
-pub same-bytes : (s s′ : List ℕ) (p p′ : Parts) → Bytes s → Bytes s′ → outcome s ≡ accepts p → outcome s′ ≡ accepts p′ →
-    encodeRegister (p .register) ≡ encodeRegister (p′ .register) → encodePlan (p .plan) ≡ encodePlan (p′ .plan) →
+pub same-bytes : (s s′ one four : List ℕ) (p p′ : Parts) → Bytes s → Bytes s′ → outcome s ≡ accepts p → outcome s′ ≡ accepts p′ →
+    RE.Encodes (p .register) one → RE.Encodes (p′ .register) one → PE.Encodes (p .register) (p .plan) four → PE.Encodes (p′ .register) (p′ .plan) four →
     planLines (p .register) (p .plan) ≡ planLines (p′ .register) (p′ .plan)
-unfolding encodePlan
-same-bytes s s′ p p′ b b′ e e′ one four =
+same-bytes s s′ one four p p′ b b′ e e′ x x′ y y′ =
     let v = accepted-iff s p b .0 e .0 in
     let v′ = accepted-iff s′ p′ b′ .0 e′ .0 in
-    same-parts p p′ (encode-determines (p .register) (p′ .register) (v .register) (v′ .register) one)
-    (sym (plan-of p v) ∙ ap (λ t. natAt 4 t 1) four ∙ plan-of p′ v′)
-  where
-    plan-of : (p : Parts) → JobValid p → natAt 4 (encodePlan (p .plan)) 1 ≡ p .plan
-    plan-of p v =
-        natAt-front 4 (0x40 ∷ bytesOf 4 (p .plan)) 1 (p .plan) [] (sym (append-nil (bytesOf 4 (p .plan))))
-        (omega (arith, v .plan, pow-mono (v .register .within .choices-within)))
+    let same : p .register ≡ p′ .register = encodes-determines (p .register) (p′ .register) one (v .register) (v′ .register) x x′ in
+    same-parts p p′ same (plan-determines (p′ .register) (v′ .register .within .choices .few) (p .plan) (p′ .plan) four (rw same at (v .plan)) (v′ .plan) (rw same at y) y′)

@@ -1,18 +1,28 @@
 -- What the listing call answers, and the table and the buffer after it.
-use Prim.Native.Nat.{ℕ}
+use Prim.Native.Nat.{ℕ, _+_, _*_, _-_, _^_}
 use mathlib.Core.Bool.{cond}
 use mathlib.Core.List.{List}
 use lib.Dec.{ltb, eqb}
-use lib.IntN.{ℤ}
+use lib.IntN.{ℤ, negsuc}
 use lib.ListN.{length}
 use Rattle.wire.specs.declared.WriterAnswer.{WriterAnswer}
 use Rattle.wire.specs.Writer.{refusedAnswer, bytesAnswer, withFront}
 use Rattle.forms.specs.Table.{tableNumbers}
+use Rattle.register.specs.Limits.{maxChoices, maxTank, maxMinute}
 use Rattle.job.specs.declared.JobRead.{JobRead}
 use Rattle.job.specs.Outcome.{outcome, tableAfter}
-use Rattle.listing.specs.Listing.{acceptedLines, refusalLine, listing}
+use Rattle.listing.specs.Listing.{choiceLine, fedLine, boundLine, acceptedLines, refusalLine, listing}
 
--- a buffer of so many bytes is enough for every listing: 32 lines `T`, 32 lines `F` and a line `B` of numbers of 64 bits
+-- no listing has more bytes: a `T` and an `F` line of the highest numbers for each choice, and a `B` line of −2^63, the longest
+-- number of 64 bits
+
+abbrev pub longestNumber : ℤ
+longestNumber = negsuc (2 ^ 63 - 1)
+
+unfoldable pub longestListing : ℕ
+longestListing = maxChoices * (length (choiceLine maxChoices maxTank maxMinute) + length (fedLine maxTank maxMinute)) + length (boundLine longestNumber longestNumber longestNumber)
+
+-- so a buffer of so many bytes is enough (`longest-fits` in proofs/Lengths)
 abbrev pub listingRoom : ℕ
 listingRoom = 4_096
 

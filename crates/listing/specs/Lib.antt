@@ -2,3 +2,5 @@
 pub mod Listing
 pub mod Answer
 pub mod Same
+-- not the paper's: the lines of choices as the code writes them
+pub mod ByLetter

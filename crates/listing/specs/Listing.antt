@@ -6,9 +6,10 @@ use lib.IntN.{ℤ, pos}
 use Rattle.integers.specs.Lists.{joinBelow}
 use Rattle.sets.specs.Sets.{isMember}
 use Rattle.text.specs.Text.{line}
+use Rattle.wire.specs.Outcome.{Outcome, refuses, accepts}
 use Rattle.register.specs.declared.Register.{Register}
 use Rattle.register.specs.Register.{tank, minute}
-use Rattle.job.specs.Outcome.{Outcome, refuses, accepts, boundOf, costOf, gapOf}
+use Rattle.job.specs.Outcome.{Parts, boundOf, costOf, gapOf}
 
 -- T: choice, tank, minute, each choice
 
@@ -41,6 +42,6 @@ acceptedLines r plan bound cost gap = planLines r plan ++ boundLine bound cost g
 abbrev pub refusalLine : ℕ → ℕ → List ℕ
 refusalLine number at = line 0x52 (pos number ∷ pos at ∷ [])
 
-unfoldable pub listing : Outcome → List ℕ
+unfoldable pub listing : Outcome Parts → List ℕ
 listing (refuses number part at) = refusalLine number at
 listing (accepts p) = acceptedLines (p .register) (p .plan) (boundOf p) (costOf p) (gapOf p)

@@ -5,16 +5,16 @@ use job::read_job;
 use register::Register;
 use wire::WriterAnswer;
 ghost use mathlib.Core.Path.{_≡_};
-ghost use mathlib.Core.Bool.{cond};
-ghost use mathlib.Core.List.{[], _++_};
-ghost use Prim.Native.Nat.{_+_, _≤_};
+ghost use mathlib.Core.List.{_++_};
+ghost use Prim.Native.Nat.{_+_, _^_, _≤_, _<_};
 ghost use lib.ListN.{length, take, drop};
 ghost use Rattle.job.specs.Outcome.{outcome};
 ghost use Rattle.register.specs.Limits.{maxChoices};
 ghost use Rattle.register.specs.Valid.{Within};
 ghost use Rattle.wire.specs.Number.{written};
 ghost use Rattle.wire.specs.Writer.{bytesAnswer, withFront};
-ghost use Rattle.listing.specs.Listing.{choiceLine, choiceLines, fedLine, fedLines, acceptedLines, listing};
+ghost use Rattle.listing.specs.Listing.{acceptedLines, listing};
+ghost use Rattle.listing.specs.ByLetter.{lineUnder, linesUnder};
 ghost use Rattle.listing.specs.Answer.{listingRoom, linesOf, listingAnswer, listingTable, listingBuffer};
 
 // The listing of a job.
@@ -25,56 +25,52 @@ impl Listing {
     pub const MAX_BYTES: usize = 4096;
 }
 
-// Writes the `T` line of a choice. Returns the position after it.
-fn put_choice_line(out: &mut [u8], at: usize, choice: usize, tank: u16, minute: u16) -> usize
+// Writes the line of a choice under a letter: `T`, or `F` where it is fed. Returns the position after it.
+fn put_choice(
+    out: &mut [u8],
+    at: usize,
+    letter: u8,
+    fed: bool,
+    choice: usize,
+    tank: u16,
+    minute: u16,
+) -> usize
     requires { ⌜ choice ≤ maxChoices ⌝ }
-    requires { ⌜ at + length (choiceLine choice tank minute) ≤ length (now out) ⌝ }
-    ensures { λ r. ⌜ r ≡ at + length (choiceLine choice tank minute) ⌝ }
-    ensures { λ _. ⌜ now (out .exit) ≡ written (now (out .entry)) at (choiceLine choice tank minute) ⌝ }
+    requires { ⌜ at + length (lineUnder letter fed choice tank minute) ≤ length (now out) ⌝ }
+    ensures { λ r. ⌜ r ≡ at + length (lineUnder letter fed choice tank minute) ⌝ }
+    ensures { λ _. ⌜ now (out .exit) ≡ written (now (out .entry)) at (lineUnder letter fed choice tank minute) ⌝ }
 {
-    text::put_triple(out, at, 0x54, choice as i64, tank as i64, minute as i64)
-}
-
-// Writes the `T` line of each choice. Returns the position after them.
-fn put_choice_lines(register: Register, out: &mut [u8], start: usize) -> usize
-    requires { ⌜ register .choices ≤ maxChoices ⌝ }
-    requires { ⌜ start + length (choiceLines register) ≤ length (now out) ⌝ }
-    ensures { λ r. ⌜ r ≡ start + length (choiceLines register) ⌝ }
-    ensures { λ _. ⌜ now (out .exit) ≡ written (now (out .entry)) start (choiceLines register) ⌝ }
-{
-    let mut at = start;
-    let mut i = 0;
-    while i < register.choices {
-        at = put_choice_line(out, at, i, register.tanks[i], register.minutes[i]);
-        i += 1;
+    if letter == 0x54 {
+        let numbers = [choice as i64, tank as i64, minute as i64];
+        return text::put_line(out, at, 0x54, &numbers);
     }
-    at
-}
-
-// Writes the `F` line of a choice that is fed, and else nothing. Returns the position after it.
-fn put_fed_line(out: &mut [u8], at: usize, fed: bool, tank: u16, minute: u16) -> usize
-    requires { ⌜ at + length (cond fed (fedLine tank minute) []) ≤ length (now out) ⌝ }
-    ensures { λ r. ⌜ r ≡ at + length (cond fed (fedLine tank minute) []) ⌝ }
-    ensures { λ _. ⌜ now (out .exit) ≡ written (now (out .entry)) at (cond fed (fedLine tank minute) []) ⌝ }
-{
     if fed {
-        return text::put_pair(out, at, 0x46, tank as u64, minute as u64);
+        let numbers = [tank as i64, minute as i64];
+        return text::put_line(out, at, 0x46, &numbers);
     }
     at
 }
 
-// Writes the `F` line of each fed choice. Returns the position after them.
-fn put_fed_lines(register: Register, plan: u32, out: &mut [u8], start: usize) -> usize
+// Writes the line of each choice under a letter. Returns the position after them.
+fn put_choices(register: Register, plan: u32, letter: u8, out: &mut [u8], start: usize) -> usize
     requires { ⌜ register .choices ≤ maxChoices ⌝ }
-    requires { ⌜ start + length (fedLines register plan) ≤ length (now out) ⌝ }
-    ensures { λ r. ⌜ r ≡ start + length (fedLines register plan) ⌝ }
-    ensures { λ _. ⌜ now (out .exit) ≡ written (now (out .entry)) start (fedLines register plan) ⌝ }
+    requires { ⌜ start + length (linesUnder letter register plan) ≤ length (now out) ⌝ }
+    ensures { λ r. ⌜ r ≡ start + length (linesUnder letter register plan) ⌝ }
+    ensures { λ _. ⌜ now (out .exit) ≡ written (now (out .entry)) start (linesUnder letter register plan) ⌝ }
 {
     let mut at = start;
     let mut i = 0;
     while i < register.choices {
         let fed = (plan >> i) % 2 == 1;
-        at = put_fed_line(out, at, fed, register.tanks[i], register.minutes[i]);
+        at = put_choice(
+            out,
+            at,
+            letter,
+            fed,
+            i,
+            register.tanks[i],
+            register.minutes[i],
+        );
         i += 1;
     }
     at
@@ -94,9 +90,10 @@ fn put_accepted(
     ensures { λ r. ⌜ r ≡ length (acceptedLines register plan bound cost gap) ⌝ }
     ensures { λ _. ⌜ now (out .exit) ≡ written (now (out .entry)) 0 (acceptedLines register plan bound cost gap) ⌝ }
 {
-    let middle = put_choice_lines(register, out, 0);
-    let end = put_fed_lines(register, plan, out, middle);
-    text::put_triple(out, end, 0x42, bound, cost, gap)
+    let middle = put_choices(register, plan, 0x54, out, 0);
+    let end = put_choices(register, plan, 0x46, out, middle);
+    let numbers = [bound, cost, gap];
+    text::put_line(out, end, 0x42, &numbers)
 }
 
 // Copies the first bytes of one run to the front of another.
@@ -115,13 +112,15 @@ fn copy_front(from: &[u8], count: usize, out: &mut [u8])
 // Writes the lines of what reading a job gave at the front. Returns their count of bytes.
 fn put_lines(read: JobRead, out: &mut [u8]) -> usize
     requires { ⌜ read .register .choices ≤ maxChoices ⌝ }
+    requires { ⌜ read .position < 2 ^ 63 ⌝ }
     requires { ⌜ length (linesOf read) ≤ length (now out) ⌝ }
     ensures { λ r. ⌜ r ≡ length (linesOf read) ⌝ }
     ensures { λ _. ⌜ now (out .exit) ≡ written (now (out .entry)) 0 (linesOf read) ⌝ }
 {
     let number = read.number;
     if number != 0 {
-        return text::put_pair(out, 0, 0x52, number as u64, read.position as u64);
+        let numbers = [number as i64, read.position as i64];
+        return text::put_line(out, 0, 0x52, &numbers);
     }
     put_accepted(
         read.register,
@@ -136,6 +135,7 @@ fn put_lines(read: JobRead, out: &mut [u8]) -> usize
 // Writes the lines into the lent buffer, if it is long enough. They are put together in an array of our own first.
 fn write_lines(read: JobRead, buffer: &mut [u8]) -> WriterAnswer
     requires { ⌜ Within (read .register) ⌝ }
+    requires { ⌜ read .position < 2 ^ 63 ⌝ }
     ensures { λ r. ⌜ r ≡ bytesAnswer (linesOf read) (now (buffer .entry)) ⌝ }
     ensures { λ _. ⌜ now (buffer .exit) ≡ withFront (linesOf read) (now (buffer .entry)) ⌝ }
 {

@@ -5,11 +5,12 @@ use mathlib.Core.List.{List}
 use lib.IntN.{ℤ}
 use lib.ListN.{length}
 use borrow.Author.Tests.{lt-ltb, le-ltb}
+use Rattle.wire.specs.Outcome.{refuses}
 use Rattle.forms.specs.Table.{tableNumbers}
 use Rattle.register.specs.declared.Register.{Register}
 use Rattle.scheme.specs.declared.Scheme.{Scheme}
-use Rattle.scheme.specs.declared.SchemeAnswer.{SchemeAnswer}
-use Rattle.scheme.proofs.Opened.{Opened, Refused, in-register, in-scheme}
+use Rattle.scheme.specs.Answer.{openParts}
+use Rattle.scheme.proofs.Opened.{Opened, opens}
 use Rattle.penalty.specs.declared.PenaltyAnswer.{PenaltyAnswer}
 use Rattle.penalty.specs.Answer.{answer, penaltyAnswer, withPenalty, penaltyTable}
 
@@ -26,13 +27,10 @@ short t s lent l = let e = lt-ltb (length lent) tableNumbers l in record { answe
 -- ---- by what the two parts lead to, where the table is long enough
 
 module _ (t s : List ℕ) (lent : List ℤ) (l : tableNumbers ≤ length lent) where
-  pub part-refused : (a : SchemeAnswer) → Refused t s a → Answered t s lent (answer (a .number) (a .part) (a .position)) lent
+  pub part-refused : (n part at : ℕ) → openParts t s ≡ refuses n part at → Answered t s lent (answer n part at) lent
   unfolding penaltyAnswer penaltyTable
-  part-refused a (in-register e p) = let f = le-ltb (length lent) tableNumbers l in record { answers = rw (f, e, p); holds = rw (f, e) }
-  part-refused a (in-scheme q end e d p) = let f = le-ltb (length lent) tableNumbers l in record { answers = rw (f, e, d, p); holds = rw (f, e, d) }
+  part-refused n part at e = let f = le-ltb (length lent) tableNumbers l in record { answers = rw (f, e); holds = rw (f, e) }
 
   pub parts-accepted : (reg : Register) (sch : Scheme) → Opened t s reg sch → Answered t s lent (answer 0 0 0) (withPenalty reg sch lent)
   unfolding penaltyAnswer penaltyTable
-  parts-accepted reg sch o =
-      let f = le-ltb (length lent) tableNumbers l in
-      record { answers = rw (f, o .register-reads, o .scheme-reads) refl; holds = rw (f, o .register-reads, o .scheme-reads) refl }
+  parts-accepted reg sch o = let f = le-ltb (length lent) tableNumbers l in record { answers = rw (f, opens o) refl; holds = rw (f, opens o) refl }

@@ -3,32 +3,27 @@ use mathlib.Core.Path.{_≡_}
 use Prim.Native.Nat.{ℕ, _+_, _*_, _≤_}
 use native.Mathlib.Nat.{mul-le-mul}
 use native.Mathlib.Omega.{arith}
-use lib.IntN.{ℤ, pos}
+use lib.IntN.{pos}
 use Rattle.integers.specs.Lists.{joinBelow}
 use Rattle.forms.specs.Form.{times}
 use Rattle.forms.specs.Table.{tableNumbers}
-use Rattle.forms.proofs.Store.{norm1, norm1-append, norm1-join, norm1-times}
+use Rattle.forms.proofs.Store.{norm1, norm1-join, norm1-times}
 use Rattle.register.specs.declared.Register.{Register}
 use Rattle.register.specs.Limits.{maxCoefficient}
 use Rattle.register.specs.Register.{coefficient}
 use Rattle.register.specs.Valid.{Within}
 use Rattle.scheme.specs.declared.Scheme.{Scheme}
-use Rattle.scheme.specs.Scheme.{maxProducts, left, right, side}
+use Rattle.scheme.specs.Scheme.{left, right, side}
 use Rattle.scheme.specs.Function.{g, maxG}
 use Rattle.scheme.specs.Valid.{Valid}
 use Rattle.penalty.specs.Weights.{weight, maxProductWeight}
-use Rattle.penalty.specs.Penalty.{bracket, bracketOf, penaltyOf, h}
+use Rattle.penalty.specs.Penalty.{bracket, bracketOf, penaltyOf}
 use Rattle.scheme.proofs.Table.{norm1-g}
 use Rattle.penalty.proofs.Weights.{weight-small}
 
 pub norm1-bracket : (k l r : ℕ) → norm1 (bracket k l r) ≤ 16
 unfolding bracket norm1
 norm1-bracket k l r = omega arith
-
--- h is g and the penalties
-pub norm1-h : (c : ℕ → ℤ) (r : Register) (s : Scheme) → norm1 (h c r s) ≡ norm1 (g c r s) + norm1 (joinBelow (s .products) (penaltyOf c r s))
-unfolding h
-norm1-h c r s = norm1-append (g c r s) _
 
 module _ (r : Register) (s : Scheme) (within : Within r) where
   -- the first penalties
@@ -43,10 +38,7 @@ module _ (r : Register) (s : Scheme) (within : Within r) where
           (omega (arith, mul-le-mul (weight-small r s k within) (norm1-bracket k (left (r .choices) s k) (right (r .choices) s k))))
 
   pub g-norm : norm1 (g (coefficient r) r s) ≤ maxG
-  g-norm = omega (arith, norm1-g (coefficient r) r s maxCoefficient (λ t l. within .terms t l .coefficient-within), within .base, within .terms-within)
-
-  pub h-norm : s .products ≤ maxProducts → norm1 (h (coefficient r) r s) ≤ maxG + maxProducts * (16 * maxProductWeight)
-  h-norm l = omega (arith, norm1-h (coefficient r) r s, g-norm, penalties-norm (s .products))
+  g-norm = omega (arith, norm1-g (coefficient r) r s maxCoefficient (λ t l. within .terms .each t l .coefficient-within), within .base, within .terms .few)
 
 -- a weight as the code has it
 pub weight-read-small : (r : Register) (s : Scheme) (k x : ℕ) → Within r → pos x ≡ weight (coefficient r) r s k → x ≤ maxProductWeight
@@ -55,5 +47,5 @@ weight-read-small r s k x within e = rw (← e) at (weight-small r s k within)
 -- a table of side N + 1 is at most 4,225 numbers
 pub side-square : (r : Register) (s : Scheme) → Within r → Valid r s → side (r .choices) s * side (r .choices) s ≤ tableNumbers
 side-square r s within valid =
-    let narrow : side (r .choices) s ≤ 65 = omega (arith, within .choices-within, valid .within .products-within) in
+    let narrow : side (r .choices) s ≤ 65 = omega (arith, within .choices .few, valid .within .products-within) in
     mul-le-mul narrow narrow

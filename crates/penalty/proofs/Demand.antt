@@ -10,24 +10,23 @@ use native.Mathlib.Decide.{decLt}
 use lib.IntN.{ℤ, pos, _*ℤ_}
 use lib.ListN.{length}
 use borrow.Author.Tests.{lt-ltb, le-ltb}
-use Rattle.wire.specs.Part.{Reading, refused, accepted}
-use Rattle.wire.specs.Rows.{Progress}
+use Rattle.wire.specs.Outcome.{Outcome, refuses, accepts, answerBy}
+use Rattle.wire.proofs.Outcome.{Numbered}
 use Rattle.forms.specs.Form.{value, entry}
 use Rattle.forms.specs.Table.{tableNumbers, tableValue}
 use Rattle.forms.proofs.Table.{tableValue-form, withTable-length, withTable-past}
 use Rattle.register.specs.declared.Register.{Register}
 use Rattle.register.specs.Register.{coefficient}
-use Rattle.register.specs.Format.{registerByItself}
 use Rattle.register.specs.Valid as R
 use Rattle.scheme.specs.declared.Scheme.{Scheme}
 use Rattle.scheme.specs.Scheme.{side}
 use Rattle.scheme.specs.Filling.{Filling, factor}
-use Rattle.scheme.specs.Format.{schemeByItself}
+use Rattle.scheme.specs.Answer.{openParts}
 use Rattle.scheme.specs.Valid.{Valid}
-use Rattle.scheme.proofs.Opened.{Opened, opened-by, register-bytes, scheme-bytes}
+use Rattle.scheme.proofs.Opened.{Opened, opened, opening-numbered, register-bytes, scheme-bytes}
 use Rattle.penalty.specs.Penalty.{h}
 use Rattle.penalty.specs.Demand.{Holds, Made}
-use Rattle.penalty.specs.Answer.{answer, afterScheme, afterRegister, penaltyAnswer, withPenalty, tableAfterScheme, tableAfterRegister, penaltyTable}
+use Rattle.penalty.specs.Answer.{answer, penaltyAnswer, withPenalty, penaltyTable}
 use Rattle.penalty.proofs.Penalty.{below-h}
 use Rattle.penalty.proofs.Bounds.{side-square}
 use Rattle.penalty.proofs.Least.{table-twice, table-least}
@@ -73,40 +72,32 @@ module _ (register scheme : List ℕ) (lent : List ℤ) where
   unfolding penaltyAnswer
   zeros-made e = go (decLt (length lent) tableNumbers)
     where
-      both : tableNumbers ≤ length lent → (x : Reading (Progress Register)) → registerByItself register ≡ x → afterRegister x scheme ≡ answer 0 0 0 → Made register scheme lent
-      both l (refused n at) r f = let z : _≡_ {A = ℕ} 1 0 = ap (λ a. a .part) f in absurd (omega arith)
-      both l (accepted p end) r f = of-scheme (schemeByItself (p .parsed) scheme) refl f
-        where
-          of-scheme : (y : Reading (Progress Scheme)) → schemeByItself (p .parsed) scheme ≡ y → afterScheme y ≡ answer 0 0 0 → Made register scheme lent
-          of-scheme (refused n at) s f = let z : _≡_ {A = ℕ} 2 0 = ap (λ a. a .part) f in absurd (omega arith)
-          of-scheme (accepted q end′) s f =
-              let o = opened-by register scheme p end q end′ r s in
-              record {
-                reg = p .parsed;
-                sch = q .parsed;
-                register-is = register-bytes register scheme (p .parsed) (q .parsed) o;
-                scheme-is = scheme-bytes register scheme (p .parsed) (q .parsed) o;
-                register-valid = o .register-valid;
-                scheme-valid = o .scheme-valid;
-                holds = made-holds register scheme lent l (p .parsed) (q .parsed) o;
-              }
+      both : tableNumbers ≤ length lent → (x : Outcome (Register × Scheme)) → openParts register scheme ≡ x → Numbered x → answerBy answer (λ parts. answer 0 0 0) x ≡ answer 0 0 0 → Made register scheme lent
+      both l (refuses n part at) x d f = absurd (d (ap (λ a. a .number) f))
+      both l (accepts (reg, sch)) x d f =
+          let o = opened register scheme reg sch x in
+          record {
+            reg = reg;
+            sch = sch;
+            register-is = register-bytes register scheme reg sch o;
+            scheme-is = scheme-bytes register scheme reg sch o;
+            register-valid = o .register-valid;
+            scheme-valid = o .scheme-valid;
+            holds = made-holds register scheme lent l reg sch o;
+          }
 
       go : Dec (length lent < tableNumbers) → Made register scheme lent
       go (yes l) = let z : _≡_ {A = ℕ} 11 0 = ap (λ a. a .number) (rw (lt-ltb (length lent) tableNumbers l) at e) in absurd (omega arith)
-      go (no l) = both (omega arith) (registerByItself register) refl (rw (le-ltb (length lent) tableNumbers (omega arith)) at e)
+      go (no l) = both (omega arith) (openParts register scheme) refl (opening-numbered register scheme) (rw (le-ltb (length lent) tableNumbers (omega arith)) at e)
 
   pub refused-unchanged : (penaltyAnswer register scheme lent .number ≡ 0 → ⊥) → penaltyTable register scheme lent ≡ lent
   unfolding penaltyAnswer penaltyTable
   refused-unchanged h = go (decLt (length lent) tableNumbers)
     where
-      of-scheme : (reg : Register) (y : Reading (Progress Scheme)) → (afterScheme y .number ≡ 0 → ⊥) → tableAfterScheme reg y lent ≡ lent
-      of-scheme reg (refused n at) d = refl
-      of-scheme reg (accepted q end) d = absurd (d refl)
-
-      both : (x : Reading (Progress Register)) → (afterRegister x scheme .number ≡ 0 → ⊥) → tableAfterRegister x scheme lent ≡ lent
-      both (refused n at) d = refl
-      both (accepted p end) d = of-scheme (p .parsed) (schemeByItself (p .parsed) scheme) d
+      both : (x : Outcome (Register × Scheme)) → (answerBy answer (λ parts. answer 0 0 0) x .number ≡ 0 → ⊥) → answerBy (λ number part at. lent) (λ (reg, sch). withPenalty reg sch lent) x ≡ lent
+      both (refuses n part at) d = refl
+      both (accepts a) d = absurd (d refl)
 
       go : Dec (length lent < tableNumbers) → penaltyTable register scheme lent ≡ lent
       go (yes l) = rw (lt-ltb (length lent) tableNumbers l)
-      go (no l) = let e = le-ltb (length lent) tableNumbers (omega arith) in rw e (both (registerByItself register) (rw e at h))
+      go (no l) = let e = le-ltb (length lent) tableNumbers (omega arith) in rw e (both (openParts register scheme) (rw e at h))

@@ -1,8 +1,9 @@
--- The least value of h over the fillings is the least cost over the plans.
-use mathlib.Core.Path.{_≡_, refl, _∙_}
+-- The least value of h over the fillings is the least cost over the plans; also over the plans with any property.
+use mathlib.Core.Path.{_≡_, refl, sym, _∙_, subst}
 use mathlib.Core.List.{List}
-use mathlib.Core.Logic.{_⊎_, inl, inr}
-use Prim.Native.Nat.{ℕ, zero, suc, _-_, _^_, _≤_}
+use mathlib.Core.Logic.{_⊎_, inl, inr, _↔_}
+use Prim.Native.Nat.{ℕ, zero, suc, _^_, _≤_, _<_}
+use native.Mathlib.Nat.{le-refl}
 use native.Mathlib.Omega.{arith}
 use native.Mathlib.Decide.{ℕ-discrete}
 use lib.IntN.{ℤ, pos, _*ℤ_}
@@ -13,69 +14,110 @@ use Rattle.forms.specs.Form.{value, entry}
 use Rattle.forms.specs.Table.{withTable, tableSum, tableValue}
 use Rattle.forms.proofs.Table.{tableSum-form, tableValue-form}
 use Rattle.register.specs.declared.Register.{Register}
-use Rattle.plan.specs.Plan.{cost}
+use Rattle.plan.specs.Plan.{Plan, cost}
 use Rattle.scheme.specs.declared.Scheme.{Scheme}
 use Rattle.scheme.specs.Scheme.{side}
 use Rattle.scheme.specs.Filling.{Filling, factor, induced}
 use Rattle.scheme.specs.Valid.{Valid}
 use Rattle.penalty.specs.Penalty.{h}
 use Rattle.penalty.specs.Carried.{carried}
-use Rattle.penalty.specs.Least.{SameLeast}
-use Rattle.penalty.proofs.Sets.{carried-below}
+use Rattle.penalty.specs.Least.{LeastFilling, LeastPlan, SameLeastWhere, SameLeast}
+use Rattle.penalty.proofs.Sets.{carried-below, carried-induced}
 use Rattle.penalty.proofs.Penalty.{below-h, penalty, induced-value}
 
--- a function of finitely many numbers has a least value
-pub record LeastTo (f : ℕ → ℤ) (m : ℕ) : Type 0 where
-  pub at : ℕ
-  pub inside : at ≤ m
-  pub lowest : (i : ℕ) → i ≤ m → f at ≤ℤ f i
+-- ---- the least value at the numbers below n that P holds of, from one of them on: at first no other has been looked at
 
-pub least-to : (f : ℕ → ℤ) (m : ℕ) → LeastTo f m
-least-to f zero = record { at = 0; inside = omega arith; lowest = λ i l. let e : i ≡ 0 = omega arith in rw e (≤ℤ-refl (f 0)) }
-least-to f (suc m) = go (least-to f m)
-  where
-    go : LeastTo f m → LeastTo f (suc m)
-    go b = choose (≤ℤ-or-> (f (b .at)) (f (suc m)))
-      where
-        to : (x : ℕ) → f x ≤ℤ f (b .at) → f x ≤ℤ f (suc m) → (i : ℕ) → i ≤ suc m → f x ≤ℤ f i
-        to x p q i l = pick (ℕ-discrete i (suc m))
-          where
-            pick : Dec (i ≡ suc m) → f x ≤ℤ f i
-            pick (yes e) = rw e q
-            pick (no n) = ≤ℤ-trans _ _ _ p (b .lowest i (omega arith))
+record LeastTo (P : ℕ → Type 0) (f : ℕ → ℤ) (n m : ℕ) : Type 0 where
+  at : ℕ
+  inside : at < n
+  holds : P at
+  lowest : (i : ℕ) → i < m → P i → f at ≤ℤ f i
 
-        choose : (f (b .at) ≤ℤ f (suc m)) ⊎ (f (suc m) <ℤ f (b .at)) → LeastTo f (suc m)
-        choose (inl l) = record { at = b .at; inside = omega (arith, b .inside); lowest = to (b .at) (≤ℤ-refl _) l }
-        choose (inr l) = record { at = suc m; inside = omega arith; lowest = to (suc m) (<ℤ→≤ℤ _ _ l) (≤ℤ-refl _) }
+module _ (P : ℕ → Type 0) (P? : (i : ℕ) → Dec (P i)) (f : ℕ → ℤ) (n p : ℕ) (there : p < n) (holds : P p) where
+  least-to : (m : ℕ) → m ≤ n → LeastTo P f n m
+  least-to zero l = record { at = p; inside = there; holds = holds; lowest = λ i j. absurd (omega arith) }
+  least-to (suc m) l = go (least-to m (omega arith)) (P? m)
+    where
+      to : (x : ℕ) → x < n → P x → (P m → f x ≤ℤ f m) → ((i : ℕ) → i < m → P i → f x ≤ℤ f i) → LeastTo P f n (suc m)
+      to x k h a b = record { at = x; inside = k; holds = h; lowest = λ i j. pick i j (ℕ-discrete i m) }
+        where
+          pick : (i : ℕ) → i < suc m → Dec (i ≡ m) → P i → f x ≤ℤ f i
+          pick i j (yes e) = rw e a
+          pick i j (no d) = b i (omega arith)
+
+      go : LeastTo P f n m → Dec (P m) → LeastTo P f n (suc m)
+      go b (no d) = to (b .at) (b .inside) (b .holds) (λ k. absurd (d k)) (b .lowest)
+      go b (yes h) = choose (≤ℤ-or-> (f (b .at)) (f m))
+        where
+          choose : (f (b .at) ≤ℤ f m) ⊎ (f m <ℤ f (b .at)) → LeastTo P f n (suc m)
+          choose (inl x) = to (b .at) (b .inside) (b .holds) (λ k. x) (b .lowest)
+          choose (inr x) = to m (omega arith) h (λ k. ≤ℤ-refl _) (λ i j k. ≤ℤ-trans _ _ _ (<ℤ→≤ℤ _ _ x) (b .lowest i j k))
+
+-- ---- fillings and plans, where f is at least the cost of the plan carried, and at a plan's own filling its cost
+
+module _ (P : ℕ → Type 0) (c : ℕ → ℤ) (r : Register) (s : Scheme) (f : Filling → ℤ)
+    (above : (z : Filling) → cost c r (carried (r .choices) z) ≤ℤ f z)
+    (at-plans : (plan : ℕ) → f (induced (r .choices) s plan) ≡ cost c r plan) where
+  abbrev n : ℕ
+  n = r .choices
+
+  abbrev planOf : Filling → Plan n
+  planOf z = record { fed = carried n z; inside = carried-below n z }
+
+  own-filling : (p : Plan n) → P (p .fed) → P (carried n (induced n s (p .fed)))
+  own-filling p h = subst P (sym (carried-induced n s (p .fed) (p .inside))) h
+
+  -- a filling at the least cost carries a plan that has it
+  pub least-carried : (m : ℤ) → LeastPlan P c r m → (z : Filling) → P (carried n z) → f z ≡ m → cost c r (carried n z) ≡ m
+  least-carried m b z h e = ≤ℤ-antisym _ _ (≤ℤ-trans _ _ _ (above z) (≡→≤ℤ _ _ e)) (b .lowest (planOf z) h)
+
+  -- where no plan has P there is no least value
+  pub none-least : ((p : Plan n) → P (p .fed) → ⊥) → (m : ℤ) → (LeastFilling P r f m → ⊥) × (LeastPlan P c r m → ⊥)
+  none-least none m = ((λ b. none (planOf (b .witness)) (b .holds)), (λ b. none (b .witness) (b .holds)))
+
+  -- a number is the one least value just where it is the other
+  pub least-iff : (m : ℤ) → LeastFilling P r f m ↔ LeastPlan P c r m
+  least-iff m = (
+    (λ b.
+        let below : (p : Plan n) → P (p .fed) → m ≤ℤ cost c r (p .fed) = λ p h. ≤ℤ-trans _ _ _ (b .lowest _ (own-filling p h)) (≡→≤ℤ _ _ (at-plans (p .fed))) in
+        let p = planOf (b .witness) in
+        record { witness = p; holds = b .holds; reached = ≤ℤ-antisym _ _ (≤ℤ-trans _ _ _ (above _) (≡→≤ℤ _ _ (b .reached))) (below p (b .holds)); lowest = below }),
+    (λ b. record {
+      witness = induced n s (b .witness .fed);
+      holds = own-filling (b .witness) (b .holds);
+      reached = at-plans _ ∙ b .reached;
+      lowest = λ z h. ≤ℤ-trans _ _ _ (b .lowest (planOf z) h) (above z);
+    }),
+  )
+
+  -- where P is decided and a plan has it, there is one
+  pub same-least-where : ((p : ℕ) → Dec (P p)) → (p : Plan n) → P (p .fed) → SameLeastWhere P c r f
+  same-least-where P? p h =
+      let b = least-to P P? (cost c r) (2 ^ n) (p .fed) (p .inside) h (2 ^ n) (le-refl _) in
+      let plans : LeastPlan P c r (cost c r (b .at)) = record { witness = record { fed = b .at; inside = b .inside }; holds = b .holds; reached = refl; lowest = λ q. b .lowest (q .fed) (q .inside) } in
+      record { least = cost c r (b .at); overFillings = least-iff _ .1 plans; overPlans = plans; minimisers = least-carried _ plans }
+
+-- ---- the penalty form
 
 module _ (c : ℕ → ℤ) (r : Register) (s : Scheme) (valid : Valid r s) where
   -- of any f that is the value of h
-  pub same-least : (f : Filling → ℤ) → ((z : Filling) → f z ≡ value (factor z) (h c r s)) → SameLeast c r f
-  same-least f is-h = record {
-    least = m;
-    overFillings = record { witness = induced n s (b .at); reached = is-h _ ∙ induced-value c r s valid (b .at); lowest = λ z. ≤ℤ-trans _ _ _ (below z) (penalised z) };
-    overPlans = record {
-      witness = record { fed = b .at; inside = omega (arith, pow-pos n, b .inside) };
-      reached = refl;
-      lowest = λ p. b .lowest (p .fed) (omega (arith, p .inside));
-    };
-    minimisers = λ z e. ≤ℤ-antisym _ _ (≤ℤ-trans _ _ _ (penalised z) (≡→≤ℤ _ _ e)) (below z);
-  }
-    where
-      n : ℕ
-      n = r .choices
+  module _ (f : Filling → ℤ) (is-h : (z : Filling) → f z ≡ value (factor z) (h c r s)) where
+    above : (z : Filling) → cost c r (carried (r .choices) z) ≤ℤ f z
+    above z = rw (is-h z) (penalty c r s valid z)
 
-      b : LeastTo (cost c r) (2 ^ n - 1)
-      b = least-to (cost c r) (2 ^ n - 1)
+    at-plans : (plan : ℕ) → f (induced (r .choices) s plan) ≡ cost c r plan
+    at-plans plan = is-h _ ∙ induced-value c r s valid plan
 
-      m : ℤ
-      m = cost c r (b .at)
+    -- over the plans with P
+    pub penalty-iff : (P : ℕ → Type 0) (m : ℤ) → LeastFilling P r f m ↔ LeastPlan P c r m
+    penalty-iff P = least-iff P c r s f above at-plans
 
-      below : (z : Filling) → m ≤ℤ cost c r (carried n z)
-      below z = b .lowest (carried n z) (omega (arith, carried-below n z))
+    pub penalty-least : (P : ℕ → Type 0) → ((p : ℕ) → Dec (P p)) → (p : Plan (r .choices)) → P (p .fed) → SameLeastWhere P c r f
+    penalty-least P = same-least-where P c r s f above at-plans
 
-      penalised : (z : Filling) → cost c r (carried n z) ≤ℤ f z
-      penalised z = rw (is-h z) (penalty c r s valid z)
+    -- over all
+    pub same-least : SameLeast c r f
+    same-least = penalty-least _ (λ p. yes tt) (record { fed = 0; inside = pow-pos (r .choices) }) tt
 
   -- of the form
   pub form-least : SameLeast c r (λ z. value (factor z) (h c r s))

@@ -1,4 +1,3 @@
-pub mod Induced
 pub mod Weights
 pub mod Sets
 pub mod Penalty

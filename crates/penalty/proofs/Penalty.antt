@@ -25,16 +25,23 @@ use Rattle.scheme.specs.declared.Scheme.{Scheme}
 use Rattle.scheme.specs.Scheme.{left, right, side, splitLeft, splitRight}
 use Rattle.scheme.specs.Filling.{Filling, factor, induced}
 use Rattle.scheme.specs.Function.{g}
-use Rattle.scheme.specs.Valid.{Valid, Split}
+use Rattle.scheme.specs.Valid.{Valid, SplitOf}
 use Rattle.scheme.proofs.Function.{value-g}
 use Rattle.scheme.proofs.Filling.{induced-consistent}
 use Rattle.penalty.specs.Weights.{uses, weight}
 use Rattle.penalty.specs.Penalty.{bracket, bracketOf, penaltyOf, h}
 use Rattle.penalty.specs.Carried.{carried}
 use Rattle.scheme.proofs.Table.{split-of, g-below}
-use Rattle.penalty.proofs.Induced.{induced-cost}
 use Rattle.penalty.proofs.Weights.{contribution-*}
 use Rattle.penalty.proofs.Sets.{Broken, both, monomial-or}
+
+-- g at the filling that a plan induces is the plan's cost
+pub induced-cost : (c : ℕ → ℤ) (r : Register) (s : Scheme) → Valid r s → (plan : ℕ) → value (factor (induced (r .choices) s plan)) (g c r s) ≡ cost c r plan
+unfolding cost
+induced-cost c r s valid plan =
+    value-g (induced (r .choices) s plan) c r s
+    ∙ ap (λ x. r .base +ℤ x)
+    (sumBelow-cong (r .terms) _ _ (λ t h. ap (λ b. cond b (c t) (pos 0)) (sym (subset-or _ _ plan) ∙ ap (λ e. isSubset e plan) (valid .within .splits t (rw (valid .all-split) h) .fits))))
 
 -- ---- h and its brackets
 
@@ -201,7 +208,7 @@ module _ (c : ℕ → ℤ) (r : Register) (s : Scheme) (valid : Valid r s) where
         | inr b ↦ inr (debts-some m s z t b)
       ]
     where
-      p : Split r s t
+      p : SplitOf r s t
       p = split-of valid t l
 
   pub penalty : (z : Filling) → cost c r (carried m z) ≤ℤ value (factor z) (h c r s)

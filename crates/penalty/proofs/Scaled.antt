@@ -50,7 +50,7 @@ times-g k c r s =
 
 module _ (k : ℤ) (r : Register) (s : Scheme) (small : natAbs k ≤ maxFactor) (within : Within r) where
   pub scaled-small : (t : ℕ) → t < r .terms → natAbs (k *ℤ coefficient r t) ≤ maxFactor * maxCoefficient
-  scaled-small t l = natAbs-*-≤ k (coefficient r t) maxFactor maxCoefficient small (within .terms t l .coefficient-within)
+  scaled-small t l = natAbs-*-≤ k (coefficient r t) maxFactor maxCoefficient small (within .terms .each t l .coefficient-within)
 
   -- the first terms
   pub scaled-norm : (n : ℕ) → n ≤ r .terms → norm1 (joinBelow n (termOf (λ t. k *ℤ coefficient r t) s)) ≤ maxFactor * maxCoefficient * 2 * n
@@ -69,7 +69,7 @@ pub terms-room : (k : ℤ) (r : Register) (s : Scheme) (n t : ℕ) (table table�
 terms-room k r s n t table table₀ within valid e h small l d =
     rw d
     (bounded-weaken (bounded-addForm (rw e (terms-below (λ t. k *ℤ coefficient r t) r s valid t l)) h)
-    (omega (arith, scaled-norm k r s small within t l, within .terms-within)))
+    (omega (arith, scaled-norm k r s small within t l, within .terms .few)))
 
 pub terms-turn : (k : ℤ) (r : Register) (s : Scheme) (n t : ℕ) (table table₀ u : List ℤ) (x : ℤ) → x ≡ k *ℤ coefficient r t →
     table ≡ addForm n (firstTerms k r s t) table₀ → u ≡ addForm n (term (splitLeft s t) (splitRight s t) x) table →

@@ -79,7 +79,3 @@ module _ (n : ℕ) (s : Scheme) (z : Filling) where
             decide (no d) =
                 inr (record { k = v; product = a; there = m; passes = rw (reaches-product n s products v v a m, eq-eqb v v refl); broken = d })
         product v a m (inr b) = inr (widened _ _ (λ k e. rw (reaches-product n s products k v a m, e, or-true)) b)
-
-    pub monomial : (v : ℕ) → v < variables n s → ((k : ℕ) → n ≤ k → k < variables n s → reaches n s k v ≡ true → Consistent n s z k) → IsMonomial n s z v
-    monomial v l h =
-        elim (monomial-or v l) [ inl e ↦ e | inr b ↦ absurd (b .broken (h (b .k) (b .product) (b .there) (b .passes))) ]

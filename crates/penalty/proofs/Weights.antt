@@ -1,26 +1,24 @@
--- Which products a variable reaches and a term uses; a weight is not negative, and small for a valid register.
+-- Which products a variable reaches and a term uses; a weight is small for a valid register.
 use mathlib.Core.Path.{_≡_, refl, sym, _∙_}
 use mathlib.Core.Logic.{_⊎_, inl, inr, ⊎-elim, _↔_}
 use mathlib.Core.Bool.{Bool, true, false, cond, _||_}
 use mathlib.Core.List.{List}
-use Prim.Native.Nat.{ℕ, _*_, _≤_, _<_}
+use Prim.Native.Nat.{ℕ, _≤_, _<_}
 use native.Mathlib.Nat.{le-refl}
 use native.Mathlib.Omega.{arith}
 use lib.Dec.{T, eqb, eqb→eq}
 use lib.IntN.{ℤ, pos, natAbs, _*ℤ_, zero-*ℤ, *ℤ-zero}
-use lib.Signed.{_≤ℤ_, ≤ℤ-refl}
 use borrow.Author.Tests.{eq-eqb, ne-eqb}
 use Rattle.integers.specs.Integer.{abs}
 use Rattle.integers.specs.Sum.{sumBelow}
-use Rattle.integers.proofs.Order.{abs-nonneg}
-use Rattle.integers.proofs.Sum.{sumBelow-nonneg, natAbs-sum}
+use Rattle.integers.proofs.Sum.{natAbs-sum}
 use Rattle.register.specs.declared.Register.{Register}
 use Rattle.register.specs.Limits.{maxCoefficient}
 use Rattle.register.specs.Register.{coefficient}
 use Rattle.register.specs.Valid.{Within}
 use Rattle.scheme.specs.declared.Scheme.{Scheme}
 use Rattle.scheme.specs.Scheme.{left, right, variables, splitLeft, splitRight}
-use Rattle.scheme.specs.Valid.{Products, Split, Valid}
+use Rattle.scheme.specs.Valid.{Products, SplitOf, Valid}
 use Rattle.integers.proofs.Lists.{T-or}
 use Rattle.scheme.proofs.Table.{split-of}
 use Rattle.scheme.proofs.Variables.{upward-choice, upward-product, left-falls, variable-ind}
@@ -142,7 +140,7 @@ uses-iff r s valid t k h a m = (
     n : ℕ
     n = r .choices
 
-    split : Split r s t
+    split : SplitOf r s t
     split = split-of valid t h
 
     of-left : T (reaches n s k (splitLeft s t)) ↔ ((splitLeft s t ≡ k) ⊎ OperandOf n s (λ j. reaches n s j (splitLeft s t)) k)
@@ -178,26 +176,12 @@ module _ (c : ℕ → ℤ) (n : ℕ) (s : Scheme) (k t : ℕ) where
       go true u = refl
       go false u = absurd u
 
-  pub contribution-unused : (T (uses n s k t) → ⊥) → contribution c n s k t ≡ pos 0
-  contribution-unused u = go (uses n s k t) u
-    where
-      go : (b : Bool) → (T b → ⊥) → cond b (abs (c t)) (pos 0) ≡ pos 0
-      go true u = absurd (u tt)
-      go false u = refl
-
   pub contribution-* : (y : ℤ) → contribution c n s k t *ℤ y ≡ abs (c t) *ℤ cond (uses n s k t) y (pos 0)
   contribution-* y = go (uses n s k t)
     where
       go : (b : Bool) → cond b (abs (c t)) (pos 0) *ℤ y ≡ abs (c t) *ℤ cond b y (pos 0)
       go true = refl
       go false = zero-*ℤ y ∙ sym (*ℤ-zero (abs (c t)))
-
-  pub contribution-nonneg : pos 0 ≤ℤ contribution c n s k t
-  contribution-nonneg = go (uses n s k t)
-    where
-      go : (b : Bool) → pos 0 ≤ℤ cond b (abs (c t)) (pos 0)
-      go true = abs-nonneg (c t)
-      go false = ≤ℤ-refl (pos 0)
 
   pub contribution-small : (b : ℕ) → natAbs (c t) ≤ b → natAbs (contribution c n s k t) ≤ b
   unfolding abs
@@ -207,15 +191,11 @@ module _ (c : ℕ → ℤ) (n : ℕ) (s : Scheme) (k t : ℕ) where
       go true = l
       go false = omega arith
 
-pub weight-nonneg : (c : ℕ → ℤ) (r : Register) (s : Scheme) (k : ℕ) → pos 0 ≤ℤ weight c r s k
-unfolding weight
-weight-nonneg c r s k = sumBelow-nonneg (r .terms) _ (λ t l. contribution-nonneg c (r .choices) s k t)
-
 -- of a register within the limits, also of the first terms alone
 module _ (r : Register) (s : Scheme) (k : ℕ) (within : Within r) where
   pub contributions-small : (t : ℕ) → t ≤ r .terms → natAbs (sumBelow t (contribution (coefficient r) (r .choices) s k)) ≤ maxProductWeight
   contributions-small t l =
-      omega (arith, within .terms-within, natAbs-sum t maxCoefficient (contribution (coefficient r) (r .choices) s k) (λ i m. contribution-small (coefficient r) (r .choices) s k i maxCoefficient (within .terms i (omega arith) .coefficient-within)))
+      omega (arith, within .terms .few, natAbs-sum t maxCoefficient (contribution (coefficient r) (r .choices) s k) (λ i m. contribution-small (coefficient r) (r .choices) s k i maxCoefficient (within .terms .each i (omega arith) .coefficient-within)))
 
   pub weight-small : natAbs (weight (coefficient r) r s k) ≤ maxProductWeight
   unfolding weight

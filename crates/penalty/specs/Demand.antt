@@ -9,12 +9,12 @@ use Rattle.forms.specs.Form.{value}
 use Rattle.forms.specs.Table.{tableSum, tableValue}
 use Rattle.register.specs.declared.Register.{Register}
 use Rattle.register.specs.Register.{coefficient}
-use Rattle.register.specs.Encoding.{encodeRegister}
+use Rattle.register.specs.Encoding as RE
 use Rattle.register.specs.Valid as R
 use Rattle.scheme.specs.declared.Scheme.{Scheme}
 use Rattle.scheme.specs.Scheme.{side}
 use Rattle.scheme.specs.Filling.{Filling, factor}
-use Rattle.scheme.specs.Encoding.{encodeScheme}
+use Rattle.scheme.specs.Encoding as SE
 use Rattle.scheme.specs.Valid.{Valid}
 use Rattle.penalty.specs.Penalty.{h}
 use Rattle.penalty.specs.Least.{SameLeast}
@@ -36,8 +36,8 @@ pub record Holds (reg : Register) (sch : Scheme) (lent table : List ℤ) : Type 
 pub record Made (register scheme : List ℕ) (lent : List ℤ) : Type 0 where
   pub reg : Register
   pub sch : Scheme
-  pub register-is : Bytes register → register ≡ encodeRegister reg
-  pub scheme-is : scheme ≡ encodeScheme (reg .choices) sch
+  pub register-is : Bytes register → RE.Encodes reg register
+  pub scheme-is : SE.Encodes reg sch scheme
   pub register-valid : R.Valid reg
   pub scheme-valid : Valid reg sch
   pub holds : Holds reg sch lent (penaltyTable register scheme lent)

@@ -3,9 +3,8 @@ use forms::WorkingTable;
 use forms::add_monomial;
 use forms::add_multiple;
 use register::Register;
-use register::feedcheck_register;
 use scheme::Scheme;
-use scheme::feedcheck_scheme;
+use scheme::open_parts;
 ghost use mathlib.Core.Path.{_≡_};
 ghost use mathlib.Core.Bool.{cond, _||_};
 ghost use Prim.Native.Nat.{ℕ, _+_, _≤_, _<_};
@@ -232,17 +231,16 @@ pub extern "C" fn feedcheck_penalty(
             position: 0,
         };
     }
-    let first = feedcheck_register(register);
-    let second = feedcheck_scheme(register, scheme);
-    let number = second.number;
+    let parts = open_parts(register, scheme);
+    let number = parts.number;
     if number != 0 {
         return PenaltyAnswer {
             number: number,
-            part: second.part,
-            position: second.position,
+            part: parts.part,
+            position: parts.position,
         };
     }
-    penalty_form(first.register, second.scheme, table);
+    penalty_form(parts.register, parts.scheme, table);
     PenaltyAnswer {
         number: 0,
         part: 0,

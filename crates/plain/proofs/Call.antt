@@ -5,24 +5,24 @@ use mathlib.Core.Path.{_≡_, refl, _∙_, ap}
 use mathlib.Core.List.{List}
 use lib.IntN.{ℤ}
 use lib.ListN.{length, take, drop}
-use Rattle.wire.specs.Part.{Reading, refused, accepted}
-use Rattle.wire.specs.Rows.{Progress}
+use Rattle.wire.specs.Part.{accepted}
+use Rattle.wire.specs.Outcome.{Outcome, refuses, accepts, answerBy}
+use Rattle.wire.specs.Writer.{refusedAnswer, bytesAnswer, withFront}
 use Rattle.wire.proofs.Writer.{HandedBack, bytes-keep}
+use Rattle.wire.proofs.Accepting.{reached}
 use Rattle.forms.specs.Table.{tableNumbers}
 use Rattle.register.specs.declared.Register.{Register}
 use Rattle.register.specs.Register.{coefficient}
 use Rattle.register.specs.Format.{registerByItself}
 use Rattle.register.specs.Answer.{registerAnswer}
 use Rattle.scheme.specs.declared.Scheme.{Scheme}
-use Rattle.scheme.specs.Format.{schemeByItself}
 use Rattle.scheme.specs.Answer as S
-use Rattle.scheme.specs.Answer.{schemeAnswer}
-use Rattle.scheme.proofs.Opened.{Opened, opened}
-use Rattle.certificate.specs.Format.{certificateByItself}
-use Rattle.certificate.specs.Check.{checkAnswer}
-use Rattle.certificate.proofs.Rows.{reached}
+use Rattle.scheme.specs.Answer.{openParts, schemeAnswer}
+use Rattle.scheme.proofs.Opened.{Opened, answer-opened}
+use Rattle.bound.specs.Format.{certificateByItself}
+use Rattle.bound.specs.Check.{checkAnswer}
 use Rattle.plain.specs.Plain.{plain}
-use Rattle.plain.specs.Answer.{ownBytes, ownRoom, afterScheme, afterRegister, plainAnswer, bufferAfterScheme, bufferAfterRegister, plainBuffer}
+use Rattle.plain.specs.Answer.{ownBytes, ownRoom, plainAnswer, plainBuffer}
 use Rattle.plain.proofs.ReadBack.{plain-reads, handed-back, own-accepted}
 use Rattle.plain.proofs.ReadBack as B
 
@@ -46,7 +46,7 @@ module _ (t s lent : List ℕ) where
         checkAnswer t s back table ≡ record { number = 0; part = 0; position = 0; bound = plain (coefficient register) register scheme .target }
 
   opens : schemeAnswer t s .number ≡ 0 → Opened t s register scheme
-  opens = opened t s (schemeAnswer t s) refl (registerAnswer (registerByItself t)) refl
+  opens = answer-opened t s
 
   -- where the call answers 0
   pub call-reads : plainAnswer t s lent .number ≡ 0 → Wrote
@@ -58,16 +58,12 @@ module _ (t s lent : List ℕ) where
     accepts = λ table l. ap (λ x. checkAnswer t s x table) (h .front) ∙ own-accepted t s _ _ o table l;
   }
     where
-      second : (reg : Register) (y : Reading (Progress Scheme)) → afterScheme reg y lent .number ≡ 0 → S.partAnswer y .number ≡ 0
-      second reg (refused n at) z = z
-      second reg (accepted p end) z = refl
-
-      first : (x : Reading (Progress Register)) → afterRegister x s lent .number ≡ 0 → S.answerAfter x s .number ≡ 0
-      first (refused n at) z = z
-      first (accepted p end) z = second (p .parsed) (schemeByItself (p .parsed) s) z
+      of-parts : (x : Outcome (Register × Scheme)) → answerBy refusedAnswer (λ (reg, sch). bytesAnswer (ownBytes reg sch) lent) x .number ≡ 0 → answerBy S.refusedAnswer S.acceptedAnswer x .number ≡ 0
+      of-parts (refuses n part at) z = z
+      of-parts (accepts a) z = refl
 
       o : Opened t s register scheme
-      o = opens (first (registerByItself t) z)
+      o = opens (of-parts (openParts t s) z)
 
       h : HandedBack (ownBytes register scheme) lent (plainAnswer t s lent) (plainBuffer t s lent)
       h = handed-back t s register scheme o lent z
@@ -79,12 +75,9 @@ module _ (t s lent : List ℕ) where
   -- bytes past the count are as they were: all of them where the call is refused
   pub call-keeps : drop (plainAnswer t s lent .count) (plainBuffer t s lent) ≡ drop (plainAnswer t s lent .count) lent
   unfolding plainAnswer plainBuffer
-  call-keeps = first (registerByItself t)
+  call-keeps = go (openParts t s)
     where
-      second : (reg : Register) (y : Reading (Progress Scheme)) → drop (afterScheme reg y lent .count) (bufferAfterScheme reg y lent) ≡ drop (afterScheme reg y lent .count) lent
-      second reg (refused n at) = refl
-      second reg (accepted p end) = bytes-keep (ownBytes reg (p .parsed)) lent
-
-      first : (x : Reading (Progress Register)) → drop (afterRegister x s lent .count) (bufferAfterRegister x s lent) ≡ drop (afterRegister x s lent .count) lent
-      first (refused n at) = refl
-      first (accepted p end) = second (p .parsed) (schemeByItself (p .parsed) s)
+      go : (x : Outcome (Register × Scheme)) → let n = answerBy refusedAnswer (λ (reg, sch). bytesAnswer (ownBytes reg sch) lent) x .count in
+          drop n (answerBy (λ number part at. lent) (λ (reg, sch). withFront (ownBytes reg sch) lent) x) ≡ drop n lent
+      go (refuses n part at) = refl
+      go (accepts (reg, sch)) = bytes-keep (ownBytes reg sch) lent

@@ -19,8 +19,8 @@ use Rattle.scheme.specs.Scheme.{variables}
 use Rattle.scheme.specs.Function.{g}
 use Rattle.certificate.specs.Certificate.{Multiplier}
 use Rattle.certificate.specs.Rules.{byKey, ruleOf}
-use Rattle.certificate.specs.Residual.{shifted}
-use Rattle.certificate.proofs.Table.{signed, signedForm, entry-signedForm, entry-B}
+use Rattle.residual.specs.Residual.{shifted}
+use Rattle.residual.proofs.Table.{signed, signedForm, entry-signedForm, entry-B}
 use Rattle.certificate.proofs.Commands.{command}
 use Rattle.plain.proofs.Coefficients.{linearLeft-entry}
 use Rattle.plain.specs.Plain.{halfRowSum, linearLeft, unlessZero, cancelling, subtractedConstant, plain}
@@ -34,7 +34,7 @@ module _ (c : ℕ → ℤ) (r : Register) (s : Scheme) (i j : ℕ) where
 
   -- what a command changes at (i, j)
   abbrev change : Multiplier → ℤ
-  change t = entry (signedForm n s t) i j
+  change t = entry (signedForm r s t) i j
 
   square : ℕ → ℤ
   square v = unit (place v) (place v) i j
@@ -56,19 +56,19 @@ module _ (c : ℕ → ℤ) (r : Register) (s : Scheme) (i j : ℕ) where
   unfolding signed ruleOf byKey square linear
   change-31 v m =
       sumOver-unlessZero 0x31 v m (pos m) (square v -ℤ linear v) (λ e. rw e)
-      (entry-signedForm n s (command 0x31 v m) i j ∙ ap (λ x. pos m *ℤ x) (entry-difference (place v) (place v) 0 (place v) i j))
+      (entry-signedForm r s (command 0x31 v m) i j ∙ ap (λ x. pos m *ℤ x) (entry-difference (place v) (place v) 0 (place v) i j))
 
   change-38 : (v m : ℕ) → sumOver (unlessZero 0x38 v m) change ≡ negℤ (pos m) *ℤ linear v
   unfolding signed ruleOf byKey linear
   change-38 v m =
       sumOver-unlessZero 0x38 v m (negℤ (pos m)) _ (λ e. rw e)
-      (entry-signedForm n s (command 0x38 v m) i j ∙ ap (λ x. negℤ (pos m) *ℤ x) (entry-single 0 (place v) (pos 1) i j ∙ one-*ℤ _))
+      (entry-signedForm r s (command 0x38 v m) i j ∙ ap (λ x. negℤ (pos m) *ℤ x) (entry-single 0 (place v) (pos 1) i j ∙ one-*ℤ _))
 
   change-39 : (v m : ℕ) → sumOver (unlessZero 0x39 v m) change ≡ negℤ (pos m) *ℤ (constant -ℤ linear v)
   unfolding signed ruleOf byKey linear constant
   change-39 v m =
       sumOver-unlessZero 0x39 v m (negℤ (pos m)) _ (λ e. rw e)
-      (entry-signedForm n s (command 0x39 v m) i j ∙ ap (λ x. negℤ (pos m) *ℤ x) (entry-difference 0 0 0 (place v) i j))
+      (entry-signedForm r s (command 0x39 v m) i j ∙ ap (λ x. negℤ (pos m) *ℤ x) (entry-difference 0 0 0 (place v) i j))
 
   change-cancelling : (v : ℕ) (b : ℤ) → sumOver (cancelling v b) change ≡ negℤ b *ℤ linear v -ℤ pos (negPart b) *ℤ constant
   unfolding cancelling

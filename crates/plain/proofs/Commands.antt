@@ -13,7 +13,7 @@ use Rattle.register.specs.declared.Register.{Register}
 use Rattle.scheme.specs.declared.Scheme.{Scheme}
 use Rattle.scheme.specs.Scheme.{variables}
 use Rattle.certificate.specs.Limits.{maxMultiplier}
-use Rattle.certificate.specs.Valid.{Allowed}
+use Rattle.certificate.specs.Within.{Allowed}
 use Rattle.plain.specs.Plain.{halfRowSum, linearLeft, unlessZero, cancelling, plain}
 use Rattle.certificate.proofs.Commands.{command, command-31, command-38, command-39}
 
@@ -59,24 +59,24 @@ plain-count c r s =
 
 -- ---- they are allowed
 
-module _ (n : ℕ) (s : Scheme) where
+module _ (r : Register) (s : Scheme) where
   abbrev N : ℕ
-  N = variables n s
+  N = variables (r .choices) s
 
-  allowed-unlessZero : (kind i m : ℕ) → Allowed n s (command kind i m) → All (Allowed n s) (unlessZero kind i m)
+  allowed-unlessZero : (kind i m : ℕ) → Allowed r s (command kind i m) → All (Allowed r s) (unlessZero kind i m)
   unfolding unlessZero
-  allowed-unlessZero kind i m ok = cond-cases (All (Allowed n s)) (eqb m 0) [] (command kind i m ∷ []) (λ _. tt) (λ _. (ok, tt))
+  allowed-unlessZero kind i m ok = cond-cases (All (Allowed r s)) (eqb m 0) [] (command kind i m ∷ []) (λ _. tt) (λ _. (ok, tt))
 
-  pub allowed-31 : (i m : ℕ) → i < N → m ≤ maxMultiplier → All (Allowed n s) (unlessZero 0x31 i m)
-  allowed-31 i m h l = allowed-unlessZero 0x31 i m (command-31 n s i m h l)
+  pub allowed-31 : (i m : ℕ) → i < N → m ≤ maxMultiplier → All (Allowed r s) (unlessZero 0x31 i m)
+  allowed-31 i m h l = allowed-unlessZero 0x31 i m (command-31 r s i m h l)
 
-  allowed-38 : (i m : ℕ) → i < N → m ≤ maxMultiplier → All (Allowed n s) (unlessZero 0x38 i m)
-  allowed-38 i m h l = allowed-unlessZero 0x38 i m (command-38 n s i m h l)
+  allowed-38 : (i m : ℕ) → i < N → m ≤ maxMultiplier → All (Allowed r s) (unlessZero 0x38 i m)
+  allowed-38 i m h l = allowed-unlessZero 0x38 i m (command-38 r s i m h l)
 
-  allowed-39 : (i m : ℕ) → i < N → m ≤ maxMultiplier → All (Allowed n s) (unlessZero 0x39 i m)
-  allowed-39 i m h l = allowed-unlessZero 0x39 i m (command-39 n s i m h l)
+  allowed-39 : (i m : ℕ) → i < N → m ≤ maxMultiplier → All (Allowed r s) (unlessZero 0x39 i m)
+  allowed-39 i m h l = allowed-unlessZero 0x39 i m (command-39 r s i m h l)
 
-  pub allowed-cancelling : (i : ℕ) (x : ℤ) → i < N → natAbs x ≤ maxMultiplier → All (Allowed n s) (cancelling i x)
+  pub allowed-cancelling : (i : ℕ) (x : ℤ) → i < N → natAbs x ≤ maxMultiplier → All (Allowed r s) (cancelling i x)
   unfolding cancelling
   allowed-cancelling i (pos m) h l = allowed-38 i m h l
   allowed-cancelling i (negsuc m) h l = allowed-39 i (suc m) h l

@@ -15,7 +15,7 @@ use Rattle.scheme.specs.declared.Scheme.{Scheme}
 use Rattle.scheme.specs.Scheme.{variables}
 use Rattle.scheme.specs.Function.{g}
 use Rattle.scheme.proofs.Table.{g-constant, g-no-square}
-use Rattle.certificate.specs.Residual.{shifted}
+use Rattle.residual.specs.Residual.{shifted}
 use Rattle.plain.specs.Plain.{halfRowSum, plain}
 use Rattle.plain.proofs.Changes.{added, entry-plain}
 

@@ -27,8 +27,7 @@ use Rattle.scheme.proofs.Accept.{variables-within}
 use Rattle.penalty.proofs.Bounds.{g-norm}
 use Rattle.register.specs.declared.Register.{Register}
 use Rattle.scheme.specs.declared.Scheme.{Scheme}
-use Rattle.scheme.specs.Scheme.{variables, side}
-use Rattle.scheme.specs.Sets.{maxVariables}
+use Rattle.scheme.specs.Scheme.{maxVariables, variables, side}
 use Rattle.scheme.specs.Function.{g, maxG}
 use Rattle.plain.specs.Plain.{halfRowSum, linearLeft, unlessZero, cancelling, subtractedConstant, plain}
 use Rattle.plain.specs.Encoding.{encodeWith, encodePlain}

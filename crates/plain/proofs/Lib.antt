@@ -10,7 +10,6 @@ pub mod Valid
 pub mod InTable
 pub mod BySign
 pub mod Encoded
-pub mod Writing
 pub mod Answers
 pub mod ReadBack
 pub mod Call

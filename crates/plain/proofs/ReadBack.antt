@@ -8,6 +8,7 @@ use lib.IntN.{ℤ}
 use lib.ListN.{length}
 use Rattle.wire.specs.Part.{accepted}
 use Rattle.wire.proofs.Writer.{HandedBack, bytes-back, bytes-enough}
+use Rattle.wire.proofs.Accepting.{reached}
 use Rattle.forms.specs.Table.{tableNumbers}
 use Rattle.register.specs.declared.Register.{Register}
 use Rattle.register.specs.Register.{coefficient}
@@ -17,11 +18,10 @@ use Rattle.scheme.specs.Valid.{Valid}
 use Rattle.scheme.proofs.Opened.{Opened}
 use Rattle.certificate.specs.Certificate.{Multiplier}
 use Rattle.certificate.specs.Encoding.{Entry, multiplier, multipliersOf, squaresOf, encodeEntry, Encodes}
-use Rattle.certificate.specs.Format.{certificateByItself}
-use Rattle.certificate.specs.Check.{afterCertificate, checkAnswer}
-use Rattle.certificate.proofs.Rows.{reached}
-use Rattle.certificate.proofs.Accept.{encoding-accepted}
-use Rattle.certificate.proofs.Answers as C
+use Rattle.bound.specs.Format.{certificateByItself}
+use Rattle.bound.specs.Check.{checkAnswer}
+use Rattle.bound.proofs.Accept.{encoding-accepted}
+use Rattle.bound.proofs.Answers as C
 use Rattle.plain.specs.Plain.{plain}
 use Rattle.plain.specs.Encoding.{encodeMultipliers, encodeWith, encodePlain}
 use Rattle.plain.specs.Answer.{ownBytes, ownRoom, plainAnswer, plainBuffer}
@@ -88,5 +88,5 @@ module _ (t s : List ℕ) (reg : Register) (sch : Scheme) (o : Opened t s reg sc
       checkAnswer t s (ownBytes reg sch) lent ≡ record { number = 0; part = 0; position = 0; bound = plain (coefficient reg) reg sch .target }
   own-accepted lent l =
       sym (C.parts-accepted t s (ownBytes reg sch) lent l reg sch o .answers)
-      ∙ ap afterCertificate (plain-reads reg sch (o .register-valid) (o .scheme-valid))
+      ∙ ap C.afterCertificate (plain-reads reg sch (o .register-valid) (o .scheme-valid))
       ∙ ap (λ b. record { number = 0; part = 0; position = 0; bound = b }) (plain-bound (coefficient reg) reg sch)

@@ -15,8 +15,8 @@ use Rattle.register.specs.declared.Register.{Register}
 use Rattle.scheme.specs.declared.Scheme.{Scheme}
 use Rattle.scheme.specs.Scheme.{variables}
 use Rattle.scheme.specs.Function.{g}
-use Rattle.certificate.specs.Residual.{shifted, R}
-use Rattle.certificate.specs.Valid.{Carries}
+use Rattle.residual.specs.Residual.{shifted, R}
+use Rattle.bound.specs.Valid.{Carries}
 use Rattle.plain.proofs.Coefficients.{rowSum-entry}
 use Rattle.integers.proofs.Gerschgorin.{offDiagonal-nonneg}
 use Rattle.plain.specs.Plain.{halfRowSum, plain}

@@ -9,11 +9,10 @@ use Rattle.forms.specs.Form.{place, entry}
 use Rattle.forms.proofs.Store.{entry-small}
 use Rattle.register.specs.declared.Register.{Register}
 use Rattle.scheme.specs.declared.Scheme.{Scheme}
-use Rattle.scheme.specs.Scheme.{variables}
-use Rattle.scheme.specs.Sets.{maxVariables}
+use Rattle.scheme.specs.Scheme.{maxVariables, variables}
 use Rattle.scheme.specs.Function.{g, maxG}
 use Rattle.integers.proofs.Gerschgorin.{offDiagonal-small}
-use Rattle.certificate.proofs.Bounds.{Small, norm1-g-within}
+use Rattle.residual.proofs.Bounds.{Small, norm1-g-within}
 use Rattle.plain.proofs.Coefficients.{rowSum-entry, linearLeft-entry}
 use Rattle.plain.specs.Plain.{halfRowSum, linearLeft, subtractedConstant}
 

@@ -3,7 +3,6 @@ use Prim.Native.Nat.{ℕ, suc, _+_, _/_, _≤_}
 use mathlib.Core.Path.{_≡_, ap}
 use native.Mathlib.Omega.{arith}
 use lib.IntN.{ℤ, pos, negsuc, negℤ, _-ℤ_}
-use lib.Signed.{_≤ℤ_}
 use Rattle.integers.specs.Lists.{joinBelow}
 use Rattle.integers.specs.CeilDiv.{ceilDiv}
 use Rattle.integers.proofs.Lists.{All-append, All-join}
@@ -12,13 +11,12 @@ use Rattle.register.specs.declared.Register.{Register}
 use Rattle.register.specs.Register.{coefficient}
 use Rattle.register.specs.Valid as Reg
 use Rattle.scheme.specs.declared.Scheme.{Scheme}
-use Rattle.scheme.specs.Scheme.{variables}
+use Rattle.scheme.specs.Scheme.{maxVariables, variables}
 use Rattle.scheme.specs.Valid as S
-use Rattle.plan.specs.Plan.{cost}
-use Rattle.certificate.specs.Residual.{bound}
-use Rattle.certificate.specs.Valid.{Allowed, Within, Valid}
-use Rattle.certificate.proofs.Bound.{plan-bound}
-use Rattle.certificate.proofs.Bounds.{Small, small}
+use Rattle.bound.specs.Bound.{bound}
+use Rattle.certificate.specs.Within.{Allowed, Within}
+use Rattle.bound.specs.Valid.{Valid}
+use Rattle.residual.proofs.Bounds.{Small, small}
 use Rattle.plain.specs.Plain.{halfRowSum, linearLeft, unlessZero, cancelling, subtractedConstant, plain}
 use Rattle.plain.proofs.Rows.{plain-carries}
 use Rattle.plain.proofs.Commands.{plain-count, allowed-31, allowed-cancelling}
@@ -34,7 +32,7 @@ pub plain-bound : (c : ℕ → ℤ) (r : Register) (s : Scheme) → bound (plain
 unfolding bound plain
 plain-bound c r s = ceilDiv-1 (r .base -ℤ subtractedConstant c r s)
 
-module _ (c : ℕ → ℤ) (r : Register) (s : Scheme) (low : Small c r) (few : variables (r .choices) s ≤ 64) where
+module _ (c : ℕ → ℤ) (r : Register) (s : Scheme) (low : Small c r) (few : variables (r .choices) s ≤ maxVariables) where
   abbrev n : ℕ
   n = r .choices
 
@@ -49,9 +47,9 @@ module _ (c : ℕ → ℤ) (r : Register) (s : Scheme) (low : Small c r) (few : 
     target-within = omega (arith, natAbs-sub (r .base) (subtractedConstant c r s), subtractedConstant-small c r s low few, low .base);
     multipliers-within = omega (arith, plain-count c r s);
     multipliers =
-        All-append (Allowed n s) (joinBelow N (λ i. unlessZero 0x31 i (halfRowSum c r s i))) (joinBelow N (λ i. cancelling i (linearLeft c r s i)))
-        (All-join (Allowed n s) N _ (λ i h. allowed-31 n s i (halfRowSum c r s i) h (omega (arith, halfRowSum-small c r s low few i))))
-        (All-join (Allowed n s) N _ (λ i h. allowed-cancelling n s i (linearLeft c r s i) h (omega (arith, linearLeft-small c r s low few i))));
+        All-append (Allowed r s) (joinBelow N (λ i. unlessZero 0x31 i (halfRowSum c r s i))) (joinBelow N (λ i. cancelling i (linearLeft c r s i)))
+        (All-join (Allowed r s) N _ (λ i h. allowed-31 r s i (halfRowSum c r s i) h (omega (arith, halfRowSum-small c r s low few i))))
+        (All-join (Allowed r s) N _ (λ i h. allowed-cancelling r s i (linearLeft c r s i) h (omega (arith, linearLeft-small c r s low few i))));
     squares-within = omega arith;
     squares = tt;
   }
@@ -62,9 +60,4 @@ module _ (c : ℕ → ℤ) (r : Register) (s : Scheme) (low : Small c r) (few : 
 -- the certificate of our own is valid
 pub plain-valid : (r : Register) (s : Scheme) → Reg.Valid r → S.Valid r s → Valid (coefficient r) r s (plain (coefficient r) r s)
 plain-valid r s register scheme =
-    plain-valid-small (coefficient r) r s (small r (register .within)) (omega (arith, register .within .choices-within, scheme .within .products-within))
-
--- so no plan costs less than its target
-pub plain-below : (r : Register) (s : Scheme) → Reg.Valid r → S.Valid r s → (plan : ℕ) → plain (coefficient r) r s .target ≤ℤ cost (coefficient r) r plan
-plain-below r s register scheme plan =
-    rw (plain-bound (coefficient r) r s) at (plan-bound (coefficient r) r s (plain (coefficient r) r s) scheme (plain-valid r s register scheme) plan)
+    plain-valid-small (coefficient r) r s (small r (register .within)) (omega (arith, register .within .choices .few, scheme .within .products-within))

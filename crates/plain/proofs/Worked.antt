@@ -13,7 +13,8 @@ use Rattle.register.specs.Register.{coefficient}
 use Rattle.scheme.specs.Function.{term, g}
 use Rattle.certificate.specs.Certificate.{Certificate}
 use Rattle.certificate.specs.Rules.{byKey, ruleOf}
-use Rattle.certificate.specs.Residual.{nullPart, subtractedPart, nullForms, subtractedForms, reformulated, shifted, R, rowHolds, carries}
+use Rattle.residual.specs.Residual.{nullPart, subtractedPart, nullForms, subtractedForms, reformulated, shifted, R}
+use Rattle.bound.specs.Bound.{rowHolds, carries}
 use Rattle.register.proofs.Example.{exampleRegister}
 use Rattle.certificate.proofs.Commands.{command}
 use Rattle.scheme.proofs.Example.{builtScheme}

@@ -9,7 +9,7 @@ use Rattle.integers.specs.Sum.{sumBelow}
 use Rattle.integers.specs.Quadratic.{offDiagonal}
 use Rattle.forms.specs.Form.{place}
 use Rattle.forms.specs.Store.{Bounded}
-use Rattle.scheme.specs.Sets.{maxVariables}
+use Rattle.scheme.specs.Scheme.{maxVariables}
 use Rattle.scheme.specs.Function.{maxG}
 use Rattle.certificate.specs.Certificate.{Multiplier}
 use Rattle.plain.specs.Plain.{unlessZero, cancelling}

@@ -1,13 +1,12 @@
 // The certificate of our own, written from the table of g.
 use forms::WorkingTable;
 use register::Register;
-use register::feedcheck_register;
 use scheme::Scheme;
-use scheme::feedcheck_scheme;
+use scheme::open_parts;
 use wire::WriterAnswer;
 ghost use mathlib.Core.Path.{_≡_};
 ghost use mathlib.Core.Bool.{cond};
-ghost use Prim.Native.Nat.{ℕ, _+_, _*_, _≤_, _<_};
+ghost use Prim.Native.Nat.{ℕ, _+_, _≤_, _<_};
 ghost use lib.Dec.{eqb};
 ghost use lib.IntN.{pos, natAbs};
 ghost use lib.ListN.{length, replicate};
@@ -130,8 +129,8 @@ fn put_scale(out: &mut [u8], target: i64)
 
 // Writes a multiplier command that names one variable, unless its multiplier is 0. Returns the position after it.
 fn put_unless_zero(out: &mut [u8], at: usize, kind: u8, name: u8, m: u64) -> usize
-    requires { ⌜ at + 10 * length (unlessZero kind name m) ≤ length (now out) ⌝ }
-    ensures { λ r. ⌜ r ≡ at + 10 * length (unlessZero kind name m) ⌝ }
+    requires { ⌜ at + length (encodeMultipliers (unlessZero kind name m)) ≤ length (now out) ⌝ }
+    ensures { λ r. ⌜ r ≡ at + length (encodeMultipliers (unlessZero kind name m)) ⌝ }
     ensures { λ _. ⌜ now (out .exit) ≡ written (now (out .entry)) at (encodeMultipliers (unlessZero kind name m)) ⌝ }
 {
     if m == 0 {
@@ -152,8 +151,8 @@ fn cancelling_kind(x: i64) -> u8
 
 // Writes the command that cancels x times a variable, unless x is 0. Returns the position after it.
 fn put_cancelling(out: &mut [u8], at: usize, name: u8, x: i64) -> usize
-    requires { ⌜ at + 10 * length (cancelling name x) ≤ length (now out) ⌝ }
-    ensures { λ r. ⌜ r ≡ at + 10 * length (cancelling name x) ⌝ }
+    requires { ⌜ at + length (encodeMultipliers (cancelling name x)) ≤ length (now out) ⌝ }
+    ensures { λ r. ⌜ r ≡ at + length (encodeMultipliers (cancelling name x)) ⌝ }
     ensures { λ _. ⌜ now (out .exit) ≡ written (now (out .entry)) at (encodeMultipliers (cancelling name x)) ⌝ }
 {
     let kind = cancelling_kind(x);
@@ -163,8 +162,8 @@ fn put_cancelling(out: &mut [u8], at: usize, name: u8, x: i64) -> usize
 // Writes `31` for each variable, rising. Returns the position after them.
 fn put_diagonals(table: &[i64], n: usize, out: &mut [u8], start: usize) -> usize
     requires { ⌜ Small n (now table) ⌝ }
-    requires { ⌜ start + 10 * length (diagonalsIn n (now table)) ≤ length (now out) ⌝ }
-    ensures { λ r. ⌜ r ≡ start + 10 * length (diagonalsIn n (now (table .entry))) ⌝ }
+    requires { ⌜ start + length (encodeMultipliers (diagonalsIn n (now table))) ≤ length (now out) ⌝ }
+    ensures { λ r. ⌜ r ≡ start + length (encodeMultipliers (diagonalsIn n (now (table .entry)))) ⌝ }
     ensures { λ _. ⌜ now (out .exit) ≡ written (now (out .entry)) start (encodeMultipliers (diagonalsIn n (now (table .entry)))) ⌝ }
 {
     let mut at = start;
@@ -180,8 +179,8 @@ fn put_diagonals(table: &[i64], n: usize, out: &mut [u8], start: usize) -> usize
 // Writes `38` or `39` for each variable, rising. Returns the position after them.
 fn put_linears(table: &[i64], n: usize, out: &mut [u8], start: usize) -> usize
     requires { ⌜ Small n (now table) ⌝ }
-    requires { ⌜ start + 10 * length (linearsIn n (now table)) ≤ length (now out) ⌝ }
-    ensures { λ r. ⌜ r ≡ start + 10 * length (linearsIn n (now (table .entry))) ⌝ }
+    requires { ⌜ start + length (encodeMultipliers (linearsIn n (now table))) ≤ length (now out) ⌝ }
+    ensures { λ r. ⌜ r ≡ start + length (encodeMultipliers (linearsIn n (now (table .entry)))) ⌝ }
     ensures { λ _. ⌜ now (out .exit) ≡ written (now (out .entry)) start (encodeMultipliers (linearsIn n (now (table .entry)))) ⌝ }
 {
     let mut at = start;
@@ -198,7 +197,7 @@ fn put_linears(table: &[i64], n: usize, out: &mut [u8], start: usize) -> usize
 fn put_certificate(table: &[i64], n: usize, base: i64, out: &mut [u8])
     requires { ⌜ Small n (now table) ⌝ }
     requires { ⌜ natAbs base ≤ maxBase ⌝ }
-    requires { ⌜ 14 + 10 * length (commandsIn n (now table)) ≤ length (now out) ⌝ }
+    requires { ⌜ length (encodeIn n base (now table)) ≤ length (now out) ⌝ }
     ensures { λ _. ⌜ now (out .exit) ≡ written (now (out .entry)) 0 (encodeIn n base (now (table .entry))) ⌝ }
 {
     put_scale(out, base - subtracted(table, n) as i64);
@@ -243,11 +242,10 @@ pub extern "C" fn feedcheck_plain(register: &[u8], scheme: &[u8], out: &mut [u8]
     ensures { λ r. ⌜ r ≡ plainAnswer (now (register .entry)) (now (scheme .entry)) (now (out .entry)) ⌝ }
     ensures { λ _. ⌜ now (out .exit) ≡ plainBuffer (now (register .entry)) (now (scheme .entry)) (now (out .entry)) ⌝ }
 {
-    let first = feedcheck_register(register);
-    let second = feedcheck_scheme(register, scheme);
-    let number = second.number;
+    let parts = open_parts(register, scheme);
+    let number = parts.number;
     if number != 0 {
-        return WriterAnswer::refused(number, second.part, second.position);
+        return WriterAnswer::refused(number, parts.part, parts.position);
     }
-    plain_certificate(first.register, second.scheme, out)
+    plain_certificate(parts.register, parts.scheme, out)
 }

@@ -1,95 +1,125 @@
--- Which bytes are accepted as a plan: those of a plan whose choices are all there.
-use mathlib.Core.Path.{_≡_, refl, sym, _∙_, ap}
-use mathlib.Core.Logic.{_↔_}
-use mathlib.Core.List.{List, [], _++_, append-nil}
-use Prim.Native.Nat.{ℕ, _+_, _^_, _<_}
+-- A plan is accepted from just those runs of bytes that are encodings of it, where its choices are all there.
+use Prim.Native.Nat.{ℕ, _^_, _<_, _≤_}
 use native.Mathlib.Omega.{arith}
-use native.Mathlib.Decide.{ℕ-discrete}
-use lib.ListN.{length, getD, drop, length-append, take-append-drop}
-use lib.Seq.{drop-cons, drop-drop, drop-length}
-use borrow.Author.Tests.{lt-leb, le-ltb}
-use Rattle.wire.specs.Number.{Bytes, natAt}
-use Rattle.wire.specs.Checks.{refusal, commandChecks}
-use Rattle.wire.specs.Part.{accepted, byItself}
-use Rattle.wire.specs.Rows.{Progress}
-use Rattle.wire.proofs.Number.{natAt-below, natAt-front, bytesOf-natAt, length-bytesOf}
-use Rattle.wire.proofs.Encoding.{byItself-end}
+use mathlib.Core.Path.{_≡_, refl, sym, _∙_, ap}
+use mathlib.Core.Logic.{_↔_, inl}
+use mathlib.Core.List.{List, [], _∷_, _++_, append-nil, flatMap}
+use lib.ListN.{length, take}
+use lib.Pow.{pow-mono}
+use borrow.Author.Tests.{leb-false, lt-leb}
+use Rattle.integers.proofs.Lists.{_▹_}
+use Rattle.wire.specs.Number.{Bytes}
+use Rattle.wire.specs.Checks.{refusal}
+use Rattle.wire.specs.Part.{accepted}
+use Rattle.wire.specs.Rows.{Progress, rowOf}
+use Rattle.wire.specs.Encoding.{Command, fields, encodeCommand, encode}
+use Rattle.wire.specs.Grammar.{Only}
+use Rattle.wire.proofs.Checks.{refusal-none}
+use Rattle.wire.proofs.Encoding.{fit-one}
+use Rattle.wire.proofs.Accepting.{reached, Laws}
+use Rattle.wire.proofs.Acceptance as A
 use Rattle.register.specs.declared.Register.{Register}
-use Rattle.plan.specs.Format.{planChecks, planPart, planInJob, planByItself}
-use Rattle.plan.specs.Encoding.{encodePlan}
-use Rattle.plan.proofs.Command.{done, refusalOf, plan-missing, plan-refused, plan-byte, plan-room, plan-named, plan-ends}
+use Rattle.register.specs.Limits.{maxChoices}
+use Rattle.plan.specs.Format.{planChecks, planRows, planPart, planInJob, planByItself}
+use Rattle.plan.specs.Encoding.{planCommand, Commands, Encodes, encodePlan}
 
-pub length-encodePlan : (p : ℕ) → length (encodePlan p) ≡ 5
-unfolding encodePlan
-length-encodePlan p = rw length-bytesOf
+-- ---- the laws of the row; what the command says is known where B holds
 
--- a plan's bytes at the front of a run of bytes are accepted
-module _ (reg : Register) (p : ℕ) (named : p < 2 ^ reg .choices) (wide : p < 2 ^ 32) where
-  pub front-accepted : (s rest : List ℕ) → s ≡ encodePlan p ++ rest → planInJob reg s ≡ accepted (done p) 5
-  unfolding encodePlan refusal commandChecks planChecks
-  front-accepted s rest e =
-      let long : length s ≡ 5 + length rest = ap length e ∙ length-append (encodePlan p) rest ∙ rw length-encodePlan in
-      let b : getD s 0 0 ≡ 0x40 = ap (λ (l : List ℕ). getD l 0 0) e in
-      let q : natAt 4 s 1 ≡ p = natAt-front 4 s 1 p rest (ap (drop 1) e) wide in
-      let none : refusalOf (reg .choices) s ≡ 0 = rw (b, le-ltb (length s) 5 (omega arith), q, lt-leb (2 ^ reg .choices) p named) in
-      plan-ends reg s (omega arith) none ∙ rw q
+module _ (n : ℕ) where
+  -- a choice is fed only where it is there
+  abbrev pub Named : ℕ → Type 0
+  Named p = p < 2 ^ n
 
-  -- and by themselves
-  pub whole-accepted : (s : List ℕ) → s ≡ encodePlan p → planByItself reg s ≡ accepted (done p) (length s)
-  unfolding planByItself byItself
-  whole-accepted s e =
-      let long : length s ≡ 5 = ap length e ∙ length-encodePlan p in
-      rw (front-accepted s [] (e ∙ sym (append-nil _)), long)
+  record Nothing (B : Type 0) (p : ℕ) (cs : List Command) : Type 0 where
+    fresh : p ≡ 0
+    none : cs ≡ []
 
--- what is accepted at the front of a run of bytes: the plan, five bytes, its choices all there
-pub record Front (reg : Register) (s : List ℕ) (read : Progress ℕ) (end : ℕ) : Type 0 where
-  pub read-is : read ≡ done (read .parsed)
-  pub end-is : end ≡ 5
-  pub named : read .parsed < 2 ^ reg .choices
-  pub wide : read .parsed < 2 ^ 32
-  pub bytes-are : s ≡ encodePlan (read .parsed) ++ drop 5 s
+  record Done (B : Type 0) (p : ℕ) (cs : List Command) : Type 0 where
+    named : Named p
+    only : Only (λ c. (c .byte ≡ 0x40) × (B → c ≡ planCommand p)) cs
 
--- what holds of the plan at a command that is not refused holds of a plan that is accepted
-module _ (reg : Register) (s : List ℕ) (P : Progress ℕ → ℕ → Type 0) (h : (length s ≡ 0 → ⊥) → refusalOf (reg .choices) s ≡ 0 → P (done (natAt 4 s 1)) 5) where
-  accepted-by : {read : Progress ℕ} {end : ℕ} → planInJob reg s ≡ accepted read end → P read end
-  accepted-by {read} {end} q = go (ℕ-discrete (length s) 0) (ℕ-discrete (refusalOf (reg .choices) s) 0)
-    where
-      go : Dec (length s ≡ 0) → Dec (refusalOf (reg .choices) s ≡ 0) → P read end
-      go (yes l) z = let r = plan-missing reg s l in let z : _≡_ {A = ℕ} 0 1 = cc in absurd (omega arith)
-      go (no l) (no d) = let r = plan-refused reg s _ l refl d in let z : _≡_ {A = ℕ} 0 1 = cc in absurd (omega arith)
-      go (no l) (yes z) =
-          let r = plan-ends reg s l z in
-          let f : done (natAt 4 s 1) ≡ read = cc in
-          let g : _≡_ {A = ℕ} 5 end = cc in
-          rw (f, g) at (h l z)
+  named-iff : (p : ℕ) → (refusal (planChecks n p) ≡ 0) ↔ Named p
+  unfolding planChecks refusal
+  named-iff p = ((λ q. leb-false _ _ (refusal-none (planChecks n p) (omega arith) q .0)), λ l. rw (lt-leb (2 ^ n) p l))
 
--- the choices of an accepted plan are all there, of a list of any numbers
-pub accepted-named : (reg : Register) (s : List ℕ) {read : Progress ℕ} {end : ℕ} → planInJob reg s ≡ accepted read end → read .parsed < 2 ^ reg .choices
-accepted-named reg s = accepted-by reg s (λ read end. read .parsed < 2 ^ reg .choices) (plan-named reg s)
-
-module _ (reg : Register) (s : List ℕ) (b : Bytes s) where
-  front : (length s ≡ 0 → ⊥) → refusalOf (reg .choices) s ≡ 0 → Front reg s (done (natAt 4 s 1)) 5
-  unfolding encodePlan
-  front l z = record {
-    read-is = refl;
-    end-is = refl;
-    named = plan-named reg s l z;
-    wide = natAt-below 4 s 1 b;
-    bytes-are = drop-cons s 0 0 (omega arith) ∙ rw (plan-byte reg s l z, bytesOf-natAt 4 s 1 b (plan-room reg s l z), ← (drop-drop 4 1 s), take-append-drop 4 (drop 1 s));
+module _ (reg : Register) (few : reg .choices ≤ maxChoices) where
+  laws : Laws 0 (planRows reg) (Nothing (reg .choices)) (Done (reg .choices))
+  unfolding rowOf
+  laws = record {
+    starts = λ B. record { fresh = refl; none = refl };
+    grows = λ B. record {
+      on = λ p cs xs g e q fit. record {
+        named = named-iff (reg .choices) _ .0 q;
+        only = record { command = record { byte = 0x40; operands = xs }; form = (refl, λ b. ap (λ xs. record { byte = 0x40; operands = xs }) (fit-one 4 xs (fit b) .0)); whole = rw (g .none) };
+      };
+    } ▹ tt;
+    back = λ p cs g. inl (g .fresh, g .none);
+    back-end = λ p cs d. record {
+      before = 0;
+      front = [];
+      command = planCommand p;
+      good = record { fresh = refl; none = refl };
+      allowed = record { byte = omega arith; here = refl; operands = (omega (arith, d .named, pow-mono few), tt); passes = named-iff (reg .choices) p .1 (d .named) };
+      after = refl;
+      ends-is = refl;
+      whole = d .only .whole ∙ rw (d .only .form .1 tt);
+    };
   }
 
-  pub accepted-front : {read : Progress ℕ} {end : ℕ} → planInJob reg s ≡ accepted read end → Front reg s read end
-  accepted-front = accepted-by reg s (Front reg s) front
+  means : A.Means (Done (reg .choices)) (Named (reg .choices)) Commands 0x40
+  means = record {
+    valid = λ B p cs d. (d .named, rw (d .only .whole) (d .only .form .0));
+    said = λ B p cs b d. record { command = d .only .command; form = d .only .form .1 b; whole = d .only .whole };
+    done = λ p cs named c. record { named = named; only = record { command = c .command; form = (rw (c .form), λ b. c .form); whole = c .whole } };
+  }
 
-  -- a run of bytes by itself
-  pub whole-front : {read : Progress ℕ} {end : ℕ} → planByItself reg s ≡ accepted read end → (read .parsed < 2 ^ reg .choices) × (read .parsed < 2 ^ 32) × (s ≡ encodePlan (read .parsed))
+  -- ---- at the front of a run of bytes, as in a job
+
+  module _ (s : List ℕ) (p : Progress ℕ) (end : ℕ) (e : planInJob reg s ≡ accepted p end) where
+    pub named-accepted : Named (reg .choices) (p .parsed) × (p .previous ≡ 0x40)
+    unfolding planInJob
+    named-accepted = A.front-valid 0 (planRows reg) laws means s p end e
+
+    pub bytes-accepted : Bytes s → Encodes reg (p .parsed) (take end s) × (end ≤ length s)
+    unfolding planInJob
+    bytes-accepted = A.front-encodes 0 (planRows reg) laws means s p end e
+
+  pub front-accepted : (plan : ℕ) (x rest : List ℕ) → Named (reg .choices) plan → Encodes reg plan x → planInJob reg (x ++ rest) ≡ accepted (reached 0x40 plan) (length x)
+  unfolding planInJob
+  front-accepted = A.front-accepted 0 (planRows reg) laws means
+
+  -- two plans of a register with one encoding are one
+  pub plan-determines : (plan plan′ : ℕ) (x : List ℕ) → Named (reg .choices) plan → Named (reg .choices) plan′ → Encodes reg plan x → Encodes reg plan′ x → plan ≡ plan′
+  plan-determines = A.determines 0 (planRows reg) laws means
+
+  -- ---- by itself
+
+  pub whole-accepted : (plan : ℕ) (s : List ℕ) → Named (reg .choices) plan → Encodes reg plan s → planByItself reg s ≡ accepted (reached 0x40 plan) (length s)
   unfolding planByItself planInJob
-  whole-front {read} {end} q =
-      let (inJob, whole) = byItself-end (planPart reg) s read end q in
-      let f = accepted-front inJob in
-      let five : length s ≡ 5 = sym whole ∙ f .end-is in
-      let e : drop 5 s ≡ [] = rw (← five) (drop-length s) in
-      (f .named, f .wide, f .bytes-are ∙ rw (e, append-nil))
+  whole-accepted = A.whole-accepted 0 (planRows reg) laws means
 
-  pub accepts-plan : (p : ℕ) → (planByItself reg s ≡ accepted (done p) (length s)) ↔ ((p < 2 ^ reg .choices) × (p < 2 ^ 32) × (s ≡ encodePlan p))
-  accepts-plan p = (whole-front, λ (named, wide, e). whole-accepted reg p named wide s e)
+  module _ (s : List ℕ) (p : Progress ℕ) (end : ℕ) (e : planByItself reg s ≡ accepted p end) where
+    pub whole-named : Named (reg .choices) (p .parsed) × (p .previous ≡ 0x40)
+    unfolding planByItself planInJob
+    whole-named = A.whole-valid 0 (planRows reg) laws means s p end e
+
+    pub whole-encodes : Bytes s → Encodes reg (p .parsed) s
+    unfolding planByItself planInJob
+    whole-encodes = A.whole-encodes 0 (planRows reg) laws means s p end e
+
+  pub accepts-plan : (s : List ℕ) (plan : ℕ) → Bytes s → (planByItself reg s ≡ accepted (reached 0x40 plan) (length s)) ↔ (Named (reg .choices) plan × Encodes reg plan s)
+  unfolding planByItself planInJob
+  accepts-plan = A.whole-iff 0 (planRows reg) laws means
+
+-- ---- what a writer makes of a plan is an encoding of it, and the only one
+
+module _ (reg : Register) (plan : ℕ) where
+  plan-bytes : encode (planPart reg) (planCommand plan ∷ []) ≡ encodePlan plan
+  unfolding encode flatMap encodeCommand fields rowOf encodePlan
+  plan-bytes = rw (append-nil, append-nil)
+
+  pub canonical : Encodes reg plan (encodePlan plan)
+  canonical = record { commands = planCommand plan ∷ []; are = record { command = planCommand plan; form = refl; whole = refl }; bytes = sym plan-bytes }
+
+  pub only-canonical : (s : List ℕ) → Encodes reg plan s → s ≡ encodePlan plan
+  only-canonical s e = e .bytes ∙ ap (encode (planPart reg)) (e .are .whole ∙ rw (e .are .form)) ∙ plan-bytes

@@ -35,12 +35,12 @@ module _ (r : Register) (plan : ℕ) where
     term-small t l = by (isSubset (mask r t) plan)
       where
         by : (b : Bool) → natAbs (cond b (coefficient r t) (pos 0)) ≤ maxCoefficient
-        by true = w .terms t l .coefficient-within
+        by true = w .terms .each t l .coefficient-within
         by false = omega arith
 
     pub costTo-small : (i : ℕ) → i ≤ r .terms → natAbs (costTo i) ≤ maxBase + maxTerms * maxCoefficient
     costTo-small i l =
-        omega (arith, natAbs-+ (r .base) (sumBelow i (λ t. termCost (coefficient r t) r plan t)), natAbs-sum i maxCoefficient (λ t. termCost (coefficient r t) r plan t) (λ t m. term-small t (omega arith)), w .base, w .terms-within)
+        omega (arith, natAbs-+ (r .base) (sumBelow i (λ t. termCost (coefficient r t) r plan t)), natAbs-sum i maxCoefficient (λ t. termCost (coefficient r t) r plan t) (λ t m. term-small t (omega arith)), w .base, w .terms .few)
 
     pub cost-small : natAbs (cost (coefficient r) r plan) ≤ maxBase + maxTerms * maxCoefficient
     cost-small = rw (sym costTo-all) (costTo-small (r .terms) (le-refl _))

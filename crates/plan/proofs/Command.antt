@@ -1,25 +1,22 @@
 -- The plan's command, and what reading it leads to.
 use mathlib.Core.Path.{_≡_, sym, _∙_}
 use mathlib.Core.List.{List}
-use Prim.Native.Nat.{ℕ, _^_, _<_, _≤_}
+use Prim.Native.Nat.{ℕ, _≤_}
 use native.Mathlib.Nat.{sub-zero}
 use native.Mathlib.Omega.{arith}
 use native.Mathlib.Decide.{ℕ-discrete}
 use lib.Dec.{eqb}
 use lib.ListN.{length, getD}
-use borrow.Author.Tests.{eqb-true, ltb-false, leb-false, ne-eqb, not-false}
+use borrow.Author.Tests.{eqb-true, ltb-false, ne-eqb, not-false}
 use Rattle.wire.specs.Number.{natAt}
 use Rattle.wire.specs.Checks.{Check, refusal, commandChecks}
 use Rattle.wire.specs.Part.{refused, accepted, operandsAt, total, checksAt, afterAt, readPart}
-use Rattle.wire.specs.Rows.{Progress, rowOf}
+use Rattle.wire.specs.Rows.{rowOf}
 use Rattle.wire.proofs.Checks.{Passed, refusal-none}
 use Rattle.wire.proofs.Part.{readFrom-missing, readFrom-refused, readFrom-ends}
+use Rattle.wire.proofs.Accepting.{reached}
 use Rattle.register.specs.declared.Register.{Register}
 use Rattle.plan.specs.Format.{planChecks, planPart, planInJob}
-
--- what has been read: the plan
-abbrev pub done : ℕ → Progress ℕ
-done plan = record { previous = 0x40; parsed = plan }
 
 -- the checks of the plan at the front of a run of bytes, where there are n choices, and its refusal
 
@@ -61,11 +58,7 @@ module _ (reg : Register) (s : List ℕ) where
     unfolding commandChecks planChecks
     plan-room = ltb-false _ _ (passed .1 .0)
 
-    pub plan-named : natAt 4 s 1 < 2 ^ reg .choices
-    unfolding commandChecks planChecks
-    plan-named = leb-false _ _ (passed .1 .1 .0)
-
-    pub plan-ends : planInJob reg s ≡ accepted (done (natAt 4 s 1)) 5
+    pub plan-ends : planInJob reg s ≡ accepted (reached 0x40 (natAt 4 s 1)) 5
     unfolding planInJob readPart rowOf total afterAt operandsAt
     plan-ends =
         readFrom-ends (planPart reg) s (planPart reg .start) 0 (omega arith) (sym refusal-is ∙ e) (rw plan-byte)

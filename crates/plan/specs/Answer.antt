@@ -4,9 +4,9 @@ use mathlib.Core.List.{List}
 use lib.IntN.{ℤ, pos}
 use Rattle.wire.specs.Part.{Reading, refused, accepted}
 use Rattle.wire.specs.Rows.{Progress}
-use Rattle.register.specs.declared.Register.{Register}
+use Rattle.wire.specs.Outcome.{Outcome, accepts, given, andThen, answerBy}
 use Rattle.register.specs.Register.{coefficient}
-use Rattle.register.specs.Format.{registerByItself}
+use Rattle.register.specs.Opening.{openRegister}
 use Rattle.plan.specs.declared.PlanRead.{PlanRead}
 use Rattle.plan.specs.declared.CostAnswer.{CostAnswer}
 use Rattle.plan.specs.Plan.{cost}
@@ -29,16 +29,9 @@ refusedCost number part at = record { number = number; part = part; position = a
 abbrev pub acceptedCost : ℤ → CostAnswer
 acceptedCost z = record { number = 0; part = 0; position = 0; cost = z }
 
--- by what reading the plan leads to, with its register
-abbrev pub planAnswer : Register → Reading (Progress ℕ) → CostAnswer
-planAnswer reg (refused number at) = refusedCost number 4 at
-planAnswer reg (accepted p end) = acceptedCost (cost (coefficient reg) reg (p .parsed))
+-- the cost of the plan, from parts 1 and 4, each a run of bytes by itself
+abbrev pub costOutcome : List ℕ → List ℕ → Outcome ℤ
+costOutcome register plan = andThen (openRegister register) λ reg. andThen (given 4 (planByItself reg plan)) λ p. accepts (cost (coefficient reg) reg p)
 
--- by what reading the register leads to: the plan's bytes are opened where the register is accepted, its end included
-abbrev pub registerThenPlan : List ℕ → Reading (Progress Register) → CostAnswer
-registerThenPlan plan (refused number at) = refusedCost number 1 at
-registerThenPlan plan (accepted p end) = planAnswer (p .parsed) (planByItself (p .parsed) plan)
-
--- the bytes of parts 1 and 4, each a run of bytes by itself
 unfoldable pub costAnswer : List ℕ → List ℕ → CostAnswer
-costAnswer register plan = registerThenPlan plan (registerByItself register)
+costAnswer register plan = answerBy refusedCost acceptedCost (costOutcome register plan)

@@ -23,8 +23,11 @@ planRow reg = record {
   last = true;
 }
 
+abbrev pub planRows : Register → List (Row ℕ)
+planRows reg = planRow reg ∷ []
+
 abbrev pub planPart : Register → Part (Progress ℕ)
-planPart reg = partOf 0 (planRow reg ∷ [])
+planPart reg = partOf 0 (planRows reg)
 
 -- the plan at the front of a run of bytes, as in a job
 unfoldable pub planInJob : Register → List ℕ → Reading (Progress ℕ)

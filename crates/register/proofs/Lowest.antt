@@ -2,7 +2,7 @@
 use Prim.Native.Nat.{ℕ}
 use mathlib.Core.Path.{_≡_}
 use mathlib.Core.Logic.{_↔_}
-use mathlib.Core.List.{List, [], _∷_}
+use mathlib.Core.List.{List}
 use Rattle.integers.specs.Lists.{All}
 use Rattle.integers.proofs.Lists.{_▹_}
 use Rattle.wire.specs.Number.{Bytes}
@@ -10,14 +10,14 @@ use Rattle.wire.specs.Part.{refused}
 use Rattle.wire.specs.Refused.{RefusedAt, RefusedByItself}
 use Rattle.wire.proofs.Lowest.{Rising, Rises, rows-rising, refused-iff, refused-by-itself-iff}
 use Rattle.register.specs.Register.{fresh}
-use Rattle.register.specs.Format.{baseRow, choiceRow, termRow, endRow, baseChecks, choiceChecks, termChecks, endChecks, registerPart, registerInJob, registerByItself}
+use Rattle.register.specs.Format.{baseChecks, choiceChecks, termChecks, endChecks, registerRows, registerPart, registerInJob, registerByItself}
 
-register-rises : All Rises (baseRow ∷ choiceRow ∷ termRow ∷ endRow ∷ [])
+register-rises : All Rises registerRows
 unfolding baseChecks choiceChecks termChecks endChecks
 register-rises = (λ r xs. tt) ▹ (λ r xs. tt) ▹ (λ r xs. tt) ▹ (λ r xs. tt) ▹ tt
 
 register-rising : Rising registerPart
-register-rising = rows-rising fresh (baseRow ∷ choiceRow ∷ termRow ∷ endRow ∷ []) register-rises
+register-rising = rows-rising fresh registerRows register-rises
 
 module _ (s : List ℕ) (b : Bytes s) (n at : ℕ) where
   pub register-refused : (registerInJob s ≡ refused n at) ↔ RefusedAt registerPart s n at

@@ -12,7 +12,7 @@ use Rattle.register.specs.declared.RegisterAnswer.{RegisterAnswer}
 use Rattle.register.specs.Format.{registerPart, registerInJob, registerByItself}
 use Rattle.register.specs.Answer.{registerAnswer}
 use Rattle.register.specs.Valid.{Valid}
-use Rattle.register.proofs.Commands.{reached}
+use Rattle.wire.proofs.Accepting.{reached}
 use Rattle.register.proofs.Accept.{valid-accepted}
 
 -- an accepted register

@@ -1,19 +1,20 @@
 -- The bytes that a register's reading can look at, and the bytes of an accepted one.
-use Prim.Native.Nat.{ℕ, _+_, _*_, _≤_}
+use Prim.Native.Nat.{ℕ, _+_, _-_, _*_, _≤_}
 use native.Mathlib.Omega.{arith}
 use mathlib.Core.Path.{_≡_, refl}
 use mathlib.Core.List.{List}
 use lib.ListN.{take}
 use borrow.Author.Tests.{eqb-true}
 use Rattle.integers.proofs.Lists.{_▹_}
-use Rattle.wire.specs.Part.{accepted, total}
-use Rattle.wire.specs.Rows.{Progress}
+use Rattle.wire.specs.Part.{accepted, total, size}
+use Rattle.wire.specs.Rows.{Progress, sizeOf}
 use Rattle.wire.proofs.Prefix.{Limited, Keeps, limited, read-prefix, end-within}
 use Rattle.register.specs.declared.Register.{Register}
 use Rattle.register.specs.Limits.{maxChoices, maxTerms}
 use Rattle.register.specs.Register.{fresh}
 use Rattle.register.specs.Format.{baseRow, choiceRow, termRow, endRow, registerPart, registerInJob}
-use Rattle.register.proofs.Passes.{choice-passes, term-passes}
+use Rattle.register.proofs.Entries.{termAt}
+use Rattle.register.proofs.Passes.{choice-iff, term-iff}
 
 -- the position of a command, by what has been read
 record Reach (p : Progress Register) (at : ℕ) : Type 0 where
@@ -39,24 +40,34 @@ limits = limited fresh _ (omega arith) (record { start = λ e. refl; near = omeg
     choice : Keeps Reach 9 (far + 1) 0x11 choiceRow
     choice = record {
       small = omega arith;
-      moves = λ p at xs r e h. record { start = λ z. absurd (omega arith); near = omega (arith, r .near); choices = choice-passes _ _ _ _ _ h .few; terms = r .terms };
+      moves = λ p at xs r e h. record { start = λ z. absurd (omega arith); near = omega (arith, r .near); choices = choice-iff _ _ _ _ _ .0 h .few; terms = r .terms };
     }
 
     term : Keeps Reach 9 (far + 1) 0x12 termRow
     term = record {
       small = omega arith;
-      moves = λ p at xs r e h. record { start = λ z. absurd (omega arith); near = omega (arith, r .near); choices = r .choices; terms = term-passes _ _ _ _ _ h .few };
+      moves = λ p at xs r e h. record { start = λ z. absurd (omega arith); near = omega (arith, r .near); choices = r .choices; terms = term-iff _ _ (termAt (p .parsed) (p .parsed .terms - 1)) _ _ .0 h .few };
     }
 
     last : Keeps Reach 9 (far + 1) 0x1F endRow
     last = record { small = omega arith; moves = λ p at xs r e h. omega (arith, r .near, r .choices, r .terms) }
 
--- 5 + 5 · 32 + 9 · 256, and the 9 bytes of a 257th term
-pub register-prefix : (K : ℕ) (s : List ℕ) → 2_478 ≤ K → registerInJob (take K s) ≡ registerInJob s
-unfolding registerInJob
+-- no command takes more bytes than a term's
+pub size-within : (b : ℕ) → size registerPart b ≤ 9
+size-within = limits .small
+
+-- the longest register: `10`, every choice and term that there may be, and `1F`
+unfoldable pub registerLongest : ℕ
+registerLongest = sizeOf baseRow + sizeOf choiceRow * maxChoices + sizeOf termRow * maxTerms + sizeOf endRow
+
+-- the bytes that can matter: a term too many in place of `1F`
+unfoldable pub registerReach : ℕ
+registerReach = sizeOf baseRow + sizeOf choiceRow * maxChoices + sizeOf termRow * maxTerms + sizeOf termRow
+
+pub register-prefix : (K : ℕ) (s : List ℕ) → registerReach ≤ K → registerInJob (take K s) ≡ registerInJob s
+unfolding registerInJob registerReach total
 register-prefix K s k = read-prefix registerPart limits K s (omega arith)
 
--- 5 + 5 · 32 + 9 · 256, and `1F`
-pub register-end : (s : List ℕ) {p : Progress Register} {end : ℕ} → registerInJob s ≡ accepted p end → end ≤ 2_470
-unfolding registerInJob
+pub register-end : (s : List ℕ) {p : Progress Register} {end : ℕ} → registerInJob s ≡ accepted p end → end ≤ registerLongest
+unfolding registerInJob registerLongest total
 register-end s e = omega (arith, end-within registerPart limits s e)

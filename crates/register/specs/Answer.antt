@@ -1,21 +1,23 @@
 -- What the register's calls answer, by what reading leads to.
 use Prim.Native.Nat.{ℕ, _-_}
-use mathlib.Core.Path.{_≡_}
 use Rattle.wire.specs.Part.{Reading, refused, accepted}
 use Rattle.wire.specs.Rows.{Progress}
 use Rattle.register.specs.declared.Register.{Register}
+use Rattle.register.specs.declared.Seen.{Seen}
 use Rattle.register.specs.declared.RegisterRead.{RegisterRead}
 use Rattle.register.specs.declared.RegisterAnswer.{RegisterAnswer}
 use Rattle.register.specs.Register.{tank, minute, mask, fresh}
 
--- the numbers that the checks of a command look at, of what has been read so far
-pub record Shows (p : Progress Register) (previous choices terms tank₀ minute₀ mask₀ : ℕ) : Type 0 where
-  pub previous-is : p .previous ≡ previous
-  pub choices-is : p .parsed .choices ≡ choices
-  pub terms-is : p .parsed .terms ≡ terms
-  pub tank-is : tank (p .parsed) (p .parsed .choices - 1) ≡ tank₀
-  pub minute-is : minute (p .parsed) (p .parsed .choices - 1) ≡ minute₀
-  pub mask-is : mask (p .parsed) (p .parsed .terms - 1) ≡ mask₀
+-- what the checks of a command look at, of what has been read so far
+abbrev pub seenOf : Progress Register → Seen
+seenOf p = let r = p .parsed in record {
+  previous = p .previous;
+  choices = r .choices;
+  terms = r .terms;
+  tank = tank r (r .choices - 1);
+  minute = minute r (r .choices - 1);
+  mask = mask r (r .terms - 1);
+}
 
 -- for the reader of a job: a refusal's number and position, or 0, the position past the end and the register
 

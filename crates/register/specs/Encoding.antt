@@ -1,13 +1,60 @@
--- The register's bytes: `10` base cost, `11` for each choice, `12` for each term, `1F`. Written without the reader.
+-- The register's bytes: `10` base cost, `11` for each choice, `12` for each term, `1F`. Written without the reader: of the part's
+-- rows only the widths of operands are used.
 use Prim.Native.Nat.{ℕ}
+use mathlib.Core.Path.{_≡_}
 use mathlib.Core.List.{List, [], _∷_, _++_}
 use lib.IntN.{ℤ}
 use mir.Syntax.{w32}
 use mir.Val.{ofZ}
 use Rattle.integers.specs.Lists.{joinBelow}
 use Rattle.wire.specs.Number.{bytesOf}
+use Rattle.wire.specs.Encoding.{Command}
+use Rattle.wire.specs.Grammar.{Only, Then, Kind, Kinds}
+use Rattle.wire.specs.Grammar as G
 use Rattle.register.specs.declared.Register.{Register}
 use Rattle.register.specs.Register.{tank, minute, mask, coefficient}
+use Rattle.register.specs.Format.{registerPart}
+
+-- ---- an encoding: header, each choice in one of its forms, each term in one of its forms, end
+
+-- `10` base cost
+abbrev pub baseCommand : ℤ → Command
+baseCommand base = record { byte = 0x10; operands = ofZ w32 base ∷ [] }
+
+abbrev pub Header : Register → List Command → Type 0
+Header r = Only (λ c. c ≡ baseCommand (r .base))
+
+-- `11` tank, minute
+abbrev pub choiceCommand : (tank minute : ℕ) → Command
+choiceCommand tank minute = record { byte = 0x11; operands = tank ∷ minute ∷ [] }
+
+abbrev pub choiceKind : Kind Register
+choiceKind = record { bytes = 0x11 ∷ []; count = λ r. r .choices; says = λ r i c. c ≡ choiceCommand (tank r i) (minute r i) }
+
+-- `12` mask, coefficient
+abbrev pub termCommand : (mask : ℕ) → ℤ → Command
+termCommand mask coefficient = record { byte = 0x12; operands = mask ∷ ofZ w32 coefficient ∷ [] }
+
+abbrev pub termKind : Kind Register
+termKind = record { bytes = 0x12 ∷ []; count = λ r. r .terms; says = λ r t c. c ≡ termCommand (mask r t) (coefficient r t) }
+
+-- in this order
+abbrev pub kinds : List (Kind Register)
+kinds = choiceKind ∷ termKind ∷ []
+
+-- `1F`
+abbrev pub endCommand : Command
+endCommand = record { byte = 0x1F; operands = [] }
+
+-- the commands are those of a register
+abbrev pub Commands : Register → List Command → Type 0
+Commands r = Then (Kinds r (Header r) kinds) (Only (λ c. c ≡ endCommand))
+
+-- a run of bytes is an encoding of a register
+abbrev pub Encodes : Register → List ℕ → Type 0
+Encodes r s = G.Encodes registerPart Commands r s
+
+-- ---- the encoding that a writer makes, which is one
 
 -- `10` base cost i32
 unfoldable pub encodeBase : ℤ → List ℕ

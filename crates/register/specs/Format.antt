@@ -84,8 +84,11 @@ endRow = record {
   last = true;
 }
 
+abbrev pub registerRows : List (Row Register)
+registerRows = baseRow ∷ choiceRow ∷ termRow ∷ endRow ∷ []
+
 abbrev pub registerPart : Part (Progress Register)
-registerPart = partOf fresh (baseRow ∷ choiceRow ∷ termRow ∷ endRow ∷ [])
+registerPart = partOf fresh registerRows
 
 -- the register at the front of a run of bytes, as in a job
 unfoldable pub registerInJob : List ℕ → Reading (Progress Register)

@@ -1,7 +1,10 @@
--- Part 1 of the job file, in the order of the paper: limits, the record, its commands, and how it is read.
+-- Part 1 of the job file, in the order of the paper: limits, the record, its commands, its conditions and bytes, where a term's
+-- command stands, and how it is read.
 pub mod Limits
 pub mod Register
 pub mod Format
 pub mod Valid
 pub mod Encoding
+pub mod Position
 pub mod Answer
+pub mod Opening

@@ -1,5 +1,6 @@
 -- The register's record: its entries, the fresh one, and one more choice or term.
 use Prim.Native.Nat.{ℕ, suc}
+use mathlib.Core.List.{List}
 use lib.ListN.{getD, set, replicate}
 use lib.IntN.{ℤ, pos}
 use Rattle.register.specs.declared.Register.{Register}
@@ -33,8 +34,10 @@ fresh = record {
   coefficients = replicate maxTerms (pos 0);
 }
 
-abbrev pub withBase : Register → ℤ → Register
-withBase r base = record {
+-- ---- a register with other values of one group: the base cost, the choices, the terms
+
+abbrev pub setBase : Register → ℤ → Register
+setBase r base = record {
   base = base;
   choices = r .choices;
   terms = r .terms;
@@ -44,26 +47,37 @@ withBase r base = record {
   coefficients = r .coefficients;
 }
 
--- one choice more; choices are numbered from 0
-abbrev pub withChoice : Register → ℕ → ℕ → Register
-withChoice r tank minute = record {
+abbrev pub setChoices : Register → ℕ → (tanks minutes : List ℕ) → Register
+setChoices r n tanks minutes = record {
   base = r .base;
-  choices = suc (r .choices);
+  choices = n;
   terms = r .terms;
-  tanks = set (r .tanks) (r .choices) tank;
-  minutes = set (r .minutes) (r .choices) minute;
+  tanks = tanks;
+  minutes = minutes;
   masks = r .masks;
   coefficients = r .coefficients;
 }
 
--- one term more
-abbrev pub withTerm : Register → ℕ → ℤ → Register
-withTerm r mask coefficient = record {
+abbrev pub setTerms : Register → ℕ → List ℕ → List ℤ → Register
+setTerms r m masks coefficients = record {
   base = r .base;
   choices = r .choices;
-  terms = suc (r .terms);
+  terms = m;
   tanks = r .tanks;
   minutes = r .minutes;
-  masks = set (r .masks) (r .terms) mask;
-  coefficients = set (r .coefficients) (r .terms) coefficient;
+  masks = masks;
+  coefficients = coefficients;
 }
+
+-- ---- what a command gives
+
+abbrev pub withBase : Register → ℤ → Register
+withBase r base = setBase r base
+
+-- one choice more; choices are numbered from 0
+abbrev pub withChoice : Register → ℕ → ℕ → Register
+withChoice r tank minute = setChoices r (suc (r .choices)) (set (r .tanks) (r .choices) tank) (set (r .minutes) (r .choices) minute)
+
+-- one term more
+abbrev pub withTerm : Register → ℕ → ℤ → Register
+withTerm r mask coefficient = setTerms r (suc (r .terms)) (set (r .masks) (r .terms) mask) (set (r .coefficients) (r .terms) coefficient)

@@ -1,19 +1,14 @@
 // Part 1 of the job file, the register: the choices of a plan and the terms of its cost.
-use wire::command_refusal;
-use wire::first_of;
+
+mod checks;
+pub mod walk;
+
+use checks::refusal_at;
 ghost use mathlib.Core.Path.{_≡_};
-ghost use mathlib.Core.List.{[], _∷_};
-ghost use Prim.Native.Nat.{_+_, _-_, _<_, _≤_};
-ghost use lib.ListN.{length};
-ghost use mir.Syntax.{w32};
-ghost use Rattle.wire.specs.Number.{natAt, intAt};
-ghost use Rattle.wire.specs.Checks.{commandChecks, refusal};
-ghost use Rattle.wire.specs.Part.{checksAt};
-ghost use Rattle.register.specs.Limits.{maxChoices};
+ghost use Prim.Native.Nat.{_-_};
 ghost use Rattle.register.specs.Register.{fresh};
-ghost use Rattle.wire.specs.Rows.{Progress, isAmong};
-ghost use Rattle.register.specs.Format.{baseChecks, choiceChecks, termChecks, endChecks, registerPart, registerInJob, registerByItself};
-ghost use Rattle.register.specs.Answer.{Shows, refusedRead, registerRead, refusedAnswer, registerAnswer};
+ghost use Rattle.register.specs.Format.{registerInJob, registerByItself};
+ghost use Rattle.register.specs.Answer.{refusedRead, registerRead, refusedAnswer, registerAnswer};
 
 // The record that the register's bytes give. Entries past the counts are 0.
 #[repr(C)]
@@ -25,6 +20,16 @@ pub struct Register {
     pub minutes: [u16; Register::MAX_CHOICES],
     pub masks: [u32; Register::MAX_TERMS],
     pub coefficients: [i32; Register::MAX_TERMS],
+}
+
+// What the checks of a command look at: the byte of the last command, the counts, and the last choice and mask.
+pub struct Seen {
+    pub previous: u8,
+    pub choices: usize,
+    pub terms: usize,
+    pub tank: u16,
+    pub minute: u16,
+    pub mask: u32,
 }
 
 // What reading the register at the front of a run of bytes leads to: a refusal's number and position, or 0, the position
@@ -108,132 +113,6 @@ fn last_of(n: usize) -> usize
     if n == 0 { 0 } else { n - 1 }
 }
 
-// The refusal of a base cost, or 0.
-fn base_refusal(base: i32) -> u8
-    ensures { λ r. ⌜ r ≡ refusal (baseChecks base) ⌝ }
-{
-    first_of(Register::MAX_BASE < wire::magnitude(base as i64), 4, 0)
-}
-
-// The refusal of a choice after n others, the last of which is tank0 at minute0, or 0.
-fn choice_refusal(n: usize, tank0: u16, minute0: u16, tank: u16, minute: u16) -> u8
-    ensures { λ r. ⌜ r ≡ refusal (choiceChecks n tank0 minute0 tank minute) ⌝ }
-{
-    let out = (tank == 0) | (Register::MAX_TANK < tank) | (Register::MAX_MINUTE < minute);
-    let later = (tank0 < tank) | ((tank0 == tank) & (minute0 < minute));
-    let falls = !((n == 0) | later);
-    first_of(
-        Register::MAX_CHOICES <= n,
-        3,
-        first_of(out, 4, first_of(falls, 7, 0)),
-    )
-}
-
-// The refusal of a term after m others, the last of which has mask0, where there are n choices, or 0.
-fn term_refusal(n: usize, m: usize, mask0: u32, mask: u32, coefficient: i32) -> u8
-    requires { ⌜ n ≤ maxChoices ⌝ }
-    ensures { λ r. ⌜ r ≡ refusal (termChecks n m mask0 mask coefficient) ⌝ }
-{
-    let size = wire::magnitude(coefficient as i64);
-    let out = (size == 0) | (Register::MAX_COEFFICIENT < size);
-    let unnamed = (mask == 0) | (1u64 << n <= mask as u64);
-    let falls = !((m == 0) | (mask0 < mask));
-    let named = first_of(unnamed, 5, first_of(falls, 7, 0));
-    first_of(Register::MAX_TERMS <= m, 3, first_of(out, 4, named))
-}
-
-// The refusal of the base cost at a position, or 0.
-fn base_at(bytes: &[u8], at: usize, previous: u8) -> u8
-    requires { ⌜ at < length (now bytes) ⌝ }
-    ensures { λ r. ⌜ r ≡ refusal (commandChecks (isAmong previous (0 ∷ [])) (length (now (bytes .entry)) - at) 5
-        (baseChecks (intAt w32 (now (bytes .entry)) (at + 1)))) ⌝ }
-{
-    let placed = command_refusal(previous == 0, bytes.len() - at, 5);
-    if placed != 0 {
-        return placed;
-    }
-    base_refusal(wire::i32_at(bytes, at + 1))
-}
-
-// The refusal of the choice at a position, or 0.
-fn choice_at(bytes: &[u8], at: usize, previous: u8, n: usize, tank0: u16, minute0: u16) -> u8
-    requires { ⌜ at < length (now bytes) ⌝ }
-    ensures { λ r. ⌜ r ≡ refusal (commandChecks (isAmong previous (0x10 ∷ 0x11 ∷ [])) (length (now (bytes .entry)) - at) 5
-        (choiceChecks n tank0 minute0 (natAt 2 (now (bytes .entry)) (at + 1)) (natAt 2 (now (bytes .entry)) (at + 1 + 2)))) ⌝ }
-{
-    let here = (previous == 0x10) | (previous == 0x11);
-    let placed = command_refusal(here, bytes.len() - at, 5);
-    if placed != 0 {
-        return placed;
-    }
-    let tank = wire::u16_at(bytes, at + 1);
-    let minute = wire::u16_at(bytes, at + 1 + 2);
-    choice_refusal(n, tank0, minute0, tank, minute)
-}
-
-// A term or the end may stand here.
-fn after_choices(previous: u8) -> bool
-    ensures { λ r. ⌜ r ≡ isAmong previous (0x10 ∷ 0x11 ∷ 0x12 ∷ []) ⌝ }
-{
-    (previous == 0x10) | ((previous == 0x11) | (previous == 0x12))
-}
-
-// The refusal of the term at a position, or 0.
-fn term_at(bytes: &[u8], at: usize, previous: u8, n: usize, m: usize, mask0: u32) -> u8
-    requires { ⌜ at < length (now bytes) ⌝ }
-    requires { ⌜ n ≤ maxChoices ⌝ }
-    ensures { λ r. ⌜ r ≡ refusal (commandChecks (isAmong previous (0x10 ∷ 0x11 ∷ 0x12 ∷ [])) (length (now (bytes .entry)) - at) 9
-        (termChecks n m mask0 (natAt 4 (now (bytes .entry)) (at + 1)) (intAt w32 (now (bytes .entry)) (at + 1 + 4)))) ⌝ }
-{
-    let placed = command_refusal(after_choices(previous), bytes.len() - at, 9);
-    if placed != 0 {
-        return placed;
-    }
-    let mask = wire::u32_at(bytes, at + 1);
-    let coefficient = wire::i32_at(bytes, at + 1 + 4);
-    term_refusal(n, m, mask0, mask, coefficient)
-}
-
-// The refusal of the end at a position, or 0.
-fn end_at(bytes: &[u8], at: usize, previous: u8, n: usize) -> u8
-    requires { ⌜ at < length (now bytes) ⌝ }
-    ensures { λ r. ⌜ r ≡ refusal (commandChecks (isAmong previous (0x10 ∷ 0x11 ∷ 0x12 ∷ [])) (length (now (bytes .entry)) - at) 1
-        (endChecks n)) ⌝ }
-{
-    let placed = command_refusal(after_choices(previous), bytes.len() - at, 1);
-    if placed != 0 {
-        return placed;
-    }
-    first_of(n == 0, 3, 0)
-}
-
-// The refusal of the command at a position, or 0, by the numbers that its checks look at: the last command's byte, the counts,
-// and the last choice and mask.
-fn refusal_at(
-    bytes: &[u8],
-    at: usize,
-    previous: u8,
-    n: usize,
-    m: usize,
-    tank0: u16,
-    minute0: u16,
-    mask0: u32,
-) -> u8
-    requires { ⌜ at < length (now bytes) ⌝ }
-    requires { ⌜ n ≤ maxChoices ⌝ }
-    ensures { λ r. ⌜ ((p : Progress Register) → Shows p previous n m tank0 minute0 mask0 →
-        r ≡ refusal (checksAt registerPart (now (bytes .entry)) p at)) ⌝ }
-{
-    let command = bytes[at];
-    match command {
-        0x10 => base_at(bytes, at, previous),
-        0x11 => choice_at(bytes, at, previous, n, tank0, minute0),
-        0x12 => term_at(bytes, at, previous, n, m, mask0),
-        0x1f => end_at(bytes, at, previous, n),
-        _ => 1,
-    }
-}
-
 // The register at the front of a run of bytes.
 pub fn read_register(bytes: &[u8]) -> RegisterRead
     ensures { λ r. ⌜ r ≡ registerRead (registerInJob (now (bytes .entry))) ⌝ }
@@ -246,16 +125,15 @@ pub fn read_register(bytes: &[u8]) -> RegisterRead
         let m = register.terms;
         let i = last_of(n);
         let t = last_of(m);
-        let number = refusal_at(
-            bytes,
-            at,
-            previous,
-            n,
-            m,
-            register.tanks[i],
-            register.minutes[i],
-            register.masks[t],
-        );
+        let seen = Seen {
+            previous: previous,
+            choices: n,
+            terms: m,
+            tank: register.tanks[i],
+            minute: register.minutes[i],
+            mask: register.masks[t],
+        };
+        let number = refusal_at(bytes, at, seen);
         if number != 0 {
             return RegisterRead::refused(number, at);
         }

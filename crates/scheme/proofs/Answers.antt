@@ -1,67 +1,45 @@
--- The answer of the scheme by itself, from that of the register by itself and of the scheme in a job.
-use mathlib.Core.Path.{_≡_, sym, _∙_, ap}
+-- What parts 1 and 2 by themselves lead to, from the answers of the register's call and of the scheme's reader in a job.
+use mathlib.Core.Path.{_≡_, refl}
 use mathlib.Core.List.{List}
 use Prim.Native.Nat.{ℕ, _<_, _≤_}
-use native.Mathlib.Omega.{arith}
 use lib.ListN.{length}
-use borrow.Author.Tests.{lt-ltb, le-ltb}
-use Rattle.wire.specs.Part.{Reading, refused, accepted, byItself}
+use Rattle.wire.specs.Part.{Reading, accepted}
 use Rattle.wire.specs.Rows.{Progress}
-use Rattle.wire.proofs.Part.{NumberedReading, readPart-numbered}
-use Rattle.register.specs.declared.Register.{Register}
+use Rattle.wire.proofs.Part.{readPart-numbered}
+use Rattle.wire.proofs.Outcome.{Tells, told-refused, told-read, itself-refused, itself-past, itself-whole}
 use Rattle.register.specs.declared.RegisterAnswer.{RegisterAnswer}
 use Rattle.register.specs.Format.{registerByItself}
-use Rattle.register.specs.Valid.{Valid}
 use Rattle.register.specs.Answer.{registerAnswer}
 use Rattle.register.proofs.Opened.{opened-refused, opened}
 use Rattle.scheme.specs.declared.Scheme.{Scheme}
 use Rattle.scheme.specs.declared.SchemeRead.{SchemeRead}
-use Rattle.scheme.specs.declared.SchemeAnswer.{SchemeAnswer}
 use Rattle.scheme.specs.Format.{schemePart, schemeInJob, schemeByItself}
-use Rattle.scheme.specs.Answer.{schemeRead, refusedAnswer, partAnswer, answerAfter, schemeAnswer}
+use Rattle.scheme.specs.Answer.{schemeRead, openParts, refusedParts, acceptedParts, partsRead}
 
--- ---- the register by itself, and then the scheme
+pub scheme-tells : Tells schemeRead (λ r. r .number) (λ r. r .position)
+scheme-tells = record { refusals = λ n at. (refl, refl); readings = λ p end. (refl, refl) }
 
 module _ (t s : List ℕ) (first : RegisterAnswer) (e : first ≡ registerAnswer (registerByItself t)) where
-  pub register-refused : (first .number ≡ 0 → ⊥) → refusedAnswer (first .number) 1 (first .position) ≡ schemeAnswer t s
-  register-refused h = sym (ap (λ x. answerAfter x s) (opened-refused t first e h))
+  pub register-refused : (first .number ≡ 0 → ⊥) → refusedParts (first .number) 1 (first .position) ≡ partsRead (openParts t s)
+  register-refused h = rw (opened-refused t first e h)
 
-  pub register-accepted : first .number ≡ 0 → Valid (first .register) × (schemeAnswer t s ≡ partAnswer (schemeByItself (first .register) s))
-  register-accepted h = let o = opened t first e h in (o .valid, ap (λ x. answerAfter x s) (o .reads))
+  module _ (z : first .number ≡ 0) (part : SchemeRead) (d : part ≡ schemeRead (schemeInJob (first .register) s)) where
+    abbrev reading : Reading (Progress Scheme)
+    reading = schemeInJob (first .register) s
 
--- ---- the scheme by itself
+    pub scheme-refused : (part .number ≡ 0 → ⊥) → refusedParts (part .number) 2 (part .position) ≡ partsRead (openParts t s)
+    unfolding schemeByItself
+    scheme-refused h = rw (opened t first e z .reads, itself-refused s (told-refused schemeRead _ _ scheme-tells part reading d h))
 
-module _ (reg : Register) (s : List ℕ) where
-  numbered : NumberedReading (schemeInJob reg s)
-  unfolding schemeInJob
-  numbered = readPart-numbered (schemePart reg) s
+    module _ (h : part .number ≡ 0) where
+      went : (previous : ℕ) × (reading ≡ accepted (record { previous = previous; parsed = part .scheme }) (part .position))
+      unfolding schemeInJob
+      went = told-read schemeRead _ _ (λ r. r .scheme) scheme-tells (λ p end. refl) part reading d (readPart-numbered (schemePart (first .register)) s) h
 
-  module _ (part : SchemeRead) (e : part ≡ schemeRead (schemeInJob reg s)) where
-    pub answer-refused : (part .number ≡ 0 → ⊥) → refusedAnswer (part .number) 2 (part .position) ≡ partAnswer (schemeByItself reg s)
-    unfolding schemeByItself byItself
-    answer-refused h = go (schemeInJob reg s) e
-      where
-        go : (x : Reading (Progress Scheme)) → part ≡ schemeRead x → refusedAnswer (part .number) 2 (part .position) ≡ partAnswer (byItself s x)
-        go (refused n at) f = rw f
-        go (accepted p end) f = absurd (h (ap (λ r. r .number) f))
+      pub scheme-past : part .position < length s → refusedParts 12 2 (part .position) ≡ partsRead (openParts t s)
+      unfolding schemeByItself
+      scheme-past l = rw (opened t first e z .reads, itself-past s (went .1) l)
 
-    pub answer-past : part .number ≡ 0 → part .position < length s → refusedAnswer 12 2 (part .position) ≡ partAnswer (schemeByItself reg s)
-    unfolding schemeByItself byItself
-    answer-past h l = go (schemeInJob reg s) e numbered
-      where
-        go : (x : Reading (Progress Scheme)) → part ≡ schemeRead x → NumberedReading x → refusedAnswer 12 2 (part .position) ≡ partAnswer (byItself s x)
-        go (refused n at) f d = absurd (d (sym (ap (λ r. r .number) f) ∙ h))
-        go (accepted p end) f d =
-            let q : part .position ≡ end = ap (λ r. r .position) f in
-            rw (q, lt-ltb end (length s) (omega arith))
-
-    pub answer-accepted : part .number ≡ 0 → length s ≤ part .position → _≡_ {A = SchemeAnswer} (record { number = 0; part = 0; position = 0; scheme = part .scheme }) (partAnswer (schemeByItself reg s))
-    unfolding schemeByItself byItself
-    answer-accepted h l = go (schemeInJob reg s) e numbered
-      where
-        go : (x : Reading (Progress Scheme)) → part ≡ schemeRead x → NumberedReading x → _≡_ {A = SchemeAnswer} (record { number = 0; part = 0; position = 0; scheme = part .scheme }) (partAnswer (byItself s x))
-        go (refused n at) f d = absurd (d (sym (ap (λ r. r .number) f) ∙ h))
-        go (accepted p end) f d =
-            let q : part .position ≡ end = ap (λ r. r .position) f in
-            let m : part .scheme ≡ p .parsed = ap (λ r. r .scheme) f in
-            rw (m, le-ltb end (length s) (omega arith))
+      pub scheme-whole : length s ≤ part .position → acceptedParts (first .register, part .scheme) ≡ partsRead (openParts t s)
+      unfolding schemeByItself
+      scheme-whole l = rw (opened t first e z .reads, itself-whole s (went .1) l)

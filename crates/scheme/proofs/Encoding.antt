@@ -1,19 +1,16 @@
--- The bytes of a scheme: that they are bytes, and how many.
-use Prim.Native.Nat.{ℕ, _+_, _*_, _≤_, _<_}
+-- How many bytes a scheme has.
+use Prim.Native.Nat.{ℕ, _+_, _*_, _≤_}
 use native.Mathlib.Omega.{arith}
 use mathlib.Core.Path.{_≡_}
-use mathlib.Core.List.{[], _∷_}
 use lib.ListN.{length, length-append}
-use Rattle.integers.proofs.Lists.{All-join}
-use Rattle.wire.specs.Number.{Bytes, bytesOf}
-use Rattle.wire.proofs.Number.{bytes-append, bytes-bytesOf, length-bytesOf}
+use Rattle.wire.proofs.Number.{length-bytesOf}
 use Rattle.register.specs.declared.Register.{Register}
 use Rattle.register.specs.Valid as R
 use Rattle.integers.proofs.Join.{length-join}
 use Rattle.scheme.specs.declared.Scheme.{Scheme}
 use Rattle.scheme.specs.Scheme.{left, right, splitLeft, splitRight}
 use Rattle.scheme.specs.Valid.{Valid}
-use Rattle.scheme.specs.Encoding.{encodeProduct, encodeSplit, encodeProducts, encodeSplits, encodeBody, encodeScheme}
+use Rattle.scheme.specs.Encoding.{encodeProduct, encodeSplit, encodeScheme}
 
 -- the bytes of one product, and of one split
 
@@ -35,19 +32,4 @@ length-encode n s =
 -- the longest has 865
 pub encode-within : (reg : Register) → R.Valid reg → (s : Scheme) → Valid reg s → length (encodeScheme (reg .choices) s) ≤ 865
 encode-within reg ok s v =
-    omega (arith, length-encode (reg .choices) s, ok .within .terms-within, v .within .products-within, v .within .splits-within)
-
-bytes-product : (l r : ℕ) → Bytes (encodeProduct l r)
-unfolding encodeProduct
-bytes-product l r = (omega arith, bytes-append (bytesOf 1 l) (bytesOf 1 r) (bytes-bytesOf 1 l) (bytes-bytesOf 1 r))
-
-bytes-split : (l r : ℕ) → Bytes (encodeSplit l r)
-unfolding encodeSplit
-bytes-split l r = (omega arith, bytes-append (bytesOf 1 l) (bytesOf 1 r) (bytes-bytesOf 1 l) (bytes-bytesOf 1 r))
-
-pub bytes-encode : (n : ℕ) (s : Scheme) → Bytes (encodeScheme n s)
-unfolding encodeScheme
-bytes-encode n s =
-    let p = All-join (λ b. b < 256) (s .products) (λ i. encodeProduct (left n s (n + i)) (right n s (n + i))) (λ i l. bytes-product (left n s (n + i)) (right n s (n + i))) in
-    let t = All-join (λ b. b < 256) (s .splits) (λ t. encodeSplit (splitLeft s t) (splitRight s t)) (λ t l. bytes-split (splitLeft s t) (splitRight s t)) in
-    bytes-append (encodeBody n s) (0x2F ∷ []) (bytes-append (encodeProducts n s) (encodeSplits s) p t) (omega arith)
+    omega (arith, length-encode (reg .choices) s, ok .within .terms .few, v .within .products-within, v .within .splits-within)

@@ -2,7 +2,7 @@
 use Prim.Native.Nat.{ℕ}
 use mathlib.Core.Path.{_≡_}
 use mathlib.Core.Logic.{_↔_}
-use mathlib.Core.List.{List, [], _∷_}
+use mathlib.Core.List.{List}
 use Rattle.integers.specs.Lists.{All}
 use Rattle.integers.proofs.Lists.{_▹_}
 use Rattle.wire.specs.Number.{Bytes}
@@ -11,15 +11,15 @@ use Rattle.wire.specs.Refused.{RefusedAt, RefusedByItself}
 use Rattle.wire.proofs.Lowest.{Rising, Rises, rows-rising, refused-iff, refused-by-itself-iff}
 use Rattle.register.specs.declared.Register.{Register}
 use Rattle.scheme.specs.Scheme.{fresh}
-use Rattle.scheme.specs.Format.{productChecks, splitChecks, endChecks, productRow, splitRow, endRow, schemePart, schemeInJob, schemeByItself}
+use Rattle.scheme.specs.Format.{productChecks, splitChecks, endChecks, schemeRows, schemePart, schemeInJob, schemeByItself}
 
 module _ (reg : Register) where
-  scheme-rises : All Rises (productRow reg ∷ splitRow reg ∷ endRow reg ∷ [])
+  scheme-rises : All Rises (schemeRows reg)
   unfolding productChecks splitChecks endChecks
   scheme-rises = (λ r xs. tt) ▹ (λ r xs. tt) ▹ (λ r xs. tt) ▹ tt
 
   scheme-rising : Rising (schemePart reg)
-  scheme-rising = rows-rising fresh (productRow reg ∷ splitRow reg ∷ endRow reg ∷ []) scheme-rises
+  scheme-rising = rows-rising fresh (schemeRows reg) scheme-rises
 
   module _ (s : List ℕ) (b : Bytes s) (n at : ℕ) where
     pub scheme-refused : (schemeInJob reg s ≡ refused n at) ↔ RefusedAt (schemePart reg) s n at

@@ -6,14 +6,23 @@ use mathlib.Core.List.{List}
 use lib.ListN.{take}
 use Rattle.integers.proofs.Lists.{_▹_}
 use Rattle.wire.specs.Part.{accepted, total}
-use Rattle.wire.specs.Rows.{Progress}
+use Rattle.wire.specs.Rows.{Progress, sizeOf}
 use Rattle.wire.proofs.Prefix.{Limited, Keeps, limited, read-prefix, end-within}
 use Rattle.register.specs.declared.Register.{Register}
 use Rattle.register.specs.Limits.{maxTerms}
+use Rattle.register.specs.Register as R
 use Rattle.scheme.specs.declared.Scheme.{Scheme}
 use Rattle.scheme.specs.Scheme.{maxProducts, fresh}
 use Rattle.scheme.specs.Format.{productRow, splitRow, endRow, schemePart, schemeInJob}
-use Rattle.scheme.proofs.Passes.{product-passes, split-passes}
+use Rattle.scheme.proofs.Passes.{product-iff, split-iff}
+
+-- the longest scheme: every product and split that there may be, and `2F`
+unfoldable pub schemeLongest : ℕ
+schemeLongest = sizeOf (productRow R.fresh) * maxProducts + sizeOf (splitRow R.fresh) * maxTerms + sizeOf (endRow R.fresh)
+
+-- the bytes that can matter: a split too many in place of `2F`
+unfoldable pub schemeReach : ℕ
+schemeReach = sizeOf (productRow R.fresh) * maxProducts + sizeOf (splitRow R.fresh) * maxTerms + sizeOf (splitRow R.fresh)
 
 -- the last position of a command
 abbrev far : ℕ
@@ -33,24 +42,22 @@ module _ (reg : Register) (few : reg .terms ≤ maxTerms) where
       product : Keeps Reach 3 (far + 1) 0x21 (productRow reg)
       product = record {
         small = omega arith;
-        moves = λ p at xs r e h. record { near = omega (arith, r .near); products = product-passes _ _ _ _ _ h .few; splits = r .splits };
+        moves = λ p at xs r e h. record { near = omega (arith, r .near); products = product-iff (reg .choices) (p .parsed) _ _ .0 h .few; splits = r .splits };
       }
 
       split : Keeps Reach 3 (far + 1) 0x22 (splitRow reg)
       split = record {
         small = omega arith;
-        moves = λ p at xs r e h. record { near = omega (arith, r .near); products = r .products; splits = split-passes _ _ _ _ _ _ _ h .few };
+        moves = λ p at xs r e h. record { near = omega (arith, r .near); products = r .products; splits = split-iff reg (p .parsed) _ _ .0 h .few };
       }
 
       last : Keeps Reach 3 (far + 1) 0x2F (endRow reg)
       last = record { small = omega arith; moves = λ p at xs r e h. omega (arith, r .near, r .products, r .splits) }
 
-  -- 3 · 32 + 3 · 256, and the 3 bytes of a 257th split
-  pub scheme-prefix : (K : ℕ) (s : List ℕ) → 867 ≤ K → schemeInJob reg (take K s) ≡ schemeInJob reg s
-  unfolding schemeInJob
+  pub scheme-prefix : (K : ℕ) (s : List ℕ) → schemeReach ≤ K → schemeInJob reg (take K s) ≡ schemeInJob reg s
+  unfolding schemeInJob schemeReach total
   scheme-prefix K s k = read-prefix (schemePart reg) limits K s (omega arith)
 
-  -- 3 · 32 + 3 · 256, and `2F`
-  pub scheme-end : (s : List ℕ) {p : Progress Scheme} {end : ℕ} → schemeInJob reg s ≡ accepted p end → end ≤ 865
-  unfolding schemeInJob
+  pub scheme-end : (s : List ℕ) {p : Progress Scheme} {end : ℕ} → schemeInJob reg s ≡ accepted p end → end ≤ schemeLongest
+  unfolding schemeInJob schemeLongest total
   scheme-end s e = omega (arith, end-within (schemePart reg) limits s e)

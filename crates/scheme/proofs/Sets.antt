@@ -10,14 +10,13 @@ use lib.Seq.{getD-set-same, getD-set-other}
 use lib.Dec.{eqb, eqb-refl, T-not}
 use borrow.Author.Tests.{ne-eqb}
 use Rattle.integers.specs.Lists.{allBelow}
-use Rattle.integers.proofs.Lists.{flag}
-use Rattle.integers.proofs.Lists.{T-true, allBelow-at, allBelow-by}
+use Rattle.integers.proofs.Lists.{flag, T-true, allBelow-at, allBelow-by}
 use Rattle.integers.proofs.Entries.{replicate-rest}
 use Rattle.scheme.specs.declared.Scheme.{Scheme}
-use Rattle.scheme.specs.Scheme.{left, right, variables}
+use Rattle.scheme.specs.Scheme.{maxVariables, left, right, variables}
 use Rattle.scheme.specs.Variables.{E}
 use Rattle.scheme.specs.Format.{unionOf, isNew}
-use Rattle.scheme.specs.Sets.{maxVariables, SetsBelow, noneIs, unionIn}
+use Rattle.scheme.specs.Sets.{SetsBelow, noneIs, unionIn}
 use Rattle.scheme.proofs.Variables.{upTo-at, upTo-same, upward-product}
 
 -- the products below a bound have the same operands

@@ -19,7 +19,7 @@ use Rattle.register.specs.declared.Register.{Register}
 use Rattle.scheme.specs.declared.Scheme.{Scheme}
 use Rattle.scheme.specs.Scheme.{side, splitLeft, splitRight}
 use Rattle.scheme.specs.Function.{term, termOf, g}
-use Rattle.scheme.specs.Valid.{Valid, Split}
+use Rattle.scheme.specs.Valid.{Valid, SplitOf}
 
 -- ---- a term
 
@@ -60,7 +60,7 @@ norm1-term l r c =
 -- ---- g
 
 -- of a valid scheme each term has its split
-pub split-of : {r : Register} {s : Scheme} → Valid r s → (t : ℕ) → t < r .terms → Split r s t
+pub split-of : {r : Register} {s : Scheme} → Valid r s → (t : ℕ) → t < r .terms → SplitOf r s t
 split-of valid t l = valid .within .splits t (rw (valid .all-split) l)
 
 module _ (c : ℕ → ℤ) (r : Register) (s : Scheme) where

@@ -81,8 +81,11 @@ endRow reg = record {
   last = true;
 }
 
+abbrev pub schemeRows : Register → List (Row Scheme)
+schemeRows reg = productRow reg ∷ splitRow reg ∷ endRow reg ∷ []
+
 abbrev pub schemePart : Register → Part (Progress Scheme)
-schemePart reg = partOf fresh (productRow reg ∷ splitRow reg ∷ endRow reg ∷ [])
+schemePart reg = partOf fresh (schemeRows reg)
 
 -- the scheme at the front of a run of bytes, as in a job
 unfoldable pub schemeInJob : Register → List ℕ → Reading (Progress Scheme)

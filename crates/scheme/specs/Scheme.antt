@@ -1,6 +1,8 @@
--- The scheme's record: its limit, its entries, the fresh one, and one more product or split.
+-- The scheme's record: its limits, its entries, the fresh one, and one more product or split.
 use Prim.Native.Nat.{ℕ, suc, _+_, _-_}
-use lib.ListN.{getD, set, replicate}
+use mathlib.Core.Path.{_≡_}
+use mathlib.Core.List.{List}
+use lib.ListN.{length, getD, set, replicate}
 use Rattle.register.specs.Limits.{maxTerms}
 use Rattle.scheme.specs.declared.Scheme.{Scheme}
 
@@ -8,13 +10,25 @@ use Rattle.scheme.specs.declared.Scheme.{Scheme}
 abbrev pub maxProducts : ℕ
 maxProducts = 32
 
--- the two operands of product k, where there are n choices; the first product has number n
+-- and at most 64 variables, choices and products together
+abbrev pub maxVariables : ℕ
+maxVariables = 64
+
+-- the two operands of the product that has i before it
+
+abbrev pub productLeft : Scheme → ℕ → ℕ
+productLeft s i = getD (s .lefts) i 0
+
+abbrev pub productRight : Scheme → ℕ → ℕ
+productRight s i = getD (s .rights) i 0
+
+-- of product k, where there are n choices; the first product has number n
 
 abbrev pub left : ℕ → Scheme → ℕ → ℕ
-left n s k = getD (s .lefts) (k - n) 0
+left n s k = productLeft s (k - n)
 
 abbrev pub right : ℕ → Scheme → ℕ → ℕ
-right n s k = getD (s .rights) (k - n) 0
+right n s k = productRight s (k - n)
 
 -- N
 abbrev pub variables : ℕ → Scheme → ℕ
@@ -43,22 +57,39 @@ fresh = record {
   «split_rights» = replicate maxTerms 0;
 }
 
-abbrev pub withProduct : Scheme → ℕ → ℕ → Scheme
-withProduct s l r = record {
-  products = suc (s .products);
+-- the arrays have room for 32 products and 256 splits
+pub record Lengths (s : Scheme) : Type 0 where
+  pub lefts : length (s .lefts) ≡ maxProducts
+  pub rights : length (s .rights) ≡ maxProducts
+  pub split-lefts : length (s .«split_lefts») ≡ maxTerms
+  pub split-rights : length (s .«split_rights») ≡ maxTerms
+
+-- ---- a scheme with other products, and with other splits
+
+abbrev pub setProducts : Scheme → ℕ → (lefts rights : List ℕ) → Scheme
+setProducts s k lefts rights = record {
+  products = k;
   splits = s .splits;
-  lefts = set (s .lefts) (s .products) l;
-  rights = set (s .rights) (s .products) r;
+  lefts = lefts;
+  rights = rights;
   «split_lefts» = s .«split_lefts»;
   «split_rights» = s .«split_rights»;
 }
 
-abbrev pub withSplit : Scheme → ℕ → ℕ → Scheme
-withSplit s l r = record {
+abbrev pub setSplits : Scheme → ℕ → (lefts rights : List ℕ) → Scheme
+setSplits s t lefts rights = record {
   products = s .products;
-  splits = suc (s .splits);
+  splits = t;
   lefts = s .lefts;
   rights = s .rights;
-  «split_lefts» = set (s .«split_lefts») (s .splits) l;
-  «split_rights» = set (s .«split_rights») (s .splits) r;
+  «split_lefts» = lefts;
+  «split_rights» = rights;
 }
+
+-- ---- one more
+
+abbrev pub withProduct : Scheme → ℕ → ℕ → Scheme
+withProduct s l r = setProducts s (suc (s .products)) (set (s .lefts) (s .products) l) (set (s .rights) (s .products) r)
+
+abbrev pub withSplit : Scheme → ℕ → ℕ → Scheme
+withSplit s l r = setSplits s (suc (s .splits)) (set (s .«split_lefts») (s .splits) l) (set (s .«split_rights») (s .splits) r)

@@ -2,7 +2,7 @@
 use Prim.Native.Nat.{ℕ, _≤_, _<_}
 use mathlib.Core.Path.{_≡_}
 use lib.Bits.{bitOr}
-use lib.ListN.{length}
+use Rattle.integers.specs.Lists.{Column}
 use Rattle.register.specs.declared.Register.{Register}
 use Rattle.register.specs.Limits.{maxTerms}
 use Rattle.register.specs.Register.{mask}
@@ -10,43 +10,40 @@ use Rattle.scheme.specs.declared.Scheme.{Scheme}
 use Rattle.scheme.specs.Scheme.{maxProducts, left, right, variables, splitLeft, splitRight}
 use Rattle.scheme.specs.Variables.{E}
 
--- the arrays have room for 32 products and 256 splits
-pub record Lengths (s : Scheme) : Type 0 where
-  pub lefts : length (s .lefts) ≡ maxProducts
-  pub rights : length (s .rights) ≡ maxProducts
-  pub split-lefts : length (s .«split_lefts») ≡ maxTerms
-  pub split-rights : length (s .«split_rights») ≡ maxTerms
+-- a product of l and r with number k: its operands are two variables before it, in order, and its set is not that of any
+-- variable before it, by the sets of the variables
+pub record Product (k l r set : ℕ) (sets : ℕ → ℕ) : Type 0 where
+  pub ordered : l < r
+  pub falls : r < k
+  pub new : (v : ℕ) → v < k → sets v ≡ set → ⊥
 
--- entries past the counts are 0, where there are n choices
-pub record Rest (n : ℕ) (s : Scheme) : Type 0 where
-  pub lefts : (k : ℕ) → variables n s ≤ k → left n s k ≡ 0
-  pub rights : (k : ℕ) → variables n s ≤ k → right n s k ≡ 0
-  pub split-lefts : (t : ℕ) → s .splits ≤ t → splitLeft s t ≡ 0
-  pub split-rights : (t : ℕ) → s .splits ≤ t → splitRight s t ≡ 0
-
--- product k: its operands are two variables before it, in order, and its set is not that of any variable before it
-pub record Product (n : ℕ) (s : Scheme) (k : ℕ) : Type 0 where
-  pub ordered : left n s k < right n s k
-  pub falls : right n s k < k
-  pub new : (v : ℕ) → v < k → E n s v ≡ E n s k → ⊥
+abbrev pub ProductOf : ℕ → Scheme → ℕ → Type 0
+ProductOf n s k = Product k (left n s k) (right n s k) (E n s k) (E n s)
 
 abbrev pub Products : ℕ → Scheme → Type 0
-Products n s = (k : ℕ) → n ≤ k → k < variables n s → Product n s k
+Products n s = (k : ℕ) → n ≤ k → k < variables n s → ProductOf n s k
 
--- the split of term t: two variables in order, or one twice, whose sets together are the term's mask
-pub record Split (reg : Register) (s : Scheme) (t : ℕ) : Type 0 where
-  pub ordered : splitLeft s t ≤ splitRight s t
-  pub there : splitRight s t < variables (reg .choices) s
-  pub fits : bitOr (E (reg .choices) s (splitLeft s t)) (E (reg .choices) s (splitRight s t)) ≡ mask reg t
+-- a split into l and r, of N variables: in order, or one twice; their sets together are the term's mask
+pub record Split (N l r union mask : ℕ) : Type 0 where
+  pub ordered : l ≤ r
+  pub there : r < N
+  pub fits : union ≡ mask
 
--- at most 32 products, and splits for the first terms
+abbrev pub SplitOf : Register → Scheme → ℕ → Type 0
+SplitOf reg s t =
+    let n = reg .choices in
+    Split (variables n s) (splitLeft s t) (splitRight s t) (bitOr (E n s (splitLeft s t)) (E n s (splitRight s t))) (mask reg t)
+
+-- at most 32 products, and splits for the first terms; entries past the counts are 0
 pub record Within (reg : Register) (s : Scheme) : Type 0 where
-  pub lengths : Lengths s
-  pub rest : Rest (reg .choices) s
+  pub lefts : Column maxProducts (s .products) 0 (s .lefts)
+  pub rights : Column maxProducts (s .products) 0 (s .rights)
   pub products-within : s .products ≤ maxProducts
-  pub splits-within : s .splits ≤ reg .terms
   pub products : Products (reg .choices) s
-  pub splits : (t : ℕ) → t < s .splits → Split reg s t
+  pub split-lefts : Column maxTerms (s .splits) 0 (s .«split_lefts»)
+  pub split-rights : Column maxTerms (s .splits) 0 (s .«split_rights»)
+  pub splits-within : s .splits ≤ reg .terms
+  pub splits : (t : ℕ) → t < s .splits → SplitOf reg s t
 
 -- and there is one split for each term
 pub record Valid (reg : Register) (s : Scheme) : Type 0 where

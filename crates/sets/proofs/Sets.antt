@@ -8,7 +8,7 @@ use native.Mathlib.Omega.{arith}
 use native.Mathlib.Decide.{decLt, ℕ-discrete}
 use lib.Arith.{bin-ind}
 use lib.Dec.{T, eqb, eqb→eq, eqb-refl, T-not}
-use lib.Bits.{bitAnd, bitOr, and-step, or-step, or-shr, and-zero-r, or-add-and, and-le-l, and-le-r, and-comm}
+use lib.Bits.{bitAnd, bitOr, and-step, or-step, or-shr, and-zero-r, or-add-and, and-le-l, and-le-r}
 use borrow.Author.Tests.{ne-eqb}
 use Rattle.integers.proofs.Lists.{T-and, T-true, T-ext}
 use Rattle.sets.specs.Sets.{isMember, isSubset, isProperSubset, ProperSubset, setOf}
@@ -146,15 +146,6 @@ subset-members a b = (
     absorbed true y f = refl
     absorbed false true f = absurd (f tt)
     absorbed false false f = refl
-
-pub subset-refl : (a : ℕ) → T (isSubset a a)
-subset-refl a = subset-members a a .1 (λ i m. m)
-
-pub subset-trans : (a b c : ℕ) → T (isSubset a b) → T (isSubset b c) → T (isSubset a c)
-subset-trans a b c h k = subset-members a c .1 (λ i m. subset-members b c .0 k i (subset-members a b .0 h i m))
-
-pub subset-antisym : (a b : ℕ) → T (isSubset a b) → T (isSubset b a) → a ≡ b
-subset-antisym a b h k = omega (arith, subset-is a b .0 h, subset-is b a .0 k, and-comm a b)
 
 -- a proper subset adds nothing to the set
 pub proper-union : (a b : ℕ) → T (isProperSubset a b) → bitOr b a ≡ b

@@ -8,40 +8,35 @@ use mathlib.Core.List.{List, _++_}
 use lib.Dec.{ltb}
 use lib.IntN.{ℤ}
 use lib.ListN.{length, drop}
-use lib.Seq.{drop-drop}
 use borrow.Author.Tests.{le-ltb}
 use Rattle.wire.specs.Number.{Bytes}
-use Rattle.wire.specs.Part.{Reading, refused, accepted}
-use Rattle.wire.specs.Rows.{Progress}
-use Rattle.wire.proofs.Part.{NumberedReading, readPart-numbered, byItself-numbered}
-use Rattle.wire.proofs.Fronts.{behind}
+use Rattle.wire.specs.Part.{accepted}
+use Rattle.wire.specs.Outcome.{Outcome, refuses, accepts, answerBy}
+use Rattle.wire.proofs.Outcome.{Numbered}
+use Rattle.wire.proofs.Encoding.{after-first}
+use Rattle.wire.proofs.Accepting.{reached}
 use Rattle.forms.specs.Table.{tableNumbers}
 use Rattle.register.specs.declared.Register.{Register}
 use Rattle.register.specs.Register.{coefficient}
-use Rattle.register.specs.Format.{registerPart, registerInJob, registerByItself}
+use Rattle.register.specs.Format.{registerInJob, registerByItself}
 use Rattle.register.specs.Answer.{registerAnswer}
-use Rattle.register.specs.Encoding.{encodeRegister}
 use Rattle.register.proofs.Accept as RA
-use Rattle.register.proofs.Complete.{register-accepted}
 use Rattle.register.proofs.Opened as RO
 use Rattle.scheme.specs.declared.Scheme.{Scheme}
-use Rattle.scheme.specs.Format.{schemePart, schemeInJob, schemeByItself}
-use Rattle.scheme.specs.Answer.{schemeAnswer}
-use Rattle.scheme.specs.Encoding.{encodeScheme}
+use Rattle.scheme.specs.Answer.{openParts, schemeAnswer}
 use Rattle.scheme.proofs.Accept as SA
 use Rattle.scheme.proofs.Whole.{answered, answer-iff}
-use Rattle.scheme.proofs.Opened.{Opened, opened-encodings, register-bytes, scheme-bytes, opened}
+use Rattle.scheme.proofs.Opened.{Opened, opens, opened-encodings, opening-numbered, register-bytes, scheme-bytes, answer-opened}
+use Rattle.penalty.specs.declared.PenaltyAnswer.{PenaltyAnswer}
 use Rattle.penalty.specs.Answer.{penaltyAnswer}
 use Rattle.penalty.specs.Answer as Penalty
 use Rattle.penalty.proofs.Answers as PenaltyCall
 use Rattle.penalty.proofs.Demand.{zeros-made}
-use Rattle.plan.specs.Encoding.{encodePlan}
-use Rattle.plan.proofs.Answers.{costed, cost-encodings, costed-register, costed-plan}
-use Rattle.certificate.specs.Format.{certificateByItself}
-use Rattle.certificate.specs.Check.{afterCertificate, withResidual, checkAnswer, checkTable}
-use Rattle.certificate.proofs.Rows.{reached}
-use Rattle.certificate.proofs.Accept.{commands-accepted, whole-accepted, whole-valid, whole-encodes, encoding-accepted, encoding-front}
-use Rattle.certificate.proofs.Answers.{parts-accepted, checked}
+use Rattle.plan.proofs.Answers.{costed, cost-encodings, costed-register, costed-named, costed-plan}
+use Rattle.bound.specs.Format.{certificateByItself}
+use Rattle.bound.specs.Check.{withResidual, checkAnswer, checkTable}
+use Rattle.bound.proofs.Accept.{commands-accepted, whole-accepted, whole-valid, whole-encodes, encoding-accepted, encoding-front}
+use Rattle.bound.proofs.Answers.{afterCertificate, parts-accepted, checked}
 use Rattle.job.specs.declared.Tally.{Tally}
 use Rattle.job.specs.Outcome.{Parts, tableAfter}
 use Rattle.job.specs.Answer.{jobAnswer, jobTable}
@@ -63,7 +58,7 @@ of-register = record {
 -- ---- parts 1 and 2
 
 opened-answer : (t s : List ℕ) (reg : Register) (sch : Scheme) → Opened t s reg sch → schemeAnswer t s ≡ answered sch
-opened-answer t s reg sch o = rw (o .register-reads, o .scheme-reads)
+opened-answer t s reg sch o = rw (opens o)
 
 opened-parts : (t s : List ℕ) (reg : Register) (sch : Scheme) → Part1 t reg → Part2 reg s sch → Opened t s reg sch
 opened-parts t s reg sch p q = opened-encodings t s reg sch (p .conditions) (p .bytes) (q .conditions) (q .bytes)
@@ -74,7 +69,7 @@ of-scheme = record {
   only = λ t s sch b b′ e.
       let (reg, ((v, x), (v′, x′))) = answer-iff t s sch b .0 e in
       record { reg = reg; part-1 = record { conditions = v; bytes = x }; part-2 = record { conditions = v′; bytes = x′ } };
-  number-0 = λ t s z. opened-answer t s _ _ (opened t s (schemeAnswer t s) refl (registerAnswer (registerByItself t)) refl z);
+  number-0 = λ t s z. opened-answer t s _ _ (answer-opened t s z);
 }
 
 -- ---- parts 1 and 4
@@ -85,12 +80,11 @@ of-cost = record {
       rw (p .cost-is) (cost-encodings t plan (p .reg) (p .fed) (p .part-1 .conditions) (p .part-1 .bytes) (p .part-4 .conditions) (p .part-4 .bytes));
   only = λ t plan z b b′ e.
       let c = costed t plan (ap (λ a. a .number) e) in
-      let (named, x) = costed-plan t plan b b′ c in
       record {
         reg = c .reg;
         fed = c .read .parsed;
-        part-1 = record { conditions = c .first .valid; bytes = costed-register t plan b b′ c };
-        part-4 = record { conditions = named; bytes = x };
+        part-1 = record { conditions = c .first .valid; bytes = costed-register t plan c b };
+        part-4 = record { conditions = costed-named t plan c; bytes = costed-plan t plan c b′ };
         cost-is = ap (λ a. a .cost) (sym e ∙ c .answers);
       };
   number-0 = λ t plan z. rw (costed t plan z .answers);
@@ -148,17 +142,16 @@ unfolding jobTable tableAfter
 job-table job lent p l v k =
     let reg = p .register in
     let sch = p .scheme in
-    let one = encodeRegister reg in
-    let two = encodeScheme (reg .choices) sch in
-    let four = encodePlan (p .plan) in
-    let behind-1 : drop (length one) job ≡ two ++ (k .third ++ four) = ap (λ n. drop n job) (sym (zero-add (length one))) ∙ behind job 0 one _ (k .bytes) in
-    let behind-2 = behind job (length one) two (k .third ++ four) behind-1 in
-    let first = ap registerInJob (k .bytes) ∙ register-accepted reg (two ++ (k .third ++ four)) (v .register) in
-    let second = SA.job-iff reg (v .register) (drop (length one) job) sch (length two) .1
-    (v .scheme, (behind-1 ∙ ap (λ x. two ++ x) (sym (drop-drop (length two) (length one) job ∙ behind-2)), refl)) in
+    let one = k .first in
+    let two = k .second in
+    let four = k .fourth in
+    let behind-1 : drop (length one) job ≡ two ++ (k .third ++ four) = ap (λ n. drop n job) (sym (zero-add (length one))) ∙ after-first job 0 (length one) one _ refl (k .bytes) in
+    let behind-2 = after-first job (length one) (length two) two (k .third ++ four) refl behind-1 in
+    let first = ap registerInJob (k .bytes) ∙ RA.register-accepted reg one (two ++ (k .third ++ four)) (v .register) (k .register) in
+    let second = SA.scheme-accepted reg (v .register) sch two (k .third ++ four) (v .scheme) (k .scheme) in
     let third = encoding-front reg (v .register) sch (v .scheme) (coefficient reg) (p .certificate) (k .third) four (v .certificate) (k .certificate) in
     let (commands, _) = commands-accepted reg sch (coefficient reg) (k .third ++ four) _ _ third in
-    rw (le-ltb (length lent) tableNumbers l, first, second, behind-2, commands)
+    rw (le-ltb (length lent) tableNumbers l, first, behind-1, second, behind-2, commands)
 
 job-only : (job : List ℕ) (lent : List ℤ) (tally : Tally) (b z : ℤ) → Bytes job → jobAnswer job lent tally ≡ jobAccepted b z tally → OfJob job b z
 job-only job lent tally b z bytes e =
@@ -176,23 +169,21 @@ of-job = record {
 
 -- ---- the penalty call
 
+abbrev answered-by : Outcome (Register × Scheme) → PenaltyAnswer
+answered-by x = answerBy Penalty.answer (λ parts. Penalty.answer 0 0 0) x
+
 -- number 0 stands in no answer but zeros
 penalty-zeros : (t s : List ℕ) (lent : List ℤ) → penaltyAnswer t s lent .number ≡ 0 → penaltyAnswer t s lent ≡ record { number = 0; part = 0; position = 0 }
-unfolding penaltyAnswer registerByItself registerInJob schemeByItself schemeInJob
+unfolding penaltyAnswer
 penalty-zeros t s lent = by (ltb (length lent) tableNumbers)
   where
-    second : (x : Reading (Progress Scheme)) → NumberedReading x → Penalty.afterScheme x .number ≡ 0 → Penalty.afterScheme x ≡ record { number = 0; part = 0; position = 0 }
-    second (refused n at) d z = absurd (d z)
-    second (accepted p end) d z = refl
+    parts : (x : Outcome (Register × Scheme)) → Numbered x → answered-by x .number ≡ 0 → answered-by x ≡ record { number = 0; part = 0; position = 0 }
+    parts (refuses n part at) d z = absurd (d z)
+    parts (accepts a) d z = refl
 
-    first : (x : Reading (Progress Register)) → NumberedReading x → Penalty.afterRegister x s .number ≡ 0 → Penalty.afterRegister x s ≡ record { number = 0; part = 0; position = 0 }
-    first (refused n at) d z = absurd (d z)
-    first (accepted p end) d z = second (schemeByItself (p .parsed) s) (byItself-numbered s (schemeInJob (p .parsed) s) (readPart-numbered (schemePart (p .parsed)) s)) z
-
-    by : (b : Bool) → cond b (Penalty.answer 11 0 0) (Penalty.afterRegister (registerByItself t) s) .number ≡ 0 →
-        cond b (Penalty.answer 11 0 0) (Penalty.afterRegister (registerByItself t) s) ≡ record { number = 0; part = 0; position = 0 }
+    by : (b : Bool) → cond b (Penalty.answer 11 0 0) (answered-by (openParts t s)) .number ≡ 0 → cond b (Penalty.answer 11 0 0) (answered-by (openParts t s)) ≡ record { number = 0; part = 0; position = 0 }
     by true z = absurd (omega arith)
-    by false z = first (registerByItself t) (byItself-numbered t (registerInJob t) (readPart-numbered registerPart t)) z
+    by false z = parts (openParts t s) (opening-numbered t s) z
 
 of-penalty : PenaltyAcceptance penaltyCall
 of-penalty = record {

@@ -11,10 +11,12 @@ use Rattle.integers.specs.Lists.{All}
 use Rattle.integers.proofs.Diff.{diff₂, diffs}
 use Rattle.forms.specs.Table.{tableNumbers}
 use Rattle.register.specs.Register.{coefficient}
-use Rattle.certificate.proofs.Bound.{plan-bound}
+use Rattle.bound.proofs.Bound.{plan-bound}
 use Rattle.text.specs.Text.{line}
 use Rattle.job.specs.declared.Tally.{Tally}
-use Rattle.job.specs.Outcome.{Parts, Outcome, refuses, accepts, outcome, boundOf, costOf}
+use Rattle.wire.specs.Outcome.{Outcome, refuses, accepts}
+use Rattle.wire.proofs.Outcome.{accepts-one}
+use Rattle.job.specs.Outcome.{Parts, outcome, boundOf, costOf}
 use Rattle.job.specs.Answer.{afterJob, jobAnswer}
 use Rattle.job.proofs.Sound.{accepted-valid}
 use Rattle.job.proofs.Accept.{accepted-iff}
@@ -35,10 +37,6 @@ before-first byte (x ∷ xs) ys h = rw (ne-eqb x byte (h .0), before-first byte 
 
 -- ---- an accepted job
 
--- a job leads to one quadruple of parts
-one-outcome : (p q : Parts) → accepts p ≡ accepts q → p ≡ q
-one-outcome p q e = cc
-
 not-negative : (b c : ℤ) → b ≤ℤ c → pos 0 ≤ℤ (c -ℤ b)
 not-negative = diff₂ _ λ p q r s. simp diffs (omega arith)
 
@@ -55,7 +53,7 @@ accepted-job job table tally z =
       parts = p;
       conditions = v;
       bytes = λ b. accepted-iff job p b .0 e .1;
-      no-other = λ b q w k. one-outcome q p (sym (accepted-iff job q b .1 (w, k)) ∙ e);
+      no-other = λ b q w k. accepts-one (sym (accepted-iff job q b .1 (w, k)) ∙ e);
       bounds = λ plan. rw a (bounds (plan .fed));
       cost-is = rw a;
       gap-is = rw a;
@@ -81,7 +79,7 @@ refusal-shown : (job : List ℕ) (table : List ℤ) (tally : Tally) → tableNum
 unfolding jobAnswer listing
 refusal-shown job table tally l d = rw (le-ltb (length table) tableNumbers l) (go (outcome job) (rw (le-ltb (length table) tableNumbers l) at d))
   where
-    go : (x : Outcome) → (afterJob x tally .number ≡ 0 → ⊥) → listing x ≡ refusalLine (afterJob x tally .number) (afterJob x tally .position)
+    go : (x : Outcome Parts) → (afterJob x tally .number ≡ 0 → ⊥) → listing x ≡ refusalLine (afterJob x tally .number) (afterJob x tally .position)
     go (refuses number part at) d = refl
     go (accepts p) d = absurd (d refl)
 

@@ -5,3 +5,4 @@ pub mod Jobs
 pub mod Acceptance
 pub mod Refusals
 pub mod Writers
+pub mod Written

@@ -13,38 +13,33 @@ use Rattle.wire.proofs.Part.{NumberedReading, byItself-numbered}
 use Rattle.forms.specs.Table.{tableNumbers}
 use Rattle.register.specs.declared.Register.{Register}
 use Rattle.register.specs.Register.{coefficient}
-use Rattle.register.specs.Format.{registerByItself}
-use Rattle.register.specs.Answer.{registerAnswer}
-use Rattle.register.proofs.Encoding.{bytes-encode}
 use Rattle.scheme.specs.declared.Scheme.{Scheme}
 use Rattle.scheme.specs.Filling.{Filling}
-use Rattle.scheme.specs.Answer.{schemeAnswer}
-use Rattle.scheme.proofs.Whole.{answer-iff}
-use Rattle.scheme.proofs.Opened.{Opened, register-bytes, scheme-bytes, opened}
+use Rattle.scheme.proofs.Opened.{Opened, opens, opened-encodings, register-bytes, scheme-bytes, answer-opened}
 use Rattle.penalty.specs.Answer.{penaltyTable}
 use Rattle.penalty.specs.Demand.{Holds}
-use Rattle.penalty.specs.Least.{Least}
+use Rattle.penalty.specs.Least.{LeastWhere, Every, Least}
 use Rattle.penalty.specs.Carried.{carried}
 use Rattle.penalty.proofs.Sets.{carried-below}
 use Rattle.penalty.proofs.Answers as Penalty
 use Rattle.penalty.proofs.Demand.{made-answer, made-holds}
-use Rattle.certificate.specs.declared.CheckAnswer.{CheckAnswer}
+use Rattle.bound.specs.declared.CheckAnswer.{CheckAnswer}
 use Rattle.certificate.specs.Certificate.{Certificate}
-use Rattle.certificate.specs.Format.{certificateByItself}
-use Rattle.certificate.specs.Residual.{bound}
-use Rattle.certificate.specs.Check.{afterCertificate, checkAnswer}
-use Rattle.certificate.proofs.Accept.{whole-valid, whole-encodes, encoding-accepted}
-use Rattle.certificate.proofs.Answers.{parts-accepted, job-numbered}
-use Rattle.certificate.proofs.Bound.{plan-bound}
-use Rattle.certificate.proofs.SecondOrder.{second-order}
+use Rattle.bound.specs.Format.{certificateByItself}
+use Rattle.bound.specs.Bound.{bound}
+use Rattle.bound.specs.Check.{checkAnswer}
+use Rattle.bound.proofs.Accept.{whole-valid, whole-encodes, encoding-accepted}
+use Rattle.bound.proofs.Answers.{afterCertificate, parts-accepted, job-numbered}
+use Rattle.bound.proofs.Bound.{plan-bound}
+use Rattle.bound.proofs.SecondOrder.{second-order}
 use Rattle.plain.proofs.ReadBack.{plain-encodes, handed-back, enough, own-accepted}
 use Rattle.soundness.specs.Calls.{penaltyCall, checkCall, plainCall}
 use Rattle.soundness.specs.Demand3.{registerOf, coefficients, schemeOf, Accepted, Plan, cost, CarriesAt, valueRead, EqualLeast, Certified, secondOrderOf, tableBack, checked, ownBack, AsWritten, Demand3}
 
 -- a function has one least value
-least-one : {A : Type 0} (f : A → ℤ) (m m′ : ℤ) → Least f m → Least f m′ → m ≡ m′
-least-one f m m′ a b =
-    ≤ℤ-antisym m m′ (rw (← (b .reached)) (a .lowest (b .witness))) (rw (← (a .reached)) (b .lowest (a .witness)))
+least-one : {A : Type 0} (P : A → Type 0) (f : A → ℤ) (m m′ : ℤ) → LeastWhere P f m → LeastWhere P f m′ → m ≡ m′
+least-one P f m m′ a b =
+    ≤ℤ-antisym m m′ (rw (← (b .reached)) (a .lowest (b .witness) (b .holds))) (rw (← (a .reached)) (b .lowest (a .witness) (a .holds)))
 
 -- an answer of no refusal comes from a certificate that is accepted
 record Reads (c : ℕ → ℤ) (reg : Register) (sch : Scheme) (s : List ℕ) : Type 0 where
@@ -73,7 +68,7 @@ module _ (t s : List ℕ) (reg : Register) (sch : Scheme) (o : Opened t s reg sc
 
 module _ (t s : List ℕ) (z : Accepted t s) (lent : List ℤ) (l : tableNumbers ≤ length lent) where
   o : Opened t s (registerOf t) (schemeOf t s)
-  o = opened t s (schemeAnswer t s) refl (registerAnswer (registerByItself t)) refl z
+  o = answer-opened t s z
 
   holds : Holds (registerOf t) (schemeOf t s) lent (penaltyTable t s lent)
   holds = made-holds t s lent l (registerOf t) (schemeOf t s) o
@@ -96,9 +91,9 @@ module _ (t s : List ℕ) (z : Accepted t s) (lent : List ℤ) (l : tableNumbers
   -- (b)
   minimisers : (m : ℤ) → Least (valueRead t s back) m → (z : Filling) → valueRead t s back z ≡ m → CarriesAt t z m
   minimisers m h z e =
-      let one = least-one (valueRead t s back) m (holds .least .least) h (holds .least .overFillings) in
+      let one = least-one Every (valueRead t s back) m (holds .least .least) h (holds .least .overFillings) in
       let n = registerOf t .choices in
-      record { plan = record { fed = carried n z; inside = carried-below n z }; carries = refl; costs = holds .least .minimisers z (e ∙ one) ∙ sym one }
+      record { plan = record { fed = carried n z; inside = carried-below n z }; carries = refl; costs = holds .least .minimisers z tt (e ∙ one) ∙ sym one }
 
   -- (c)
   bounds : (certificate : List ℕ) → check certificate .number ≡ 0 → (plan : Plan t) → check certificate .bound ≤ℤ cost t plan
@@ -148,5 +143,6 @@ demand3 = record {
     as-written = as-written t s z lent l b;
   };
   all-accepted = λ t s reg sch p q.
-      ap (λ a. a .number) (answer-iff t s sch (rw (p .bytes) (bytes-encode reg)) .1 (reg, ((p .conditions, p .bytes), (q .conditions, q .bytes))));
+      let o = opened-encodings t s reg sch (p .conditions) (p .bytes) (q .conditions) (q .bytes) in
+      rw (opens o);
 }

@@ -1,68 +1,72 @@
 -- What a refusal says and hands back, proved of our calls.
 use Prim.Native.Nat.{ℕ, _+_, _≤_, _<_}
-use native.Mathlib.Nat.{zero-add}
 use native.Mathlib.Omega.{arith}
-use mathlib.Core.Path.{_≡_, refl, sym, ap, _∙_}
-use mathlib.Core.Logic.{_⊎_, inl, inr}
+use mathlib.Core.Path.{_≡_, refl, sym, ap, ap₂, _∙_}
+use mathlib.Core.Logic.{_⊎_, inl, inr, ⊎-elim}
 use mathlib.Core.Bool.{Bool, true, false, cond}
-use mathlib.Core.List.{List, _++_, append-assoc, append-nil}
+use mathlib.Core.List.{List, [], _∷_, _++_, append-assoc}
 use lib.Dec.{ltb}
 use lib.IntN.{ℤ, pos}
 use lib.ListN.{length, take, drop, length-append, length-drop, take-append-drop}
-use lib.Seq.{drop-drop, drop-length, length-take-le}
+use lib.Seq.{drop-drop, length-take-le}
 use borrow.Author.Tests.{ltb-true, lt-ltb, le-ltb}
 use Rattle.integers.specs.Lists.{All}
 use Rattle.integers.proofs.Lists.{_▹_, flag}
 use Rattle.wire.specs.Number.{Bytes}
 use Rattle.wire.specs.Part.{Reading, refused, accepted}
 use Rattle.wire.specs.Rows.{Progress}
-use Rattle.wire.specs.Writer.{bytesAnswer, withFront}
+use Rattle.wire.specs.Outcome.{Outcome, refuses, accepts, next, given, andThen, answerBy, startingAt, addedBy}
+use Rattle.wire.specs.Writer.{refusedAnswer, bytesAnswer, withFront}
 use Rattle.wire.proofs.Number.{bytes-drop}
-use Rattle.wire.proofs.Encoding.{byItself-end}
 use Rattle.wire.proofs.Lowest.{Rising, Rises, rows-rising, refused-iff, ends-at}
+use Rattle.wire.proofs.Outcome.{next-by, next-at, not-both, refuses-same, then-refuses, given-accepts, given-refuses}
 use Rattle.forms.specs.Table.{tableNumbers}
 use Rattle.register.specs.declared.Register.{Register}
 use Rattle.register.specs.Register.{coefficient}
 use Rattle.register.specs.Register as OfRegister
-use Rattle.register.specs.Format.{registerPart, registerInJob, registerByItself}
+use Rattle.register.specs.Format.{registerInJob, registerByItself}
 use Rattle.register.specs.Answer.{registerAnswer}
+use Rattle.register.specs.Opening.{openRegister}
+use Rattle.register.specs.Encoding as RE
 use Rattle.register.specs.Valid as R
-use Rattle.register.specs.Encoding.{encodeRegister}
 use Rattle.register.proofs.Accept as RA
 use Rattle.register.proofs.Lowest.{register-refused, register-refused-by-itself}
 use Rattle.scheme.specs.declared.Scheme.{Scheme}
-use Rattle.scheme.specs.Scheme.{variables}
+use Rattle.scheme.specs.Scheme.{maxVariables, variables}
 use Rattle.scheme.specs.Scheme as OfScheme
-use Rattle.scheme.specs.Format.{schemePart, schemeInJob, schemeByItself}
-use Rattle.scheme.specs.Answer.{partAnswer, answerAfter}
-use Rattle.scheme.specs.Valid as S
+use Rattle.scheme.specs.Format.{schemeInJob, schemeByItself}
+use Rattle.scheme.specs.Answer.{openParts}
+use Rattle.scheme.specs.Answer as SchemeCall
 use Rattle.scheme.specs.Encoding.{encodeScheme}
 use Rattle.scheme.proofs.Accept as SA
+use Rattle.scheme.proofs.Opened.{opened, register-bytes, scheme-bytes}
 use Rattle.scheme.proofs.Lowest.{scheme-refused, scheme-refused-by-itself}
 use Rattle.builder.specs.Builder.{Built, stopped, built, build}
 use Rattle.builder.specs.Answer as Builder
+use Rattle.builder.proofs.Validity.{stopped-stands}
 use Rattle.penalty.specs.Answer as Penalty
 use Rattle.penalty.specs.Answer.{penaltyAnswer, penaltyTable}
 use Rattle.penalty.proofs.Demand.{refused-unchanged}
 use Rattle.certificate.specs.Certificate.{Certificate, fresh}
-use Rattle.certificate.specs.Format.{scaleChecks, multiplierChecks, squareChecks, certificatePart, commandsInJob, certificateInJob, certificateByItself}
-use Rattle.certificate.specs.Valid.{Within}
+use Rattle.certificate.specs.Format.{scaleChecks, multiplierChecks, squareChecks, certificateRows, certificatePart, commandsInJob}
+use Rattle.bound.specs.Format.{certificateInJob, certificateByItself}
+use Rattle.certificate.specs.Within.{Within}
 use Rattle.certificate.specs.Encoding.{Encodes}
-use Rattle.certificate.specs.Refused.{CertificateRefused, CertificateRefusedByItself}
-use Rattle.certificate.specs.Check.{afterCertificate, afterScheme, afterRegister, checkAnswer, withResidual, tableAfterScheme, tableAfterRegister, checkTable}
-use Rattle.certificate.proofs.Rows.{rows, reached}
-use Rattle.certificate.proofs.Complete.{certificate-front}
-use Rattle.certificate.proofs.Accept as CA
-use Rattle.certificate.proofs.Lowest.{front-encodes, certificate-refused, certificate-refused-by-itself}
+use Rattle.bound.specs.Refused.{CertificateRefused, CertificateRefusedByItself}
+use Rattle.bound.specs.Check.{checkAnswer, withResidual, checkTable}
+use Rattle.bound.specs.Check as Check
+use Rattle.certificate.proofs.Accept.{front-encodes, certificate-front}
+use Rattle.bound.proofs.Accept as CA
+use Rattle.bound.proofs.Answers.{afterCertificate}
+use Rattle.bound.proofs.Lowest.{certificate-refused, certificate-refused-by-itself}
 use Rattle.plan.specs.Format.{planPart, planInJob, planByItself}
-use Rattle.plan.specs.Answer.{planAnswer, registerThenPlan, costAnswer}
+use Rattle.plan.specs.Answer.{refusedCost, acceptedCost, costOutcome, costAnswer}
 use Rattle.plan.proofs.Lowest.{plan-refused, plan-refused-by-itself}
-use Rattle.plain.specs.Answer as Plain
 use Rattle.plain.specs.Answer.{ownBytes, plainAnswer, plainBuffer}
 use Rattle.job.specs.declared.Tally.{Tally}
 use Rattle.job.specs.Tally.{withRefused}
-use Rattle.job.specs.Outcome as Job
-use Rattle.job.specs.Outcome.{tableFromCertificate, tableFromScheme, tableAfter, Parts, Outcome, refuses, accepts, follow, outcome, fromPlan, fromCertificate, fromScheme}
+use Rattle.job.specs.Outcome.{Parts, ofRegister, withScheme, withCertificate, withPlan, JobPart, partTwo, partThree, partFour, inTurn, ended, outcome, tableFromCertificate, tableBy, tableAfter}
+use Rattle.job.specs.Rest.{rest, fromPlan, fromCertificate, fromScheme, tableFromScheme}
 use Rattle.job.specs.Answer.{afterJob, jobAnswer, jobTable}
 use Rattle.listing.specs.Listing.{listing}
 use Rattle.listing.specs.Answer.{listingAnswer, listingTable, listingBuffer}
@@ -72,78 +76,77 @@ use Rattle.soundness.specs.Refusals.{Before2, Before3, Before4, tableRef
 
 -- ---- parts by themselves
 
-register-whole : (s : List ℕ) → Bytes s → (p : Progress Register) (end : ℕ) → registerByItself s ≡ accepted p end → R.Valid (p .parsed) × (s ≡ encodeRegister (p .parsed))
-unfolding registerByItself registerInJob
-register-whole s b p end e =
-    let (q, l) = byItself-end registerPart s p end e in
-    (RA.valid-accepted s p end q .0, RA.bytes-accepted s p end q b ∙ rw (l, drop-length, append-nil))
+register-whole : (t : List ℕ) → Bytes t → (reg : Register) → openRegister t ≡ accepts reg → R.Valid reg × RE.Encodes reg t
+register-whole t b reg e =
+    given-accepts 1 (registerByItself t) (λ reg. R.Valid reg × RE.Encodes reg t) e λ p end x.
+    (RA.whole-valid t p end x .0, RA.whole-encodes t p end x b)
 
-abbrev before2 : (s : List ℕ) → Bytes s → (p : Progress Register) (end : ℕ) → registerByItself s ≡ accepted p end → Before2 s
-before2 s b p end e = let (v, x) = register-whole s b p end e in record { reg = p .parsed; part-1 = record { conditions = v; bytes = x } }
+abbrev before2 : (t : List ℕ) → Bytes t → (reg : Register) → openRegister t ≡ accepts reg → Before2 t
+before2 t b reg e = let (v, x) = register-whole t b reg e in record { reg = reg; part-1 = record { conditions = v; bytes = x } }
 
-scheme-whole : (reg : Register) → R.Valid reg → (s : List ℕ) (p : Progress Scheme) (end : ℕ) → schemeByItself reg s ≡ accepted p end → S.Valid reg (p .parsed) × (s ≡ encodeScheme (reg .choices) (p .parsed))
-unfolding schemeByItself schemeInJob
-scheme-whole reg v s p end e =
-    let (q, l) = byItself-end (schemePart reg) s p end e in
-    (SA.valid-accepted reg v s p end q .0, SA.bytes-accepted reg v s p end q ∙ rw (l, drop-length, append-nil))
+abbrev before3 : (t s : List ℕ) → Bytes t → (reg : Register) (sch : Scheme) → openParts t s ≡ accepts (reg, sch) → Before3 t s
+before3 t s b reg sch e =
+    let o = opened t s reg sch e in
+    record {
+      reg = reg;
+      sch = sch;
+      part-1 = record { conditions = o .register-valid; bytes = register-bytes t s reg sch o b };
+      part-2 = record { conditions = o .scheme-valid; bytes = scheme-bytes t s reg sch o };
+    }
 
-abbrev before3 : (t s : List ℕ) (k : Before2 t) (p : Progress Scheme) (end : ℕ) → schemeByItself (k .reg) s ≡ accepted p end → Before3 t s
-before3 t s k p end e =
-    let (v, x) = scheme-whole (k .reg) (k .part-1 .conditions) s p end e in
-    record { reg = k .reg; sch = p .parsed; part-1 = k .part-1; part-2 = record { conditions = v; bytes = x } }
+module _ (n part at : ℕ) where
+  in-register : (t : List ℕ) → Bytes t → openRegister t ≡ refuses n part at → InRegister n part at t
+  in-register t b e = let (x, p) = given-refuses 1 (registerByItself t) e in record { part-is = p; refused = register-refused-by-itself t b n at .0 x }
 
-in-register : (t : List ℕ) → Bytes t → (n at : ℕ) → registerByItself t ≡ refused n at → InRegister n 1 at t
-in-register t b n at e = record { part-is = refl; refused = register-refused-by-itself t b n at .0 e }
+  in-parts : (t s : List ℕ) → Bytes t → Bytes s → openParts t s ≡ refuses n part at → InRegister n part at t ⊎ InScheme n part at t s
+  in-parts t s b b′ e =
+      then-refuses (openRegister t) _ e (λ x. inl (in-register t b x)) λ reg x y.
+      then-refuses (given 2 (schemeByItself reg s)) _ y (λ z.
+      let (w, p) = given-refuses 2 (schemeByItself reg s) z in
+      inr (record { part-is = p; before = before2 t b reg x; refused = scheme-refused-by-itself reg s b′ n at .0 w }))
+      (λ sch z w. absurd (not-both (sym w)))
 
-in-scheme : (t s : List ℕ) → Bytes s → (k : Before2 t) (n at : ℕ) → schemeByItself (k .reg) s ≡ refused n at → InScheme n 2 at t s
-in-scheme t s b k n at e = record { part-is = refl; before = k; refused = scheme-refused-by-itself (k .reg) s b n at .0 e }
+  in-cost : (t s : List ℕ) → Bytes t → Bytes s → costOutcome t s ≡ refuses n part at → InRegister n part at t ⊎ InPlan n part at t s
+  in-cost t s b b′ e =
+      then-refuses (openRegister t) _ e (λ x. inl (in-register t b x)) λ reg x y.
+      then-refuses (given 4 (planByItself reg s)) _ y (λ z.
+      let (w, p) = given-refuses 4 (planByItself reg s) z in
+      inr (record { part-is = p; before = before2 t b reg x; refused = plan-refused-by-itself reg s b′ n at .0 w }))
+      (λ fed z w. absurd (not-both (sym w)))
 
 pub register-refusals : RegisterRefusals registerCall
 register-refusals t b = go (registerByItself t) refl
   where
     go : (x : Reading (Progress Register)) → registerByItself t ≡ x → let a = registerAnswer x in (a .number ≡ 0 → ⊥) → (a .register ≡ OfRegister.fresh) × InRegister (a .number) (a .part) (a .position) t
-    go (refused n at) e h = (refl, in-register t b n at e)
+    go (refused n at) e h = (refl, in-register n 1 at t b (ap (given 1) e))
     go (accepted p end) e h = absurd (h refl)
 
 pub scheme-refusals : SchemeRefusals schemeCall
-scheme-refusals t s b b′ = go (registerByItself t) refl
+scheme-refusals t s b b′ = go (openParts t s) refl
   where
-    second : (k : Before2 t) (x : Reading (Progress Scheme)) → schemeByItself (k .reg) s ≡ x → let a = partAnswer x in (a .number ≡ 0 → ⊥) → (a .scheme ≡ OfScheme.fresh) × InScheme (a .number) (a .part) (a .position) t s
-    second k (refused n at) e h = (refl, in-scheme t s b′ k n at e)
-    second k (accepted p end) e h = absurd (h refl)
-
-    go : (x : Reading (Progress Register)) → registerByItself t ≡ x → let a = answerAfter x s in (a .number ≡ 0 → ⊥) → (a .scheme ≡ OfScheme.fresh) × (InRegister (a .number) (a .part) (a .position) t ⊎ InScheme (a .number) (a .part) (a .position) t s)
-    go (refused n at) e h = (refl, inl (in-register t b n at e))
-    go (accepted p end) e h = let (z, r) = second (before2 t b p end e) (schemeByItself (p .parsed) s) refl h in (z, inr r)
+    go : (x : Outcome (Register × Scheme)) → openParts t s ≡ x → let a = answerBy SchemeCall.refusedAnswer SchemeCall.acceptedAnswer x in (a .number ≡ 0 → ⊥) → (a .scheme ≡ OfScheme.fresh) × (InRegister (a .number) (a .part) (a .position) t ⊎ InScheme (a .number) (a .part) (a .position) t s)
+    go (refuses n part at) e h = (refl, in-parts n part at t s b b′ e)
+    go (accepts a) e h = absurd (h refl)
 
 pub cost-refusals : CostRefusals costCall
 unfolding costAnswer
-cost-refusals t s b b′ = go (registerByItself t) refl
+cost-refusals t s b b′ = go (costOutcome t s) refl
   where
-    second : (k : Before2 t) (x : Reading (Progress ℕ)) → planByItself (k .reg) s ≡ x → let a = planAnswer (k .reg) x in (a .number ≡ 0 → ⊥) → (a .cost ≡ pos 0) × InPlan (a .number) (a .part) (a .position) t s
-    second k (refused n at) e h = (refl, record { part-is = refl; before = k; refused = plan-refused-by-itself (k .reg) s b′ n at .0 e })
-    second k (accepted p end) e h = absurd (h refl)
-
-    go : (x : Reading (Progress Register)) → registerByItself t ≡ x → let a = registerThenPlan s x in (a .number ≡ 0 → ⊥) → (a .cost ≡ pos 0) × (InRegister (a .number) (a .part) (a .position) t ⊎ InPlan (a .number) (a .part) (a .position) t s)
-    go (refused n at) e h = (refl, inl (in-register t b n at e))
-    go (accepted p end) e h = let (z, r) = second (before2 t b p end e) (planByItself (p .parsed) s) refl h in (z, inr r)
+    go : (x : Outcome ℤ) → costOutcome t s ≡ x → let a = answerBy refusedCost acceptedCost x in (a .number ≡ 0 → ⊥) → (a .cost ≡ pos 0) × (InRegister (a .number) (a .part) (a .position) t ⊎ InPlan (a .number) (a .part) (a .position) t s)
+    go (refuses n part at) e h = (refl, in-cost n part at t s b b′ e)
+    go (accepts z) e h = absurd (h refl)
 
 pub penalty-refusals : PenaltyRefusals penaltyCall
 unfolding penaltyAnswer penaltyTable
 penalty-refusals = record {
   short = λ t s lent l. rw (lt-ltb (length lent) tableNumbers l) refl;
-  refused = λ t s b b′ lent l h. let e = le-ltb (length lent) tableNumbers l in (refused-unchanged t s lent h, rw e (go t s b b′ (registerByItself t) refl (rw e at h)));
+  refused = λ t s b b′ lent l h. let e = le-ltb (length lent) tableNumbers l in (refused-unchanged t s lent h, rw e (go t s b b′ (openParts t s) refl (rw e at h)));
 }
   where
-    second : (t s : List ℕ) → Bytes s → (k : Before2 t) (x : Reading (Progress Scheme)) → schemeByItself (k .reg) s ≡ x →
-        let a = Penalty.afterScheme x in (a .number ≡ 0 → ⊥) → InScheme (a .number) (a .part) (a .position) t s
-    second t s b′ k (refused n at) e h = in-scheme t s b′ k n at e
-    second t s b′ k (accepted p end) e h = absurd (h refl)
-
-    go : (t s : List ℕ) → Bytes t → Bytes s → (x : Reading (Progress Register)) → registerByItself t ≡ x →
-        let a = Penalty.afterRegister x s in (a .number ≡ 0 → ⊥) → InRegister (a .number) (a .part) (a .position) t ⊎ InScheme (a .number) (a .part) (a .position) t s
-    go t s b b′ (refused n at) e h = inl (in-register t b n at e)
-    go t s b b′ (accepted p end) e h = inr (second t s b′ (before2 t b p end e) (schemeByItself (p .parsed) s) refl h)
+    go : (t s : List ℕ) → Bytes t → Bytes s → (x : Outcome (Register × Scheme)) → openParts t s ≡ x →
+        let a = answerBy Penalty.answer (λ parts. Penalty.answer 0 0 0) x in (a .number ≡ 0 → ⊥) → InRegister (a .number) (a .part) (a .position) t ⊎ InScheme (a .number) (a .part) (a .position) t s
+    go t s b b′ (refuses n part at) e h = in-parts n part at t s b b′ e
+    go t s b b′ (accepts a) e h = absurd (h refl)
 
 -- ---- calls that write bytes
 
@@ -155,35 +158,30 @@ short-buffer bytes lent =
     (λ e. rw e λ h. absurd (h refl))
 
 pub build-refusals : BuildRefusals buildCall
-build-refusals t b lent = go (registerByItself t) refl
+build-refusals t b lent = go (openRegister t) refl
   where
-    second : (k : Before2 t) (x : Built) → build (k .reg) ≡ x → let a = Builder.builtAnswer (k .reg) lent x in (a .number ≡ 0 → ⊥) →
+    second : (k : Before2 t) (x : Built) → build (k .reg) ≡ x → let a = Builder.builtAnswer t (k .reg) lent x in (a .number ≡ 0 → ⊥) →
         (a .count ≡ 0) × (Builder.builtBuffer (k .reg) lent x ≡ lent) × (InTerm (a .number) (a .part) (a .position) t ⊎ SchemeTooLong (a .number) (a .part) (a .position) t lent)
-    second k (stopped i) e h = (refl, refl, inl (record { number-is = refl; part-is = refl; before = k; term = i; stops = e; position-is = refl }))
+    second k (stopped i) e h = (refl, refl, inl (record { number-is = refl; part-is = refl; before = k; term = i; stops = e; position-is = refl; stands = stopped-stands (k .reg) (k .part-1 .conditions) t (k .part-1 .bytes) i e }))
     second k (built sch) e h =
         let (z, u, r) = short-buffer (encodeScheme (k .reg .choices) sch) lent h in
         (z, u, inr (record { before = k; scheme = sch; builds = e; buffer = r }))
 
-    go : (x : Reading (Progress Register)) → registerByItself t ≡ x → let a = Builder.answerAfter lent x in (a .number ≡ 0 → ⊥) →
-        (a .count ≡ 0) × (Builder.bufferAfter lent x ≡ lent) × (InRegister (a .number) (a .part) (a .position) t ⊎ (InTerm (a .number) (a .part) (a .position) t ⊎ SchemeTooLong (a .number) (a .part) (a .position) t lent))
-    go (refused n at) e h = (refl, refl, inl (in-register t b n at e))
-    go (accepted p end) e h = let (z, u, r) = second (before2 t b p end e) (build (p .parsed)) refl h in (z, u, inr r)
+    go : (x : Outcome Register) → openRegister t ≡ x → let a = answerBy refusedAnswer (λ reg. Builder.builtAnswer t reg lent (build reg)) x in (a .number ≡ 0 → ⊥) →
+        (a .count ≡ 0) × (answerBy (λ number part at. lent) (λ reg. Builder.builtBuffer reg lent (build reg)) x ≡ lent) × (InRegister (a .number) (a .part) (a .position) t ⊎ (InTerm (a .number) (a .part) (a .position) t ⊎ SchemeTooLong (a .number) (a .part) (a .position) t lent))
+    go (refuses n part at) e h = (refl, refl, inl (in-register n part at t b e))
+    go (accepts reg) e h = let (z, u, r) = second (before2 t b reg e) (build reg) refl h in (z, u, inr r)
 
 pub plain-refusals : PlainRefusals plainCall
 unfolding plainAnswer plainBuffer
-plain-refusals t s b b′ lent = go (registerByItself t) refl
+plain-refusals t s b b′ lent = go (openParts t s) refl
   where
-    second : (k : Before2 t) (x : Reading (Progress Scheme)) → schemeByItself (k .reg) s ≡ x → let a = Plain.afterScheme (k .reg) x lent in (a .number ≡ 0 → ⊥) →
-        (a .count ≡ 0) × (Plain.bufferAfterScheme (k .reg) x lent ≡ lent) × (InScheme (a .number) (a .part) (a .position) t s ⊎ PlainTooLong (a .number) (a .part) (a .position) t s lent)
-    second k (refused n at) e h = (refl, refl, inl (in-scheme t s b′ k n at e))
-    second k (accepted p end) e h =
-        let (z, u, r) = short-buffer (ownBytes (k .reg) (p .parsed)) lent h in
-        (z, u, inr (record { before = before3 t s k p end e; buffer = r }))
-
-    go : (x : Reading (Progress Register)) → registerByItself t ≡ x → let a = Plain.afterRegister x s lent in (a .number ≡ 0 → ⊥) →
-        (a .count ≡ 0) × (Plain.bufferAfterRegister x s lent ≡ lent) × (InRegister (a .number) (a .part) (a .position) t ⊎ (InScheme (a .number) (a .part) (a .position) t s ⊎ PlainTooLong (a .number) (a .part) (a .position) t s lent))
-    go (refused n at) e h = (refl, refl, inl (in-register t b n at e))
-    go (accepted p end) e h = let (z, u, r) = second (before2 t b p end e) (schemeByItself (p .parsed) s) refl h in (z, u, inr r)
+    go : (x : Outcome (Register × Scheme)) → openParts t s ≡ x → let a = answerBy refusedAnswer (λ (reg, sch). bytesAnswer (ownBytes reg sch) lent) x in (a .number ≡ 0 → ⊥) →
+        (a .count ≡ 0) × (answerBy (λ number part at. lent) (λ (reg, sch). withFront (ownBytes reg sch) lent) x ≡ lent) × (InRegister (a .number) (a .part) (a .position) t ⊎ (InScheme (a .number) (a .part) (a .position) t s ⊎ PlainTooLong (a .number) (a .part) (a .position) t s lent))
+    go (refuses n part at) e h = (refl, refl, ⊎-elim inl (λ r. inr (inl r)) (in-parts n part at t s b b′ e))
+    go (accepts (reg, sch)) e h =
+        let (z, u, r) = short-buffer (ownBytes reg sch) lent h in
+        (z, u, inr (inr (record { before = before3 t s b reg sch e; buffer = r })))
 
 pub listing-refusals : ListingRefusals listingCall
 unfolding listingAnswer listingTable listingBuffer
@@ -199,16 +197,16 @@ listing-refusals = record {
 module _ (reg : Register) (sch : Scheme) where
   rising : Rising (certificatePart reg sch)
   unfolding scaleChecks multiplierChecks squareChecks
-  rising = rows-rising fresh (rows reg sch) rises
+  rising = rows-rising fresh (certificateRows reg sch) rises
     where
-      rises : All Rises (rows reg sch)
+      rises : All Rises (certificateRows reg sch)
       rises = (λ r xs. tt) ▹ (λ r xs. tt) ▹ (λ r xs. tt) ▹ (λ r xs. tt) ▹ (λ r xs. tt) ▹ (λ r xs. tt) ▹ (λ r xs. tt) ▹ (λ r xs. tt) ▹ (λ r xs. tt) ▹ (λ r xs. tt) ▹ (λ r xs. tt) ▹ (λ r xs. tt) ▹ tt
 
 module _ (t u : List ℕ) (h : Before3 t u) (s : List ℕ) (b : Bytes s) (lent : List ℤ) (n at : ℕ) where
   -- where a certificate stands up to `3F`
   table-reached : (k : Certificate) (end : ℕ) → Within (h .reg) (h .sch) k → Encodes k (take end s) → withResidual (h .reg) (h .sch) (commandsInJob (h .reg) (h .sch) s) lent ≡ withR (h .reg) (h .sch) k lent
   table-reached k end w e =
-      let few : variables (h .reg .choices) (h .sch) ≤ 64 = omega (arith, h .part-1 .conditions .within .choices-within, h .part-2 .conditions .within .products-within) in
+      let few : variables (h .reg .choices) (h .sch) ≤ maxVariables = omega (arith, h .part-1 .conditions .within .choices .few, h .part-2 .conditions .within .products-within) in
       let q = certificate-front (h .reg) (h .sch) few k (take end s) (drop end s) w e in
       ap (λ x. withResidual (h .reg) (h .sch) x lent) (ap (commandsInJob (h .reg) (h .sch)) (sym (take-append-drop end s)) ∙ q)
 
@@ -230,26 +228,19 @@ module _ (t s c : List ℕ) (b : Bytes t) (b′ : Bytes s) (b″ : Bytes c) (len
       (refl, record { part-is = refl; before = k; refused = r; table-is = table-refused-by-itself t s k c b″ lent n at r })
   third k (accepted p end) e h = absurd (h refl)
 
-  second : (k : Before2 t) (x : Reading (Progress Scheme)) → schemeByItself (k .reg) s ≡ x →
-      let a = afterScheme (k .reg) x c in
-      let table = tableAfterScheme (k .reg) x c lent in
-      (a .number ≡ 0 → ⊥) → (a .bound ≡ pos 0) × ((InScheme (a .number) (a .part) (a .position) t s × (table ≡ lent)) ⊎ InCertificate (a .number) (a .part) (a .position) t s c lent table)
-  second k (refused n at) e h = (refl, inl (in-scheme t s b′ k n at e, refl))
-  second k (accepted p end) e h = let (z, r) = third (before3 t s k p end e) (certificateByItself (coefficient (k .reg)) (k .reg) (p .parsed) c) refl h in (z, inr r)
-
-  first : (x : Reading (Progress Register)) → registerByItself t ≡ x →
-      let a = afterRegister x s c in
-      let table = tableAfterRegister x s c lent in
+  first : (x : Outcome (Register × Scheme)) → openParts t s ≡ x →
+      let a = answerBy Check.refusedAnswer Check.acceptedAnswer (andThen x λ (reg, sch). given 3 (certificateByItself (coefficient reg) reg sch c)) in
+      let table = answerBy (λ number part at. lent) (λ (reg, sch). withResidual reg sch (commandsInJob reg sch c) lent) x in
       (a .number ≡ 0 → ⊥) →
       (a .bound ≡ pos 0) × ((InRegister (a .number) (a .part) (a .position) t × (table ≡ lent)) ⊎ ((InScheme (a .number) (a .part) (a .position) t s × (table ≡ lent)) ⊎ InCertificate (a .number) (a .part) (a .position) t s c lent table))
-  first (refused n at) e h = (refl, inl (in-register t b n at e, refl))
-  first (accepted p end) e h = let (z, r) = second (before2 t b p end e) (schemeByItself (p .parsed) s) refl h in (z, inr r)
+  first (refuses n part at) e h = (refl, ⊎-elim (λ r. inl (r, refl)) (λ r. inr (inl (r, refl))) (in-parts n part at t s b b′ e))
+  first (accepts (reg, sch)) e h = let (z, r) = third (before3 t s b reg sch e) (certificateByItself (coefficient reg) reg sch c) refl h in (z, inr (inr r))
 
 pub check-refusals : CheckRefusals checkCall
 unfolding checkAnswer checkTable
 check-refusals = record {
   short = λ t s c lent l. rw (lt-ltb (length lent) tableNumbers l) refl;
-  refused = λ t s c b b′ b″ lent l. rw (le-ltb (length lent) tableNumbers l) (first t s c b b′ b″ lent (registerByItself t) refl);
+  refused = λ t s c b b′ b″ lent l. rw (le-ltb (length lent) tableNumbers l) (first t s c b b′ b″ lent (openParts t s) refl);
 }
 
 -- ---- the job
@@ -269,15 +260,20 @@ abbrev behind : (s front : List ℕ) (from at k : ℕ) {Refused : List ℕ → �
 behind s front from at k f e r = record { rest = drop from s; job-is = f .job-is; at = at; position-is = sym e ∙ ap (λ n. n + at) (sym (f .ends)); refused = r }
 
 -- a part is refused, or what follows it
-by-part : {S G : Type 0} (part from : ℕ) (x : Reading S) (rest : S → ℕ → Outcome) (n m k : ℕ) → follow part from x rest ≡ refuses n m k →
-    ((at : ℕ) → x ≡ refused n at → m ≡ part → from + at ≡ k → G) → ((read : S) (end : ℕ) → x ≡ accepted read end → rest read (from + end) ≡ refuses n m k → G) → G
-unfolding follow
-by-part part from (refused i at) rest n m k e f g =
-    let d : i ≡ n = cc in
-    let p : part ≡ m = cc in
-    let q : from + at ≡ k = cc in
-    f at (ap (λ i. refused i at) d) (sym p) q
-by-part part from (accepted read end) rest n m k e f g = g read end refl e
+by-part : {A G : Type 0} (s : List ℕ) (part from : ℕ) (add : A → Parts) (x : Reading (Progress A)) (ks : List JobPart) (n m k : ℕ) →
+    andThen (next part (startingAt from (addedBy add x)) (inTurn ks s)) (ended 4 s) ≡ refuses n m k →
+    ((at : ℕ) → x ≡ refused n at → m ≡ part → from + at ≡ k → G) → ((read : Progress A) (end : ℕ) → x ≡ accepted read end → rest s ks (add (read .parsed)) (from + end) ≡ refuses n m k → G) → G
+by-part {A} {G} s part from add x ks n m k e f g =
+    next-at (λ o. andThen o (ended 4 s) ≡ refuses n m k → G) part from add x (inTurn ks s)
+    (λ i at d q. let (a, (b, c)) = refuses-same q in f at (d ∙ ap (λ i. refused i at) a) (sym b) c) g e
+
+-- the table, by what reading the scheme and the register leads to
+
+abbrev tableOfScheme : List ℕ → Register → ℕ → List ℤ → Reading (Progress Scheme) → List ℤ
+tableOfScheme s reg from lent x = tableBy s lent (next 2 (startingAt from (addedBy (withScheme (ofRegister reg)) x)) (inTurn [] s))
+
+abbrev tableOfRegister : List ℕ → List ℤ → Reading (Progress Register) → List ℤ
+tableOfRegister s lent x = tableBy s lent (next 1 x λ one end. inTurn (partTwo ∷ []) s (ofRegister (one .parsed)) end)
 
 module _ (s : List ℕ) (b : Bytes s) (n m k : ℕ) (lent table : List ℤ) where
   from-plan : (t u v : List ℕ) (from : ℕ) (h : Before4 t u v) → Front s ((t ++ u) ++ v) from →
@@ -286,16 +282,14 @@ module _ (s : List ℕ) (b : Bytes s) (n m k : ℕ) (lent table : List ℤ) wher
   from-plan t u v from h f w e =
       let reg = h .reg in
       let d = bytes-drop from s b in
-      by-part 4 from (planInJob reg (drop from s)) _ n m k e
+      by-part s 4 from (withPlan (withCertificate (withScheme (ofRegister reg) (h .sch)) (h .cert))) (planInJob reg (drop from s)) [] n m k e
       (λ at x p q. record { part-is = p; register = t; scheme = u; certificate = v; before = h; behind = behind s _ from at k f q (inl (plan-refused reg (drop from s) d n at .0 x)); table-is = w })
       (λ read end x y. past read end x _ (ltb (from + end) (length s)) refl y)
     where
       past : (read : Progress ℕ) (end : ℕ) → planInJob (h .reg) (drop from s) ≡ accepted read end → (p : Parts) (c : Bool) → ltb (from + end) (length s) ≡ c →
           cond c (refuses 12 4 (from + end)) (accepts p) ≡ refuses n m k → FromPlan n m k s lent table
       past read end x p true l y =
-          let i : 12 ≡ n = cc in
-          let j : _≡_ {A = ℕ} 4 m = cc in
-          let q : from + end ≡ k = cc in
+          let (i, (j, q)) = refuses-same y in
           let inside : end < length (drop from s) = omega (arith, length-drop from s, ltb-true (from + end) (length s) l) in
           record {
             part-is = sym j;
@@ -306,7 +300,7 @@ module _ (s : List ℕ) (b : Bytes s) (n m k : ℕ) (lent table : List ℤ) wher
             table-is = w;
             behind = behind s _ from end k f q (inr (sym i, (inside, ends-at (planPart (h .reg)) (drop from s) (bytes-drop from s b) read end x)));
           }
-      past read end x p false l y = let z : _≡_ {A = ℕ} 0 1 = cc in absurd (omega arith)
+      past read end x p false l y = absurd (not-both (sym y))
 
   from-certificate : (t u : List ℕ) (from : ℕ) (h : Before3 t u) → Front s (t ++ u) from →
       table ≡ tableFromCertificate s (h .reg) (h .sch) from lent → fromCertificate s (h .reg) (h .sch) from ≡ refuses n m k → FromCertificate n m k s lent table ⊎ FromPlan n m k s lent table
@@ -314,7 +308,7 @@ module _ (s : List ℕ) (b : Bytes s) (n m k : ℕ) (lent table : List ℤ) wher
       let reg = h .reg in
       let c = coefficient reg in
       let d = bytes-drop from s b in
-      by-part 3 from (certificateInJob c reg (h .sch) (drop from s)) _ n m k e
+      by-part s 3 from (withCertificate (withScheme (ofRegister reg) (h .sch))) (certificateInJob c reg (h .sch) (drop from s)) (partFour ∷ []) n m k e
       (λ at x p q.
       let r = certificate-refused reg (h .part-1 .conditions) (h .sch) (h .part-2 .conditions) c (drop from s) d n at .0 x in
       inl (record { part-is = p; register = t; scheme = u; before = h; behind = behind s _ from at k f q r; table-is = w ∙ table-refused t u h (drop from s) d lent n at r }))
@@ -330,24 +324,28 @@ module _ (s : List ℕ) (b : Bytes s) (n m k : ℕ) (lent table : List ℤ) wher
       table ≡ tableFromScheme s (h .reg) from lent → fromScheme s (h .reg) from ≡ refuses n m k → FromScheme n m k s lent table ⊎ (FromCertificate n m k s lent table ⊎ FromPlan n m k s lent table)
   from-scheme t from h f w e =
       let reg = h .reg in
-      by-part 2 from (schemeInJob reg (drop from s)) _ n m k e
-      (λ at x p q. inl (record { part-is = p; register = t; before = h; behind = behind s t from at k f q (scheme-refused reg (drop from s) (bytes-drop from s b) n at .0 x); table-is = w ∙ ap (λ x. Job.tableAfterScheme s reg from x lent) x }))
+      by-part s 2 from (withScheme (ofRegister reg)) (schemeInJob reg (drop from s)) (partThree ∷ partFour ∷ []) n m k e
+      (λ at x p q. inl (record { part-is = p; register = t; before = h; behind = behind s t from at k f q (scheme-refused reg (drop from s) (bytes-drop from s b) n at .0 x); table-is = w ∙ ap (tableOfScheme s reg from lent) x }))
       (λ read end x y.
-      let u = encodeScheme (reg .choices) (read .parsed) in
+      let (encodes, l) = SA.bytes-accepted reg (h .part-1 .conditions) (drop from s) read end x in
+      let u = take end (drop from s) in
       let valid = SA.valid-accepted reg (h .part-1 .conditions) (drop from s) read end x .0 in
-      let g = further s t u from end f (SA.bytes-accepted reg (h .part-1 .conditions) (drop from s) read end x) (sym (SA.end-accepted reg (h .part-1 .conditions) (drop from s) read end x)) in
-      inr (from-certificate t u (from + end) (record { reg = reg; sch = read .parsed; part-1 = h .part-1; part-2 = record { conditions = valid; bytes = refl } }) g (w ∙ ap (λ x. Job.tableAfterScheme s reg from x lent) x) y))
+      let g = further s t u from end f (sym (take-append-drop end (drop from s))) (length-take-le end (drop from s) l) in
+      inr (from-certificate t u (from + end) (record { reg = reg; sch = read .parsed; part-1 = h .part-1; part-2 = record { conditions = valid; bytes = encodes } }) g (w ∙ ap (tableOfScheme s reg from lent) x) y))
 
   from-register : table ≡ tableAfter s lent → outcome s ≡ refuses n m k → FromRegister n m k s lent table ⊎ (FromScheme n m k s lent table ⊎ (FromCertificate n m k s lent table ⊎ FromPlan n m k s lent table))
   unfolding outcome tableAfter
   from-register w e =
-      by-part 1 0 (registerInJob s) _ n m k e
-      (λ at x p q. inl (record { part-is = p; refused = register-refused s b n k .0 (x ∙ ap (refused n) (sym (zero-add at) ∙ q)); table-is = w ∙ ap (λ x. Job.tableAfterRegister s x lent) x }))
+      next-by (λ o. o ≡ refuses n m k → FromRegister n m k s lent table ⊎ (FromScheme n m k s lent table ⊎ (FromCertificate n m k s lent table ⊎ FromPlan n m k s lent table))) 1 (registerInJob s) (λ one end. fromScheme s (one .parsed) end)
+      (λ i at x q.
+      let (a, (p, c)) = refuses-same q in
+      inl (record { part-is = sym p; refused = register-refused s b n k .0 (x ∙ ap₂ refused a c); table-is = w ∙ ap (tableOfRegister s lent) x }))
       (λ read end x y.
-      let t = encodeRegister (read .parsed) in
-      let valid = RA.valid-accepted s read end x .0 in
-      let g : Front s t (0 + end) = record { ends = sym (RA.end-accepted s read end x b) ∙ sym (zero-add end); job-is = RA.bytes-accepted s read end x b ∙ rw zero-add } in
-      inr (from-scheme t (0 + end) (record { reg = read .parsed; part-1 = record { conditions = valid; bytes = refl } }) g (w ∙ ap (λ x. Job.tableAfterRegister s x lent) x ∙ ap (λ e. tableFromScheme s (read .parsed) e lent) (sym (zero-add end))) y))
+      let t = take end s in
+      let (bytes, l) = RA.bytes-accepted s read end x b in
+      let g : Front s t end = record { ends = length-take-le end s l; job-is = sym (take-append-drop end s) } in
+      inr (from-scheme t end (record { reg = read .parsed; part-1 = record { conditions = RA.valid-accepted s read end x .0; bytes = bytes } }) g (w ∙ ap (tableOfRegister s lent) x) y))
+      e
 
 pub job-refusals : JobRefusals jobCall
 unfolding jobAnswer jobTable
@@ -356,7 +354,7 @@ job-refusals = record {
   refused = λ s b lent l tally. rw (le-ltb (length lent) tableNumbers l) (go s b lent tally (outcome s) refl);
 }
   where
-    go : (s : List ℕ) → Bytes s → (lent : List ℤ) (tally : Tally) (x : Outcome) → outcome s ≡ x →
+    go : (s : List ℕ) → Bytes s → (lent : List ℤ) (tally : Tally) (x : Outcome Parts) → outcome s ≡ x →
         let a = afterJob x tally in
         let table = tableAfter s lent in
         (a .number ≡ 0 → ⊥) →

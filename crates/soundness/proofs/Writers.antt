@@ -11,25 +11,25 @@ use lib.Seq.{take-at}
 use borrow.Author.Tests.{lt-ltb, le-ltb}
 use Rattle.integers.proofs.Lists.{flag}
 use Rattle.wire.specs.Number.{Bytes}
-use Rattle.wire.specs.Part.{Reading, refused, accepted}
-use Rattle.wire.specs.Rows.{Progress}
-use Rattle.wire.specs.Writer.{bytesAnswer, withFront}
+use Rattle.wire.specs.Outcome.{Outcome, refuses, accepts, answerBy}
+use Rattle.wire.specs.Writer.{refusedAnswer, bytesAnswer, withFront}
 use Rattle.forms.specs.Table.{tableNumbers}
 use Rattle.register.specs.declared.Register.{Register}
 use Rattle.register.specs.Format.{registerByItself}
 use Rattle.register.specs.Answer.{registerAnswer}
+use Rattle.register.specs.Opening.{openRegister}
 use Rattle.register.proofs.Accept as RA
 use Rattle.scheme.specs.declared.Scheme.{Scheme}
-use Rattle.scheme.specs.Format.{schemeByItself}
 use Rattle.scheme.specs.Encoding.{encodeScheme}
-use Rattle.scheme.specs.Answer.{schemeAnswer}
-use Rattle.scheme.proofs.Opened.{opened-encodings, register-bytes, scheme-bytes, opened}
+use Rattle.scheme.specs.Answer.{openParts, schemeAnswer}
+use Rattle.scheme.proofs.Canonical.{canonical}
+use Rattle.scheme.proofs.Opened.{opened-encodings, register-bytes, scheme-bytes, answer-opened}
 use Rattle.builder.specs.Builder.{Built, stopped, built, build}
-use Rattle.builder.specs.Answer.{builtRoom, builtAnswer, builtBuffer, answerAfter, bufferAfter}
+use Rattle.builder.specs.Answer.{builtRoom, builtAnswer, builtBuffer}
 use Rattle.builder.proofs.Validity.{build-valid, build-size}
 use Rattle.builder.proofs.Call as B
-use Rattle.certificate.specs.Residual.{bound}
-use Rattle.plain.specs.Answer.{ownBytes, ownRoom, afterScheme, afterRegister, plainAnswer, bufferAfterScheme, bufferAfterRegister, plainBuffer}
+use Rattle.bound.specs.Bound.{bound}
+use Rattle.plain.specs.Answer.{ownBytes, ownRoom, plainAnswer, plainBuffer}
 use Rattle.plain.proofs.Valid.{plain-valid}
 use Rattle.plain.proofs.Encoded.{plain-bytes}
 use Rattle.plain.proofs.ReadBack.{plain-encodes}
@@ -78,7 +78,7 @@ front-is writer bytes room w lent z = by (decLt (length lent) (length bytes))
 -- ---- the builder
 
 module _ (t : List ℕ) (reg : Register) (p : Part1 t reg) where
-  build-is : (x : Built) → build reg ≡ x → (lent : List ℕ) → buildCall t lent ≡ (builtAnswer reg lent x, builtBuffer reg lent x)
+  build-is : (x : Built) → build reg ≡ x → (lent : List ℕ) → buildCall t lent ≡ (builtAnswer t reg lent x, builtBuffer reg lent x)
   build-is x e lent = rw (RA.encoding-accepted t reg (p .conditions) (p .bytes), e) refl
 
 build-writes : (t : List ℕ) (reg : Register) (sch : Scheme) → OfBuild t reg sch → Writes (buildCall t) (encodeScheme (reg .choices) sch) builtRoom
@@ -92,7 +92,7 @@ build-reads t reg sch o lent z =
       part-1 = o .part-1;
       part-2 = record {
         conditions = build-valid reg (o .part-1 .conditions) sch (o .builds);
-        bytes = front-is (buildCall t) (encodeScheme (reg .choices) sch) builtRoom (build-writes t reg sch o) lent z;
+        bytes = rw (front-is (buildCall t) (encodeScheme (reg .choices) sch) builtRoom (build-writes t reg sch o) lent z) (canonical reg sch);
       };
     })
 
@@ -100,19 +100,20 @@ build-only : (t lent : List ℕ) → Bytes t → buildCall t lent .0 .number ≡
 build-only t lent b z =
     let w = B.call-reads t lent z in
     let s = front (buildCall t lent) in
-    let o = opened t s (schemeAnswer t s) refl (registerAnswer (registerByItself t)) refl (ap (λ a. a .number) (w .reads)) in
+    let o = answer-opened t s (ap (λ a. a .number) (w .reads)) in
     (registerAnswer (registerByItself t) .register, (w .scheme, record { part-1 = record { conditions = w .valid; bytes = register-bytes t s _ _ o b }; builds = w .builds }))
 
 build-keeps : (t : List ℕ) → KeepsRefused (buildCall t)
-build-keeps t lent = go (registerByItself t)
+build-keeps t lent = go (openRegister t)
   where
-    made : (reg : Register) (x : Built) → (builtAnswer reg lent x .number ≡ 0 → ⊥) → (builtAnswer reg lent x .count ≡ 0) × (builtBuffer reg lent x ≡ lent)
+    made : (reg : Register) (x : Built) → (builtAnswer t reg lent x .number ≡ 0 → ⊥) → (builtAnswer t reg lent x .count ≡ 0) × (builtBuffer reg lent x ≡ lent)
     made reg (stopped i) h = (refl, refl)
     made reg (built sch) h = keeps-bytes (encodeScheme (reg .choices) sch) lent h
 
-    go : (x : Reading (Progress Register)) → (answerAfter lent x .number ≡ 0 → ⊥) → (answerAfter lent x .count ≡ 0) × (bufferAfter lent x ≡ lent)
-    go (refused n at) h = (refl, refl)
-    go (accepted p end) h = made (p .parsed) (build (p .parsed)) h
+    go : (x : Outcome Register) → let a = answerBy refusedAnswer (λ reg. builtAnswer t reg lent (build reg)) x in
+        (a .number ≡ 0 → ⊥) → (a .count ≡ 0) × (answerBy (λ number part at. lent) (λ reg. builtBuffer reg lent (build reg)) x ≡ lent)
+    go (refuses n part at) h = (refl, refl)
+    go (accepts reg) h = made reg (build reg) h
 
 of-build : BuildWrites buildCall schemeCall
 of-build = record {
@@ -157,15 +158,12 @@ plain-only t s lent b z =
 
 plain-keeps : (t s : List ℕ) → KeepsRefused (plainCall t s)
 unfolding plainAnswer plainBuffer
-plain-keeps t s lent = first (registerByItself t)
+plain-keeps t s lent = go (openParts t s)
   where
-    second : (reg : Register) (y : Reading (Progress Scheme)) → (afterScheme reg y lent .number ≡ 0 → ⊥) → (afterScheme reg y lent .count ≡ 0) × (bufferAfterScheme reg y lent ≡ lent)
-    second reg (refused n at) h = (refl, refl)
-    second reg (accepted p end) h = keeps-bytes (ownBytes reg (p .parsed)) lent h
-
-    first : (x : Reading (Progress Register)) → (afterRegister x s lent .number ≡ 0 → ⊥) → (afterRegister x s lent .count ≡ 0) × (bufferAfterRegister x s lent ≡ lent)
-    first (refused n at) h = (refl, refl)
-    first (accepted p end) h = second (p .parsed) (schemeByItself (p .parsed) s) h
+    go : (x : Outcome (Register × Scheme)) → let a = answerBy refusedAnswer (λ (reg, sch). bytesAnswer (ownBytes reg sch) lent) x in
+        (a .number ≡ 0 → ⊥) → (a .count ≡ 0) × (answerBy (λ number part at. lent) (λ (reg, sch). withFront (ownBytes reg sch) lent) x ≡ lent)
+    go (refuses n part at) h = (refl, refl)
+    go (accepts (reg, sch)) h = keeps-bytes (ownBytes reg sch) lent h
 
 of-plain : PlainWrites plainCall checkCall
 of-plain = record { writes = plain-writes; reads-back = plain-reads; checks = plain-checks; only = plain-only; keeps = plain-keeps }

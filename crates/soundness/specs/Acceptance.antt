@@ -13,9 +13,9 @@ use Rattle.register.specs.declared.RegisterAnswer.{RegisterAnswer}
 use Rattle.register.specs.Register.{coefficient}
 use Rattle.scheme.specs.declared.Scheme.{Scheme}
 use Rattle.scheme.specs.declared.SchemeAnswer.{SchemeAnswer}
-use Rattle.certificate.specs.declared.CheckAnswer.{CheckAnswer}
+use Rattle.bound.specs.declared.CheckAnswer.{CheckAnswer}
 use Rattle.certificate.specs.Certificate.{Certificate}
-use Rattle.certificate.specs.Residual.{bound}
+use Rattle.bound.specs.Bound.{bound}
 use Rattle.penalty.specs.Answer.{withPenalty}
 use Rattle.plan.specs.declared.CostAnswer.{CostAnswer}
 use Rattle.plan.specs.Plan.{cost}

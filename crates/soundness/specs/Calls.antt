@@ -14,8 +14,8 @@ use Rattle.plan.specs.declared.CostAnswer.{CostAnswer}
 use Rattle.plan.specs.Answer.{costAnswer}
 use Rattle.penalty.specs.declared.PenaltyAnswer.{PenaltyAnswer}
 use Rattle.penalty.specs.Answer.{penaltyAnswer, penaltyTable}
-use Rattle.certificate.specs.declared.CheckAnswer.{CheckAnswer}
-use Rattle.certificate.specs.Check.{checkAnswer, checkTable}
+use Rattle.bound.specs.declared.CheckAnswer.{CheckAnswer}
+use Rattle.bound.specs.Check.{checkAnswer, checkTable}
 use Rattle.plain.specs.Answer.{plainAnswer, plainBuffer}
 use Rattle.job.specs.declared.Tally.{Tally}
 use Rattle.job.specs.declared.JobAnswer.{JobAnswer}

@@ -21,10 +21,11 @@ use Rattle.scheme.specs.Answer.{schemeAnswer}
 use Rattle.penalty.specs.Carried.{carried}
 use Rattle.penalty.specs.Least.{Least}
 use Rattle.penalty.specs.Answer.{withPenalty}
-use Rattle.certificate.specs.declared.CheckAnswer.{CheckAnswer}
+use Rattle.bound.specs.declared.CheckAnswer.{CheckAnswer}
 use Rattle.certificate.specs.Certificate.{Certificate}
 use Rattle.certificate.specs.Encoding.{Encodes}
-use Rattle.certificate.specs.Residual.{bound, secondOrder}
+use Rattle.residual.specs.Residual.{secondOrder}
+use Rattle.bound.specs.Bound.{bound}
 use Rattle.plain.specs.Plain.{plain}
 use Rattle.plain.specs.Answer.{ownRoom}
 use Rattle.soundness.specs.Calls.{PenaltyCall, CheckCall, PlainCall, front}

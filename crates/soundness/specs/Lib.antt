@@ -2,6 +2,7 @@
 -- write, demand 3, and what a farm reads of a job.
 pub mod Calls
 pub mod Parts
+pub mod Written
 pub mod Acceptance
 pub mod Refusals
 pub mod Writers

@@ -1,6 +1,6 @@
 -- What a refusal says and hands back, of every call: which part it is, that the parts before it are right, that number and position
 -- are those of the first command of the part that is not right, and within it the lowest number (`wire/specs/Refused`,
--- `certificate/specs/Refused`), that the answer's other fields are 0, and what table and buffer then hold. 10, 11 and 12, which no
+-- `bound/specs/Refused`), that the answer's other fields are 0, and what table and buffer then hold. 10, 11 and 12, which no
 -- wrong command causes, have cases of their own. The bytes settle number and position: `refused-iff` in `wire/proofs/Lowest`.
 use Prim.Native.Nat.{ℕ, _+_, _≤_, _<_}
 use mathlib.Core.Path.{_≡_}
@@ -10,18 +10,21 @@ use lib.IntN.{ℤ, pos}
 use lib.ListN.{length}
 use Rattle.wire.specs.Number.{Bytes}
 use Rattle.wire.specs.Refused.{RefusedAt, RefusedByItself}
+use Rattle.wire.specs.Walk.{Stands}
 use Rattle.forms.specs.Table.{tableNumbers}
 use Rattle.register.specs.declared.Register.{Register}
 use Rattle.register.specs.Register.{coefficient}
 use Rattle.register.specs.Register as OfRegister
 use Rattle.register.specs.Format.{registerPart}
+use Rattle.register.specs.Encoding.{termKind}
+use Rattle.register.specs.Position.{termPosition}
 use Rattle.scheme.specs.declared.Scheme.{Scheme}
 use Rattle.scheme.specs.Scheme as SchemeOf
 use Rattle.scheme.specs.Format.{schemePart}
 use Rattle.scheme.specs.Encoding.{encodeScheme}
-use Rattle.builder.specs.Builder.{stopped, built, build, termPosition}
+use Rattle.builder.specs.Builder.{stopped, built, build}
 use Rattle.certificate.specs.Certificate.{Certificate}
-use Rattle.certificate.specs.Refused.{CertificateRefused, CertificateRefusedByItself}
+use Rattle.bound.specs.Refused.{CertificateRefused, CertificateRefusedByItself}
 use Rattle.plain.specs.Encoding.{encodePlain}
 use Rattle.plan.specs.Format.{planPart}
 use Rattle.job.specs.declared.Tally.{Tally}
@@ -87,14 +90,15 @@ module _ (number part at : ℕ) where
     pub before : Before2 register
     pub refused : RefusedByItself (planPart (before .reg)) plan number at
 
-  -- the builder, with a register that is right: the command of the term that needs a 33rd product
+  -- the builder, with a register that is right: the command of the term that needs a 33rd product, in whichever form it stands there
   pub record InTerm (register : List ℕ) : Type 0 where
     pub number-is : number ≡ 10
     pub part-is : part ≡ 1
     pub before : Before2 register
     pub term : ℕ
     pub stops : build (before .reg) ≡ stopped term
-    pub position-is : at ≡ termPosition (before .reg) term
+    pub position-is : at ≡ termPosition register term
+    pub stands : Stands registerPart termKind (before .reg) term (before .part-1 .bytes .commands) at
 
   -- a buffer below the bytes to be written
   pub record ShortBuffer (bytes lent : List ℕ) : Type 0 where

@@ -11,12 +11,13 @@ use Rattle.wire.specs.Writer.{refusedAnswer, writtenAnswer}
 use Rattle.forms.specs.Table.{tableNumbers}
 use Rattle.register.specs.declared.Register.{Register}
 use Rattle.register.specs.Register.{coefficient}
+use Rattle.register.specs.Position.{termPosition}
 use Rattle.scheme.specs.declared.Scheme.{Scheme}
 use Rattle.scheme.specs.Encoding.{encodeScheme}
-use Rattle.builder.specs.Builder.{stopped, built, build, termPosition}
+use Rattle.builder.specs.Builder.{stopped, built, build}
 use Rattle.builder.specs.Answer.{builtRoom}
 use Rattle.certificate.specs.Certificate.{Certificate}
-use Rattle.certificate.specs.Residual.{bound}
+use Rattle.bound.specs.Bound.{bound}
 use Rattle.plain.specs.Plain.{plain}
 use Rattle.job.specs.declared.Tally.{Tally}
 use Rattle.job.specs.Outcome.{outcome}
@@ -62,9 +63,9 @@ pub record BuildWrites (buildCall : BuildCall) (schemeCall : SchemeCall) : Type 
   -- the scheme's call reads, from what is handed back, the scheme that was built
   pub reads-back : (register : List ℕ) (reg : Register) (sch : Scheme) → OfBuild register reg sch →
       (lent : List ℕ) → buildCall register lent .0 .number ≡ 0 → schemeCall register (front (buildCall register lent)) ≡ schemeAccepted sch
-  -- 10 at the term that needs a product too many
+  -- 10 at the term that needs a product too many (`InTerm` in `Refusals` says what stands there)
   pub full : (register : List ℕ) (reg : Register) (term : ℕ) → Part1 register reg → build reg ≡ stopped term →
-      (lent : List ℕ) → buildCall register lent ≡ refusedBack 10 1 (termPosition reg term) lent
+      (lent : List ℕ) → buildCall register lent ≡ refusedBack 10 1 (termPosition register term) lent
   -- 0 is answered for no other register
   pub only : (register lent : List ℕ) → Bytes register → buildCall register lent .0 .number ≡ 0 → (reg : Register) × ((sch : Scheme) × OfBuild register reg sch)
   pub keeps : (register : List ℕ) → KeepsRefused (buildCall register)

@@ -1,8 +1,8 @@
 // `specs/` has statements of any calls, `proofs/` shows them of ours. The functions here tie those calls to the exported functions;
 // nothing calls them.
+use bound::CheckAnswer;
+use bound::check::feedcheck_check;
 use builder::feedcheck_build;
-use certificate::CheckAnswer;
-use certificate::check::feedcheck_check;
 use job::JobAnswer;
 use job::Tally;
 use job::feedcheck_job;

@@ -1,6 +1,5 @@
 -- The digits of a number: how many a bound allows doesn't matter once it is above the number, and the last digit stands last.
-use Prim.Native.Nat.{ℕ, zero, suc, _+_, _*_, _^_, _/_, _%_, _<_, _≤_}
-use native.Mathlib.Nat.{pow-suc}
+use Prim.Native.Nat.{ℕ, zero, suc, _+_, _/_, _%_, _<_, _≤_}
 use native.Mathlib.Omega.{arith}
 use mathlib.Core.Path.{_≡_, refl, sym, ap, _∙_}
 use mathlib.Core.Bool.{true, false, true≢false}
@@ -40,15 +39,27 @@ pub digits-more : (n : ℕ) → 10 ≤ n → digits n ≡ digits (n / 10) ++ ((4
 unfolding digits
 digits-more n l = to-more n n l ∙ ap (λ d. d ++ ((48 + n % 10) ∷ [])) (enough n (suc (n / 10)) (n / 10) (omega arith) (omega arith))
 
--- a number below 10 ^ k has at most k digits, where k is not 0
-pub digits-short : (k n : ℕ) → n < 10 ^ suc k → length (digits n) ≤ suc k
-digits-short zero n h = rw (digits-one n (omega arith)) (omega arith)
-digits-short (suc k) n h =
+-- how many
+
+length-one : (n : ℕ) → n < 10 → length (digits n) ≡ 1
+length-one n l = ap length (digits-one n l)
+
+pub length-more : (n : ℕ) → 10 ≤ n → length (digits n) ≡ length (digits (n / 10)) + 1
+length-more n l = ap length (digits-more n l) ∙ length-append (digits (n / 10)) ((48 + n % 10) ∷ [])
+
+-- no more than those of a number above it
+mono : (k m n : ℕ) → n < k → m ≤ n → length (digits m) ≤ length (digits n)
+mono zero m n l h = absurd (omega arith)
+mono (suc k) m n l h =
     flag (ltb n 10)
-    (λ t. rw (digits-one n (ltb-true n 10 t)) (omega arith))
-    (λ f.
-    let e : 10 ^ suc (suc k) ≡ 10 ^ suc k * 10 = pow-suc 10 (suc k) in
-    rw (digits-more n (ltb-false n 10 f), length-append (digits (n / 10)) ((48 + n % 10) ∷ [])) (omega (arith, digits-short k (n / 10) (omega arith))))
+    (λ t. let b = ltb-true n 10 t in omega (arith, length-one m (omega arith), length-one n b))
+    (λ t. let b = ltb-false n 10 t in
+    flag (ltb m 10)
+    (λ u. omega (arith, length-one m (ltb-true m 10 u), length-more n b))
+    (λ u. omega (arith, length-more m (ltb-false m 10 u), length-more n b, mono k (m / 10) (n / 10) (omega arith) (omega arith))))
+
+pub digits-mono : (m n : ℕ) → m ≤ n → length (digits m) ≤ length (digits n)
+digits-mono m n l = mono (suc n) m n (omega arith) l
 
 -- ---- a number with its sign
 

@@ -10,6 +10,7 @@ use lib.ListN.{length, getD, drop}
 use borrow.Author.Tests.{ltb-true, ltb-false}
 use Rattle.integers.specs.Lists.{All, joinBelow}
 use Rattle.integers.proofs.Lists.{flag, All-append, All-map}
+use Rattle.integers.proofs.Join.{flatMap-append, flatMap-join}
 use Rattle.text.specs.Text.{digits, decimal, line}
 use Rattle.text.proofs.Digits.{digits-one, digits-more}
 
@@ -152,14 +153,12 @@ pub texts : List (ℕ × List ℤ) → List ℕ
 texts lines = flatMap (λ l. line (l .0) (l .1)) lines
 
 pub texts-append : (a b : List (ℕ × List ℤ)) → texts (a ++ b) ≡ texts a ++ texts b
-unfolding texts flatMap
-texts-append [] b = refl
-texts-append (x ∷ a) b = ap (λ l. line (x .0) (x .1) ++ l) (texts-append a b) ∙ sym (append-assoc (line (x .0) (x .1)) (texts a) (texts b))
+unfolding texts
+texts-append a b = flatMap-append _ a b
 
 pub texts-join : (n : ℕ) (f : ℕ → List (ℕ × List ℤ)) → texts (joinBelow n f) ≡ joinBelow n (λ i. texts (f i))
-unfolding texts flatMap joinBelow
-texts-join zero f = refl
-texts-join (suc n) f = texts-append (joinBelow n f) (f n) ∙ ap (λ l. l ++ texts (f n)) (texts-join n f)
+unfolding texts
+texts-join n f = flatMap-join _ n f
 
 pub texts-one : (letter : ℕ) (xs : List ℤ) → texts ((letter, xs) ∷ []) ≡ line letter xs
 unfolding texts flatMap

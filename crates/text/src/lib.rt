@@ -3,7 +3,6 @@ ghost use mathlib.Core.Path.{_≡_};
 ghost use mathlib.Core.List.{[], _∷_};
 ghost use Prim.Native.Nat.{_+_, _≤_};
 ghost use lib.ListN.{length};
-ghost use lib.IntN.{pos};
 ghost use Rattle.text.specs.Text.{digits, line};
 ghost use Rattle.wire.specs.Number.{written};
 ghost use Rattle.text.specs.Fields.{field, sign};
@@ -42,17 +41,7 @@ fn put_sign(out: &mut [u8], at: usize, x: i64) -> usize
     at
 }
 
-// Writes a space and an unsigned number.
-fn put_natural(out: &mut [u8], at: usize, n: u64) -> usize
-    requires { ⌜ at + length (field (pos n)) ≤ length (now out) ⌝ }
-    ensures { λ r. ⌜ r ≡ at + length (field (pos n)) ⌝ }
-    ensures { λ _. ⌜ now (out .exit) ≡ written (now (out .entry)) at (field (pos n)) ⌝ }
-{
-    let start = put_byte(out, at, 0x20);
-    put_digits(out, start, n)
-}
-
-// Writes a space and a signed number.
+// Writes a space and a number.
 fn put_integer(out: &mut [u8], at: usize, x: i64) -> usize
     requires { ⌜ at + length (field x) ≤ length (now out) ⌝ }
     ensures { λ r. ⌜ r ≡ at + length (field x) ⌝ }
@@ -63,27 +52,18 @@ fn put_integer(out: &mut [u8], at: usize, x: i64) -> usize
     put_digits(out, first, wire::magnitude(x))
 }
 
-// Writes a line with two unsigned numbers.
-pub fn put_pair(out: &mut [u8], at: usize, letter: u8, a: u64, b: u64) -> usize
-    requires { ⌜ at + length (line letter (pos a ∷ pos b ∷ [])) ≤ length (now out) ⌝ }
-    ensures { λ r. ⌜ r ≡ at + length (line letter (pos a ∷ pos b ∷ [])) ⌝ }
-    ensures { λ _. ⌜ now (out .exit) ≡ written (now (out .entry)) at (line letter (pos a ∷ pos b ∷ [])) ⌝ }
+// Writes a line: a letter, the numbers and byte 0A.
+pub fn put_line(out: &mut [u8], start: usize, letter: u8, numbers: &[i64]) -> usize
+    requires { ⌜ start + length (line letter (now numbers)) ≤ length (now out) ⌝ }
+    ensures { λ r. ⌜ r ≡ start + length (line letter (now (numbers .entry))) ⌝ }
+    ensures { λ _. ⌜ now (out .exit) ≡ written (now (out .entry)) start (line letter (now (numbers .entry))) ⌝ }
 {
-    let first = put_byte(out, at, letter);
-    let second = put_natural(out, first, a);
-    let end = put_natural(out, second, b);
-    put_byte(out, end, 0x0A)
-}
-
-// Writes a line with three signed numbers.
-pub fn put_triple(out: &mut [u8], at: usize, letter: u8, a: i64, b: i64, c: i64) -> usize
-    requires { ⌜ at + length (line letter (a ∷ b ∷ c ∷ [])) ≤ length (now out) ⌝ }
-    ensures { λ r. ⌜ r ≡ at + length (line letter (a ∷ b ∷ c ∷ [])) ⌝ }
-    ensures { λ _. ⌜ now (out .exit) ≡ written (now (out .entry)) at (line letter (a ∷ b ∷ c ∷ [])) ⌝ }
-{
-    let first = put_byte(out, at, letter);
-    let second = put_integer(out, first, a);
-    let third = put_integer(out, second, b);
-    let end = put_integer(out, third, c);
-    put_byte(out, end, 0x0A)
+    let first = put_byte(out, start, letter);
+    let mut at = first;
+    let mut i = 0;
+    while i < numbers.len() {
+        at = put_integer(out, at, numbers[i]);
+        i += 1;
+    }
+    put_byte(out, at, 0x0A)
 }

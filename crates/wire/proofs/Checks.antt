@@ -8,7 +8,7 @@ use mathlib.Core.List.{List, [], _∷_, _++_}
 use lib.Dec.{T, leb, leb→le}
 use mir.Facts.{and-yes}
 use Rattle.integers.specs.Lists.{All}
-use borrow.Author.Tests.{ltb-false}
+use borrow.Author.Tests.{ltb-false, not-false}
 use Rattle.wire.specs.Checks.{Check, refusal, commandChecks, Fails, NoLower}
 
 -- no check fails
@@ -121,3 +121,7 @@ module _ (here : Bool) (left size : ℕ) (own : List Check) (n : ℕ) (e : n ≡
   pub command-room : n ≡ 0 → size ≤ left
   unfolding commandChecks
   command-room h = ltb-false left size (refusal-none (commandChecks here left size []) (omega arith) (sym e ∙ h) .1 .0)
+
+  pub command-here : n ≡ 0 → here ≡ true
+  unfolding commandChecks
+  command-here h = not-false here (refusal-none (commandChecks here left size []) (omega arith) (sym e ∙ h) .0)

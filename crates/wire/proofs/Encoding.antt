@@ -1,5 +1,5 @@
 -- What is accepted, once for all parts: the runs of bytes that are the bytes of commands which are allowed one after the other.
-use Prim.Native.Nat.{ℕ, suc, _+_, _-_, _≤_, _<_}
+use Prim.Native.Nat.{ℕ, zero, suc, _+_, _-_, _^_, _≤_, _<_}
 use native.Mathlib.Nat.{add-assoc, add-zero, zero-add}
 use native.Mathlib.Numerals.{add-one}
 use native.Mathlib.Omega.{arith}
@@ -8,12 +8,13 @@ use mathlib.Core.Logic.{_↔_}
 use mathlib.Core.Bool.{Bool, true, false, cond}
 use mathlib.Core.List.{List, [], _∷_, _++_, append-assoc, append-nil, flatMap}
 use lib.ListN.{length, getD, take, drop, length-drop, length-append, take-append-drop}
-use lib.Seq.{getD-drop, drop-drop, drop-cons, drop-at, take-add, drop-append-seam, drop-length}
+use lib.Seq.{getD-drop, drop-drop, drop-cons, drop-at, take-add, drop-length}
 use lib.Dec.{ltb}
 use borrow.Author.Tests.{ltb-false, le-ltb}
+use Rattle.integers.specs.Lists.{joinBelow}
 use Rattle.wire.specs.Number.{Bytes, bytesOf}
 use Rattle.wire.specs.Part.{Part, Reading, refused, accepted, operandsAt, total, size, afterAt, readFrom, readPart, byItself}
-use Rattle.wire.specs.Encoding.{Command, fields, Fit, encodeCommand, encode, Allowed, afterCommand, Accepts}
+use Rattle.wire.specs.Encoding.{Command, fields, Fit, encodeCommand, encode, Allowed, Accepts}
 use Rattle.wire.specs.Refused.{Reaches}
 use Rattle.wire.proofs.Number.{bytes-at, natAt-below, natAt-front, bytesOf-natAt, length-bytesOf}
 use Rattle.integers.proofs.Lists.{flag}
@@ -21,10 +22,24 @@ use Rattle.wire.proofs.Part.{operands, Passes, Ways, by-ways, passed-ch
 
 -- Operands.
 
-fit-operandsAt : (ws s : List ℕ) (at : ℕ) → Bytes s → Fit ws (operandsAt ws s at)
+pub fit-operandsAt : (ws s : List ℕ) (at : ℕ) → Bytes s → Fit ws (operandsAt ws s at)
 unfolding operandsAt
 fit-operandsAt [] s at b = tt
 fit-operandsAt (w ∷ ws) s at b = (natAt-below w s at b, fit-operandsAt ws s (at + w) b)
+
+-- operands that fit, by their number
+
+pub fit-none : (xs : List ℕ) → Fit [] xs → xs ≡ []
+fit-none [] f = refl
+fit-none (x ∷ xs) f = absurd f
+
+pub fit-one : (w : ℕ) (xs : List ℕ) → Fit (w ∷ []) xs → (xs ≡ getD xs 0 0 ∷ []) × (getD xs 0 0 < 256 ^ w)
+fit-one w [] f = absurd f
+fit-one w (x ∷ xs) f = (rw (fit-none xs (f .1)), f .0)
+
+pub fit-two : (v w : ℕ) (xs : List ℕ) → Fit (v ∷ w ∷ []) xs → (xs ≡ getD xs 0 0 ∷ getD xs 1 0 ∷ []) × (getD xs 0 0 < 256 ^ v) × (getD xs 1 0 < 256 ^ w)
+fit-two v w [] f = absurd f
+fit-two v w (x ∷ xs) f = let (e, l) = fit-one w xs (f .1) in (ap (λ l. x ∷ l) e, f .0, l)
 
 -- the bytes of the operands that are read are those that were read
 fields-operandsAt : (ws s : List ℕ) (at : ℕ) → Bytes s → at + total ws ≤ length s → fields ws (operandsAt ws s at) ≡ take (total ws) (drop at s)
@@ -40,7 +55,7 @@ length-fields (w ∷ ws) [] f = absurd f
 length-fields (w ∷ ws) (x ∷ xs) f = rw (length-append, length-bytesOf, length-fields ws xs (f .1))
 
 -- what stands after the first of two lists
-after-first : (s : List ℕ) (at n : ℕ) (xs ys : List ℕ) → length xs ≡ n → drop at s ≡ xs ++ ys → drop (at + n) s ≡ ys
+pub after-first : (s : List ℕ) (at n : ℕ) (xs ys : List ℕ) → length xs ≡ n → drop at s ≡ xs ++ ys → drop (at + n) s ≡ ys
 after-first s at n xs ys l e = sym (drop-drop n at s) ∙ ap (drop n) e ∙ drop-at xs ys n l
 
 -- operands whose bytes stand at a position
@@ -106,9 +121,21 @@ module _ {S : Type 0} (P : Part S) where
             (commandAt s at ∷ [], ((allowed s read at b p, rw l (refl, d)), rw append-nil (rw x at (commandAt-bytes s at b (p .room)))));
       }
 
+  -- The bytes of commands one after the other.
+
+  pub encode-append : (cs ds : List Command) → encode P (cs ++ ds) ≡ encode P cs ++ encode P ds
+  unfolding encode flatMap
+  encode-append [] ds = refl
+  encode-append (c ∷ cs) ds = rw (encode-append cs ds, append-assoc)
+
+  pub encode-below : (c : ℕ → Command) (b : ℕ → List ℕ) (n : ℕ) → ((i : ℕ) → encodeCommand P (c i) ≡ b i) → encode P (joinBelow n (λ i. c i ∷ [])) ≡ joinBelow n b
+  unfolding encode flatMap joinBelow
+  encode-below c b zero h = refl
+  encode-below c b (suc n) h = rw (encode-append (joinBelow n (λ i. c i ∷ [])) (c n ∷ []), encode-below c b n h, h n, append-nil)
+
   -- The bytes of commands that are allowed are accepted.
 
-  length-command : (c : Command) → Fit (P .widths (c .byte)) (c .operands) → length (encodeCommand P c) ≡ size P (c .byte)
+  pub length-command : (c : Command) → Fit (P .widths (c .byte)) (c .operands) → length (encodeCommand P c) ≡ size P (c .byte)
   unfolding encodeCommand
   length-command c f = ap suc (length-fields (P .widths (c .byte)) (c .operands) f)
 
@@ -155,25 +182,6 @@ module _ {S : Type 0} (P : Part S) where
           flag (P .last (getD s at 0))
           (λ l. let (none, done) = rw l at (a .1) in readFrom-ends P s read at (p .inside) z l ∙ rw (done, none, append-nil, n))
           (λ l. readFrom-goes P s read at (p .inside) z l ∙ later _ _ (rw l at (a .1)) (after-first s at _ (encodeCommand P (commandAt s at)) _ n e) ∙ rw (length-append, n, add-assoc))
-
-  pub complete : (cs : List Command) (pre post : List ℕ) (read end : S) → Accepts P read cs end → readFrom P (pre ++ (encode P cs ++ post)) read (length pre) ≡ accepted end (length pre + length (encode P cs))
-  complete cs pre post read end a = complete-at cs (pre ++ (encode P cs ++ post)) read (length pre) end post a (drop-append-seam pre (encode P cs ++ post))
-
-  -- Commands are determined by their bytes.
-
-  pub encode-determined : (cs ds : List Command) (s : List ℕ) (read : S) (at : ℕ) (x y : List ℕ) (end end′ : S) → Accepts P read cs end → Accepts P read ds end′ → drop at s ≡ encode P cs ++ x → drop at s ≡ encode P ds ++ y → cs ≡ ds
-  unfolding encode flatMap
-  encode-determined [] ds s read at x y end end′ a b e f = absurd a
-  encode-determined (c ∷ cs) [] s read at x y end end′ a b e f = absurd b
-  encode-determined (c ∷ cs) (d ∷ ds) s read at x y end end′ a b e f =
-      let e′ : drop at s ≡ encodeCommand P c ++ (encode P cs ++ x) = e ∙ append-assoc (encodeCommand P c) (encode P cs) x in
-      let f′ : drop at s ≡ encodeCommand P d ++ (encode P ds ++ y) = f ∙ append-assoc (encodeCommand P d) (encode P ds) y in
-      let q : d ≡ c = sym (commandAt-reads s at d _ (b .0 .operands) f′) ∙ commandAt-reads s at c _ (a .0 .operands) e′ in
-      let b′ : Accepts P read (c ∷ ds) end′ = rw q at b in
-      let g : drop at s ≡ encodeCommand P c ++ (encode P ds ++ y) = rw q at f′ in
-      flag (P .last (c .byte))
-      (λ l. let (none, _) = rw l at (a .1) in let (none′, _) = rw l at (b′ .1) in rw (q, none, none′))
-      (λ l. rw (q, encode-determined cs ds s (afterCommand P read c) (at + length (encodeCommand P c)) x y end end′ (rw l at (a .1)) (rw l at (b′ .1)) (after-first s at _ (encodeCommand P c) _ refl e′) (after-first s at _ (encodeCommand P c) _ refl g)))
 
 -- A whole run of bytes.
 

@@ -1,11 +1,11 @@
 -- A part by itself and the same part at the front of a longer run of bytes, once for all parts.
-use Prim.Native.Nat.{ℕ, _+_}
-use mathlib.Core.Path.{_≡_, refl, sym, _∙_, ap}
-use mathlib.Core.List.{List, [], _∷_, _++_, append-nil}
+use Prim.Native.Nat.{ℕ}
+use mathlib.Core.Path.{_≡_, sym, _∙_, ap}
+use mathlib.Core.List.{List, [], _++_, append-nil}
 use native.Mathlib.Nat.{zero-add}
 use native.Mathlib.Omega.{arith}
 use lib.ListN.{length, take, drop, length-append, length-drop}
-use lib.Seq.{take-at, drop-at, drop-drop, drop-length}
+use lib.Seq.{take-at, drop-length}
 use Rattle.wire.specs.Number.{Bytes}
 use Rattle.wire.specs.Part.{Part, accepted, readPart}
 use Rattle.wire.specs.Encoding.{encode}
@@ -31,15 +31,3 @@ module _ {S : Type 0} (P : Part S) where
       let t : s ≡ encode P cs = x ∙ rw (drop-length, append-nil) in
       let r = complete-at P cs (s ++ rest) (P .start) 0 read rest a (ap (λ l. l ++ rest) t) in
       r ∙ ap (accepted read) (zero-add (length (encode P cs)) ∙ sym (ap length t))
-
--- what stands behind the front of the rest of a run of bytes
-pub behind : (s : List ℕ) (from : ℕ) (front rest : List ℕ) → drop from s ≡ front ++ rest → drop (from + length front) s ≡ rest
-behind s from front rest e = sym (drop-drop (length front) from s) ∙ ap (drop (length front)) e ∙ drop-at front rest (length front) refl
-
-pub empty : (s : List ℕ) → length s ≡ 0 → s ≡ []
-empty [] e = refl
-empty (x ∷ s) e = absurd (omega arith)
-
-pub bytes-left : (s t : List ℕ) → Bytes (s ++ t) → Bytes s
-bytes-left [] t b = tt
-bytes-left (x ∷ s) t b = (b .0, bytes-left s t (b .1))

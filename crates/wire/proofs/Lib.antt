@@ -8,5 +8,13 @@ pub mod Part
 pub mod Encoding
 pub mod Lowest
 pub mod Fronts
-pub mod Leads
 pub mod Prefix
+pub mod Grammar
+pub mod Accepting
+pub mod Acceptance
+pub mod Ends
+pub mod Ranged
+pub mod Rest
+pub mod Loop
+pub mod Walk
+pub mod Outcome

@@ -3,21 +3,13 @@ use Prim.Native.Nat.{ℕ, zero, suc, _+_, _*_, _^_, _≤_, _<_, _/_, _%_}
 use native.Mathlib.Nat.{pow-succ', zero-add, add-zero, one-mul, mod-one, mod-eq-of-lt, mod-lt, suc-add, add-suc, pow-suc, div-one, div-eq-of-lt, one-le-pow, div-div-eq-div-mul, add-mul-div-left, add-mul-mod-self-left, pow-le-pow-right, zero-lt-suc, min-le-left}
 use native.Mathlib.Omega.{arith}
 use mathlib.Core.Path.{_≡_, refl, sym, ap, _∙_}
-use mathlib.Core.List.{List, [], _∷_, _++_, append-assoc}
+use mathlib.Core.List.{List, [], _∷_, _++_}
 use lib.ListN.{length, take, drop, getD, length-drop, length-take}
-use lib.Seq.{take-add, drop-drop, drop-cons, length-take-le, take-at, drop-at, sets, sets-eq}
+use lib.Seq.{take-add, drop-drop, drop-cons, length-take-le, take-at, sets}
 use lib.Arith.{mod-mul, digits-div, digits-mod}
-use lib.IntN.{ℤ}
-use mir.Syntax.{Width, w8, w16, w32, w64, w128}
-use mir.Val.{Fits, SFits, ofZ, bits}
-use mir.Facts.{toZ-ofZ, ofZ-toZ, fits-ofZ}
-use Rattle.integers.proofs.Lists.{All-append}
-use Rattle.wire.specs.Number.{Bytes, little, natAt, intAt, bytesOf, putAt}
+use Rattle.wire.specs.Number.{Bytes, little, natAt, bytesOf, putAt}
 
 -- Lists of bytes.
-
-pub bytes-append : (s t : List ℕ) → Bytes s → Bytes t → Bytes (s ++ t)
-bytes-append = All-append (λ b. b < 256)
 
 pub bytes-take : (n : ℕ) (s : List ℕ) → Bytes s → Bytes (take n s)
 bytes-take zero s b = tt
@@ -55,11 +47,6 @@ pub length-bytesOf : (k n : ℕ) → length (bytesOf k n) ≡ k
 unfolding bytesOf
 length-bytesOf zero n = refl
 length-bytesOf (suc k) n = ap suc (length-bytesOf k (n / 256))
-
-pub bytes-bytesOf : (k n : ℕ) → Bytes (bytesOf k n)
-unfolding bytesOf
-bytes-bytesOf zero n = tt
-bytes-bytesOf (suc k) n = (mod-lt n (zero-lt-suc 255), bytes-bytesOf k (n / 256))
 
 -- n to its low byte and the j bytes above it
 byte-digits : (j n : ℕ) → n % 256 ^ suc j ≡ n / 256 % 256 ^ j * 256 + n % 256
@@ -123,11 +110,6 @@ natAt-digits k s at n rest e = rw (e, take-at (bytesOf k n) rest k (length-bytes
 pub natAt-front : (k : ℕ) (s : List ℕ) (at n : ℕ) (rest : List ℕ) → drop at s ≡ bytesOf k n ++ rest → n < 256 ^ k → natAt k s at ≡ n
 natAt-front k s at n rest e l = natAt-digits k s at n rest e ∙ mod-eq-of-lt l
 
--- positions in a run of bytes that is the end of another
-pub natAt-drop : (k m : ℕ) (s : List ℕ) (at : ℕ) → natAt k (drop m s) at ≡ natAt k s (m + at)
-unfolding natAt
-natAt-drop k m s at = rw drop-drop
-
 -- Numbers written.
 
 pub sets-append : (l : List ℕ) (i : ℕ) (xs ys : List ℕ) → sets l i (xs ++ ys) ≡ sets (sets l i xs) (i + length xs) ys
@@ -138,37 +120,3 @@ sets-append l i (x ∷ xs) ys = rw (sets-append _ (suc i) xs ys, add-suc, suc-ad
 pub putAt-split : (j k : ℕ) (s : List ℕ) (at n : ℕ) → putAt k (putAt j s at (n % 256 ^ j)) (at + j) (n / 256 ^ j) ≡ putAt (j + k) s at n
 unfolding putAt
 putAt-split j k s at n = rw (bytesOf-add, sets-append, bytesOf-mod, length-bytesOf)
-
--- what stands before the bytes that are written, these, and what stands after them
-pub putAt-parts : (k : ℕ) (s : List ℕ) (at n : ℕ) → at + k ≤ length s → putAt k s at n ≡ take at s ++ (bytesOf k n ++ drop (at + k) s)
-unfolding putAt
-putAt-parts k s at n h =
-    let fits : at + length (bytesOf k n) ≤ length s = omega (arith, length-bytesOf k n) in
-    rw (sets-eq (bytesOf k n) s at, append-assoc, length-bytesOf)
-
--- what is written reads back
-pub natAt-putAt : (k : ℕ) (s : List ℕ) (at n : ℕ) → at + k ≤ length s → natAt k (putAt k s at n) at ≡ n % 256 ^ k
-natAt-putAt k s at n h =
-    natAt-digits k (putAt k s at n) at n (drop (at + k) s) (ap (drop at) (putAt-parts k s at n h) ∙ drop-at (take at s) _ at (length-take-le at s (omega arith)))
-
--- Signed numbers, at every width.
-
-bytes-bits : (w : Width) → 256 ^ (bits w / 8) ≡ 2 ^ bits w
-bytes-bits w8 = refl
-bytes-bits w16 = refl
-bytes-bits w32 = refl
-bytes-bits w64 = refl
-bytes-bits w128 = refl
-
-natAt-fits : (w : Width) (s : List ℕ) (at : ℕ) → Bytes s → Fits w (natAt (bits w / 8) s at)
-natAt-fits w s at b = record { fits = rw bytes-bits at (natAt-below (bits w / 8) s at b) }
-
--- the unsigned number of the signed one
-pub ofZ-intAt : (w : Width) (s : List ℕ) (at : ℕ) → Bytes s → ofZ w (intAt w s at) ≡ natAt (bits w / 8) s at
-unfolding intAt
-ofZ-intAt w s at b = ofZ-toZ (natAt-fits w s at b)
-
--- a signed number that is written reads back
-pub intAt-putAt : (w : Width) (s : List ℕ) (at : ℕ) (z : ℤ) → SFits w z → at + bits w / 8 ≤ length s → intAt w (putAt (bits w / 8) s at (ofZ w z)) at ≡ z
-unfolding intAt
-intAt-putAt w s at z f h = rw (natAt-putAt (bits w / 8) s at (ofZ w z) h, bytes-bits w, mod-eq-of-lt (fits-ofZ f .fits)) (toZ-ofZ f)

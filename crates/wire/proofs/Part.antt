@@ -1,28 +1,19 @@
 -- The laws of reading a part, once for all parts.
 use Prim.Native.Nat.{ℕ, zero, suc, _+_, _-_, _≤_, _<_}
-use native.Mathlib.Nat.{add-assoc}
 use native.Mathlib.Omega.{arith}
-use mathlib.Core.Path.{_≡_, refl, sym, _∙_, ap}
+use mathlib.Core.Path.{_≡_, refl, _∙_, ap}
 use mathlib.Core.Bool.{Bool, true, false, not, cond}
-use mathlib.Core.List.{List, [], _∷_}
-use lib.ListN.{length, getD, drop, length-drop}
-use lib.Seq.{getD-drop}
+use mathlib.Core.List.{List}
+use lib.ListN.{length, getD}
 use lib.Dec.{eqb, ltb}
 use borrow.Author.Tests.{ltb-true, ltb-false, eqb-true, eqb-false, not-false, lt-ltb, le-ltb, ne-eqb}
 use Rattle.integers.proofs.Lists.{flag}
-use Rattle.wire.specs.Checks.{Check, check, refusal, commandChecks}
+use Rattle.wire.specs.Checks.{Check, refusal, commandChecks}
 use Rattle.wire.specs.Part.{Part, Reading, refused, accepted, goes, stops, operandsAt, size, checksAt, afterAt, command, step, follow, run, readFrom, readPart, byItself}
-use Rattle.wire.proofs.Number.{natAt-drop}
-use Rattle.wire.proofs.Checks.{refusal-none, refusal-hit, refusal-miss}
 
 -- The checks of a command.
 
 module _ {S : Type 0} (P : Part S) where
-  -- the checks that every command has, which stand before its own
-  abbrev pub common : List ℕ → S → ℕ → List Check
-  common s read at =
-      check 1 (not (P .here read (getD s at 0))) ∷ check 2 (ltb (length s - at) (size P (getD s at 0))) ∷ []
-
   abbrev pub operands : List ℕ → ℕ → List ℕ
   operands s at = operandsAt (P .widths (getD s at 0)) s (at + 1)
 
@@ -41,16 +32,6 @@ module _ {S : Type 0} (P : Part S) (s : List ℕ) (read : S) (at : ℕ) where
   -- by the command's byte
   pub own-at : (b : ℕ) → getD s at 0 ≡ b → own P s read at ≡ P .checks read b (operandsAt (P .widths b) s (at + 1))
   own-at b e = ap (λ b. P .checks read b (operandsAt (P .widths b) s (at + 1))) e
-
-  -- where a check that every command has fails, and where none does
-  pub checksAt-common : (refusal (common P s read at) ≡ 0 → ⊥) → refusal (checksAt P s read at) ≡ refusal (common P s read at)
-  unfolding checksAt commandChecks
-  checksAt-common h = refusal-hit (common P s read at) (own P s read at) h
-
-  pub checksAt-own : refusal (common P s read at) ≡ 0 → refusal (checksAt P s read at) ≡ refusal (own P s read at)
-  unfolding checksAt commandChecks
-  checksAt-own e =
-      refusal-miss (common P s read at) (own P s read at) (refusal-none (common P s read at) (omega arith) e)
 
   pub checksAt-passed : at < length s → refusal (checksAt P s read at) ≡ 0 → Passes P s read at
   unfolding checksAt commandChecks refusal
@@ -223,43 +204,3 @@ byItself-numbered {S} s (accepted read end) d = by (ltb end (length s))
     by : (t : Bool) → NumberedReading {S = S} (cond t (refused 12 end) (accepted read end))
     by true = λ e. omega arith
     by false = tt
-
--- Positions in a run of bytes that is the end of another.
-
-unfoldable pub shifted : {S : Type 0} → ℕ → Reading S → Reading S
-shifted k (refused n at) = refused n (k + at)
-shifted k (accepted read end) = accepted read (k + end)
-
-operandsAt-drop : (ws : List ℕ) (k : ℕ) (s : List ℕ) (at : ℕ) → operandsAt ws (drop k s) at ≡ operandsAt ws s (k + at)
-unfolding operandsAt
-operandsAt-drop [] k s at = refl
-operandsAt-drop (w ∷ ws) k s at = rw (natAt-drop, operandsAt-drop ws k s (at + w), add-assoc)
-
-module _ {S : Type 0} (P : Part S) (k : ℕ) (s : List ℕ) where
-  checksAt-drop : (read : S) (at : ℕ) → checksAt P (drop k s) read at ≡ checksAt P s read (k + at)
-  unfolding checksAt commandChecks
-  checksAt-drop read at =
-      let e : length s - k - at ≡ length s - (k + at) = omega arith in
-      rw (getD-drop, operandsAt-drop, add-assoc, length-drop, e)
-
-  afterAt-drop : (read : S) (at : ℕ) → afterAt P (drop k s) read at ≡ afterAt P s read (k + at)
-  unfolding afterAt
-  afterAt-drop read at =
-      let e : P .after read (getD (drop k s) at 0) (operands P (drop k s) at) ≡ P .after read (getD s (k + at) 0) (operands P s (k + at)) = rw (getD-drop, operandsAt-drop, add-assoc) in
-      e
-
-  -- reading the end of a run of bytes is reading the whole run from where the end starts
-  pub readFrom-drop : (read : S) (at : ℕ) → shifted k (readFrom P (drop k s) read at) ≡ readFrom P s read (k + at)
-  unfolding shifted
-  readFrom-drop read at = by-ways P (drop k s) (λ read at r. shifted k r ≡ readFrom P s read (k + at)) ways read at
-    where
-      passed : (read : S) (at : ℕ) → Passes P (drop k s) read at → refusal (checksAt P s read (k + at)) ≡ 0
-      passed read at p = rw (checksAt-drop read at) at (passed-checksAt P (drop k s) read at p)
-
-      ways : Ways P (drop k s) (λ read at r. shifted k r ≡ readFrom P s read (k + at))
-      ways = record {
-        missing = λ read at l. sym (readFrom-missing P s read (k + at) (omega (arith, length-drop k s)));
-        refuses = λ read at n l e h. sym (readFrom-refused P s read (k + at) n (omega (arith, length-drop k s)) (rw (checksAt-drop read at) at e) h);
-        goes = λ read at r p l rest. (rw (afterAt-drop read at, getD-drop, ← add-assoc) at rest) ∙ sym (readFrom-goes P s read (k + at) (omega (arith, p .inside, length-drop k s)) (passed read at p) (rw getD-drop at l));
-        ends = λ read at p l. rw (afterAt-drop read at, getD-drop, ← add-assoc) (sym (readFrom-ends P s read (k + at) (omega (arith, p .inside, length-drop k s)) (passed read at p) (rw getD-drop at l)));
-      }

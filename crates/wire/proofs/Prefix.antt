@@ -16,7 +16,7 @@ use Rattle.wire.specs.Number.{natAt}
 use Rattle.wire.specs.Checks.{refusal, commandChecks}
 use Rattle.wire.specs.Part.{Part, Reading, accepted, operandsAt, total, size, checksAt, afterAt, readFrom, readPart}
 use Rattle.wire.specs.Rows.{Progress, Row, noRow, isAmong, rowOf, partOf}
-use Rattle.wire.proofs.Part.{operands, Passes, Ways, by-ways, passed-checksAt, readFrom-refused, readFrom-goes, readFrom-ends}
+use Rattle.wire.proofs.Part.{operands, Passes, Ways, by-ways, passed-checksAt, readFrom-refused, readFrom-goes, readFrom-ends, readFrom-end}
 
 -- The first K bytes of a run of bytes.
 
@@ -63,6 +63,42 @@ module _ {S : Type 0} (P : Part S) where
         let e : P .after read (getD (take K s) at 0) (operands P (take K s) at) ≡ P .after read (getD s at 0) (operands P s at) = rw (byte-take, operandsAt-take (P .widths (getD s at 0)) K s (at + 1) (omega arith)) in
         e
 
+    -- where it is not refused, reading goes on or ends as in the whole run
+
+    module _ (p : Passes P s read at) where
+      inside-take : at < length (take K s)
+      inside-take = omega (arith, length-take-le K s long)
+
+      passed-take : refusal (checksAt P (take K s) read at) ≡ 0
+      passed-take = ap refusal checksAt-take ∙ passed-checksAt P s read at p
+
+      goes-take : P .last (getD s at 0) ≡ false → readFrom P (take K s) read at ≡ readFrom P (take K s) (afterAt P s read at) (at + size P (getD s at 0))
+      goes-take l = readFrom-goes P (take K s) read at inside-take passed-take (rw byte-take l) ∙ rw (afterAt-take, byte-take)
+
+      ends-take : P .last (getD s at 0) ≡ true → readFrom P (take K s) read at ≡ accepted (afterAt P s read at) (at + size P (getD s at 0))
+      ends-take l = readFrom-ends P (take K s) read at inside-take passed-take (rw byte-take l) ∙ rw (afterAt-take, byte-take)
+
+  -- what is accepted is accepted from the bytes before its end
+  pub read-front : (s : List ℕ) (read : S) (end : ℕ) → readPart P s ≡ accepted read end → readPart P (take end s) ≡ accepted read end
+  unfolding readPart
+  read-front s read end q = by-ways P s Q ways (P .start) 0 q .1 ∙ q
+    where
+      long : end ≤ length s
+      long = readFrom-end P s (P .start) 0 q .1
+
+      Q : S → ℕ → Reading S → Type 0
+      Q next at x = x ≡ accepted read end → (at ≤ end) × (readFrom P (take end s) next at ≡ x)
+
+      ways : Ways P s Q
+      ways = record {
+        missing = λ next at l q. let z : _≡_ {A = ℕ} 0 1 = cc in absurd (omega arith);
+        refuses = λ next at n l e d q. let z : _≡_ {A = ℕ} 0 1 = cc in absurd (omega arith);
+        goes = λ next at x p l rest q. let (k, e) = rest q in (omega (arith, k), goes-take end s long next at k p l ∙ e);
+        ends = λ next at p l q.
+            let k : at + size P (getD s at 0) ≡ end = cc in
+            (omega (arith, k), ends-take end s long next at (omega (arith, k)) p l);
+      }
+
   module _ {Reach : S → ℕ → Type 0} {B M E : ℕ} (limits : Limited Reach B M E) where
     -- a command that is not refused
     moved : (s : List ℕ) (read : S) (at : ℕ) (l : Bool) → Passes P s read at → P .last (getD s at 0) ≡ l → Reach read at
@@ -103,25 +139,17 @@ module _ {S : Type 0} (P : Part S) where
         ways : K < length s → Ways P s Q
         ways long =
             let full : length (take K s) ≡ K = length-take-le K s (omega arith) in
-            let some : (read : S) (at : ℕ) → Reach read at → at < length (take K s) = λ read at r. omega (arith, inside read at r) in
-            let same : (read : S) (at : ℕ) → Reach read at → refusal (checksAt P (take K s) read at) ≡ refusal (checksAt P s read at) = λ read at r. ap refusal (checksAt-take K s (omega arith) read at (inside read at r)) in
             record {
               missing = λ read at l r. absurd (omega (arith, inside read at r));
-              refuses = λ read at n l e d r. readFrom-refused P (take K s) read at n (some read at r) (same read at r ∙ e) d;
-              goes = λ read at x p l rest r.
-                  let b = byte-take K s (omega arith) read at (inside read at r) in
-                  readFrom-goes P (take K s) read at (some read at r) (same read at r ∙ passed-checksAt P s read at p) (rw b l)
-                  ∙ rw (afterAt-take K s (omega arith) read at (inside read at r), b) (rest (moved s read at false p l r));
-              ends = λ read at p l r.
-                  let b = byte-take K s (omega arith) read at (inside read at r) in
-                  readFrom-ends P (take K s) read at (some read at r) (same read at r ∙ passed-checksAt P s read at p) (rw b l)
-                  ∙ rw (afterAt-take K s (omega arith) read at (inside read at r), b);
+              refuses = λ read at n l e d r. readFrom-refused P (take K s) read at n (omega (arith, inside read at r)) (ap refusal (checksAt-take K s (omega arith) read at (inside read at r)) ∙ e) d;
+              goes = λ read at x p l rest r. goes-take K s (omega arith) read at (inside read at r) p l ∙ rest (moved s read at false p l r);
+              ends = λ read at p l r. ends-take K s (omega arith) read at (inside read at r) p l;
             }
 
 -- A part given by rows.
 
 -- what holds of each row with its byte, and of a byte that has no row, holds of any byte with its row
-rowOf-by : {R : Type 0} (Q : ℕ → Row R → Type 0) (rows : List (Row R)) (b : ℕ) → Q b noRow → All (λ row. Q (row .byte) row) rows → Q b (rowOf rows b)
+pub rowOf-by : {R : Type 0} (Q : ℕ → Row R → Type 0) (rows : List (Row R)) (b : ℕ) → Q b noRow → All (λ row. Q (row .byte) row) rows → Q b (rowOf rows b)
 unfolding rowOf
 rowOf-by Q [] b none h = none
 rowOf-by Q (row ∷ rows) b none h =

@@ -1,11 +1,11 @@
 -- The commands of a part as a table, a row for each command byte.
-use Prim.Native.Nat.{ℕ}
+use Prim.Native.Nat.{ℕ, suc}
 use mathlib.Core.Bool.{Bool, false, cond, _||_}
 use mathlib.Core.List.{List, [], _∷_}
 use lib.Dec.{eqb}
 use lib.ListN.{getD}
 use Rattle.wire.specs.Checks.{Check}
-use Rattle.wire.specs.Part.{Part}
+use Rattle.wire.specs.Part.{Part, total}
 
 -- what has been read so far: the byte of the last command, 0 before the first, and what the commands gave, an R
 pub record Progress (R : Type 0) : Type 0 where
@@ -25,6 +25,10 @@ pub record Row (R : Type 0) : Type 0 where
   pub after : R → List ℕ → R
   -- it ends the part
   pub last : Bool
+
+-- the bytes of a command
+abbrev pub sizeOf : {R : Type 0} → Row R → ℕ
+sizeOf row = suc (total (row .widths))
 
 abbrev pub isAmong : ℕ → List ℕ → Bool
 isAmong b [] = false

@@ -32,11 +32,14 @@ use Rattle.scheme.specs.Format as SchFormat
 use Rattle.plan.specs.Plan.{cost}
 use Rattle.plan.specs.Format.{planChecks, planInJob}
 use Rattle.certificate.specs.Rules.{byKey, arity, ruleOf}
-use Rattle.certificate.specs.Residual.{nullPart, subtractedPart, nullForms, subtractedForms, reformulated, shifted, R, rowHolds, carries, bound}
-use Rattle.certificate.specs.Format.{scaleChecks, outOfRange, multiplierChecks, squareChecks, commandsInJob, dominanceChecked, certificateInJob}
+use Rattle.residual.specs.Residual.{nullPart, subtractedPart, nullForms, subtractedForms, reformulated, shifted, R}
+use Rattle.bound.specs.Bound.{rowHolds, carries, bound}
+use Rattle.certificate.specs.Format.{scaleChecks, multiplierChecks, squareChecks, commandsInJob}
+use Rattle.bound.specs.Format.{dominanceChecked, certificateInJob}
 use Rattle.register.proofs.Example.{registerBytes, exampleRegister}
 use Rattle.scheme.proofs.Example.{schemeBytes, exampleScheme}
-use Rattle.job.specs.Outcome.{Parts, refuses, accepts, follow, outcome}
+use Rattle.wire.specs.Outcome.{refuses, accepts}
+use Rattle.job.specs.Outcome.{Parts, outcome}
 use Rattle.job.specs.declared.Tally.{Tally}
 use Rattle.job.specs.declared.JobAnswer.{JobAnswer}
 use Rattle.job.specs.Tally.{raised, withAccepted}
@@ -76,7 +79,7 @@ abbrev pub examples : List (List ℕ)
 examples = (front ++ back 0) ∷ (front ++ back 1) ∷ (front ++ (back 0 ++ (0 ∷ []))) ∷ []
 
 outcomes : map outcome examples ≡ accepts exampleParts ∷ refuses 9 3 107 ∷ refuses 12 4 113 ∷ []
-unfolding outcome follow flatMap joinBelow allBelow comesBefore abs sumBelow sumOver except offDiagonal isMember isSubset isProperSubset times entry natAt little refusal commandChecks operandsAt total checksAt afterAt P.command step P.follow run readFrom readPart rowOf Reg.fresh baseChecks choiceChecks termChecks RegFormat.endChecks registerInJob Sch.fresh upTo upward E term g isNew productChecks splitChecks SchFormat.endChecks schemeInJob planChecks planInJob byKey arity ruleOf nullPart subtractedPart nullForms subtractedForms reformulated shifted R rowHolds carries scaleChecks outOfRange multiplierChecks squareChecks commandsInJob dominanceChecked certificateInJob
+unfolding outcome flatMap joinBelow allBelow comesBefore abs sumBelow sumOver except offDiagonal isMember isSubset isProperSubset times entry natAt little refusal commandChecks operandsAt total checksAt afterAt P.command step P.follow run readFrom readPart rowOf Reg.fresh baseChecks choiceChecks termChecks RegFormat.endChecks registerInJob Sch.fresh upTo upward E term g isNew productChecks splitChecks SchFormat.endChecks schemeInJob planChecks planInJob byKey arity ruleOf nullPart subtractedPart nullForms subtractedForms reformulated shifted R rowHolds carries scaleChecks multiplierChecks squareChecks commandsInJob dominanceChecked certificateInJob
 outcomes = refl
 
 map-map : {A B C : Type 0} (f : B → C) (g : A → B) (xs : List A) → map (λ x. f (g x)) xs ≡ map f (map g xs)

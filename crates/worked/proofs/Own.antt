@@ -17,6 +17,7 @@ use Rattle.wire.specs.Number.{natAt, little}
 use Rattle.wire.specs.Checks.{refusal, commandChecks}
 use Rattle.wire.specs.Part.{operandsAt, total, checksAt, afterAt, command, step, run, follow, readFrom, readPart, byItself}
 use Rattle.wire.specs.Rows.{rowOf}
+use Rattle.wire.specs.Outcome.{answerBy}
 use Rattle.register.specs.Register as Reg
 use Rattle.register.specs.Format.{baseChecks, choiceChecks, termChecks, registerInJob, registerByItself}
 use Rattle.register.specs.Format as RegFormat
@@ -27,19 +28,21 @@ use Rattle.scheme.specs.Function.{term, g}
 use Rattle.scheme.specs.Format.{isNew, productChecks, splitChecks, schemeInJob, schemeByItself}
 use Rattle.scheme.specs.Format as SchFormat
 use Rattle.builder.proofs.Worked.{w3Bytes}
-use Rattle.certificate.specs.declared.CheckAnswer.{CheckAnswer}
+use Rattle.bound.specs.declared.CheckAnswer.{CheckAnswer}
 use Rattle.certificate.specs.Rules.{byKey, arity, ruleOf}
-use Rattle.certificate.specs.Residual.{nullPart, subtractedPart, nullForms, subtractedForms, reformulated, shifted, R, rowHolds, carries, bound}
-use Rattle.certificate.specs.Format.{scaleChecks, outOfRange, multiplierChecks, squareChecks, commandsInJob, dominanceChecked, certificateInJob, certificateByItself}
-use Rattle.certificate.specs.Check.{refusedAnswer, afterRegister, checkAnswer}
+use Rattle.residual.specs.Residual.{nullPart, subtractedPart, nullForms, subtractedForms, reformulated, shifted, R}
+use Rattle.bound.specs.Bound.{rowHolds, carries, bound}
+use Rattle.certificate.specs.Format.{scaleChecks, multiplierChecks, squareChecks, commandsInJob}
+use Rattle.bound.specs.Format.{dominanceChecked, certificateInJob, certificateByItself}
+use Rattle.bound.specs.Check.{refusedAnswer, acceptedAnswer, openCertificate, checkAnswer}
 use Rattle.plain.proofs.Worked.{w7Bytes}
 
 -- accepted with bound −6; refused 9 at `3F`
 abbrev pub answers : List CheckAnswer
 answers = record { number = 0; part = 0; position = 0; bound = negsuc 5 } ∷ refusedAnswer 9 3 73 ∷ []
 
-read : map (λ m. afterRegister (registerByItself registerBytes) w3Bytes (w7Bytes m)) (3 ∷ 2 ∷ []) ≡ answers
-unfolding flatMap joinBelow allBelow comesBefore abs sumBelow sumOver except offDiagonal ceilDiv isMember isSubset isProperSubset times entry natAt little refusal commandChecks operandsAt total checksAt afterAt command step follow run readFrom readPart byItself rowOf Reg.fresh baseChecks choiceChecks termChecks RegFormat.endChecks registerInJob registerByItself Sch.fresh upTo upward E term g isNew productChecks splitChecks SchFormat.endChecks schemeInJob schemeByItself byKey arity ruleOf nullPart subtractedPart nullForms subtractedForms reformulated shifted R rowHolds carries bound scaleChecks outOfRange multiplierChecks squareChecks commandsInJob dominanceChecked certificateInJob certificateByItself
+read : map (λ m. answerBy refusedAnswer acceptedAnswer (openCertificate registerBytes w3Bytes (w7Bytes m))) (3 ∷ 2 ∷ []) ≡ answers
+unfolding flatMap joinBelow allBelow comesBefore abs sumBelow sumOver except offDiagonal ceilDiv isMember isSubset isProperSubset times entry natAt little refusal commandChecks operandsAt total checksAt afterAt command step follow run readFrom readPart byItself rowOf Reg.fresh baseChecks choiceChecks termChecks RegFormat.endChecks registerInJob registerByItself Sch.fresh upTo upward E term g isNew productChecks splitChecks SchFormat.endChecks schemeInJob schemeByItself byKey arity ruleOf nullPart subtractedPart nullForms subtractedForms reformulated shifted R rowHolds carries bound scaleChecks multiplierChecks squareChecks commandsInJob dominanceChecked certificateInJob certificateByItself
 read = refl
 
 -- with every table long enough

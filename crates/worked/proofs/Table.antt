@@ -30,10 +30,10 @@ use Rattle.penalty.specs.Penalty.{bracket}
 use Rattle.penalty.specs.Weights.{weight}
 use Rattle.penalty.proofs.Worked as Penalty
 use Rattle.certificate.specs.Certificate.{Certificate}
-use Rattle.certificate.specs.Residual.{bound}
-use Rattle.certificate.specs.Check.{checkAnswer}
+use Rattle.bound.specs.Bound.{bound}
+use Rattle.bound.specs.Check.{checkAnswer}
 use Rattle.certificate.proofs.Commands.{command}
-use Rattle.certificate.proofs.Worked as Certificate
+use Rattle.bound.proofs.Worked as Certificate
 use Rattle.plain.specs.Plain.{plain}
 use Rattle.plain.specs.Answer.{ownBytes}
 use Rattle.plain.proofs.Worked as Plain

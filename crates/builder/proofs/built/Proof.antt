@@ -14,7 +14,7 @@ abbrev μ-loop : tie.MeasureT-loop
 μ-loop register n terms work₀ t₀ work t = terms - t
 
 fresh-requires : tie.Need-fresh-requires Inv-loop μ-loop
-fresh-requires c κs = c .pre .within .choices-within
+fresh-requires c κs = c .pre .within .choices .few
 
 loop-holds : tie.Need-loop-holds Inv-loop μ-loop
 loop-holds c = (refl, building-starts _ _ (c .fresh .ensures))
@@ -30,8 +30,8 @@ with-term-requires c κs =
     let i = c .before .before in
     let w = i .before .before .pre .within in
     let g = i .loop .inv .1 in
-    let term = w .terms (i .loop .t) (c .before .loop-test .taken) in
-    (g .ready, (omega (arith, g .splits-are, w .terms-within), (term .mask-not-0, term .mask-names)))
+    let term = w .terms .each (i .loop .t) (c .before .loop-test .taken) in
+    (g .ready, (omega (arith, g .splits-are, w .terms .few), (term .mask-not-0, term .mask-names)))
 
 returns : tie.Need-returns Inv-loop μ-loop
 returns c = let i = c .before .before .before .before in building-stops (i .before .loop .inv .1) (i .loop-test .taken) _ (c .before .before .with-term .ensures) (c .before .if1 .taken)

@@ -2,8 +2,9 @@
 use mathlib.Core.Path.{sym, _∙_}
 use mathlib.Core.List.{[]}
 use native.Mathlib.Omega.{arith}
+use Rattle.scheme.proofs.Entries.{lengths-within}
 use Rattle.builder.proofs.Answers.{build-refused, build-taken, build-full, build-whole}
-use Rattle.builder.proofs.Validity.{build-valid, build-stopped}
+use Rattle.builder.proofs.Validity.{build-valid}
 use borrow.Author.Needs.{needs}
 use Rattle.builder.proofs.feedcheck_build.Statement.{statement}
 use Rattle.builder.proofs.feedcheck_build.Tie as tie
@@ -24,15 +25,10 @@ returns c =
 built-requires : tie.Need-built-requires
 built-requires c κs =
     let f = c .before .before in
-    build-taken _ _ (f .feedcheck-register .ensures) [] (c .before .if1 .left) .valid
+    build-taken _ _ (f .feedcheck-register .ensures) [] (c .before .if1 .left) .opens .valid
 
 term-position-requires : tie.Need-term-position-requires
-term-position-requires c κs =
-    let k = c .before .before .before in
-    let f = k .before in
-    let v = build-taken _ _ (f .feedcheck-register .ensures) [] (k .if1 .left) .valid in
-    let t = build-stopped _ _ (sym (rw (c .if2 .taken) at (c .before .built .ensures))) in
-    (v .within .choices-within, omega (arith, t, v .within .terms-within))
+term-position-requires c κs = search needs
 
 refused-requires-2 : tie.Need-refused-requires-2
 refused-requires-2 c κs = search needs
@@ -52,9 +48,9 @@ written-requires c κs =
     let e = c .before .before in
     let k = e .before .before .before in
     let f = k .before in
-    let v = build-taken _ _ (f .feedcheck-register .ensures) [] (k .if1 .left) .valid in
+    let v = build-taken _ _ (f .feedcheck-register .ensures) [] (k .if1 .left) .opens .valid in
     let w = build-valid _ v _ (sym (rw (e .if2 .left) at (e .before .built .ensures))) in
-    (w .within .lengths, (w .within .products-within, omega (arith, w .all-split, v .within .terms-within)))
+    (lengths-within (w .within), (w .within .products-within, omega (arith, w .all-split, v .within .terms .few)))
 
 same-length : tie.Need-same-length
 same-length c = search needs

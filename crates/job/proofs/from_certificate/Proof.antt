@@ -10,8 +10,9 @@ use borrow.Author.Needs.{needs}
 use Rattle.integers.proofs.Machine.{read-signed}
 use Rattle.register.specs.Register.{coefficient}
 use Rattle.certificate.specs.Limits.{maxTarget}
-use Rattle.certificate.specs.Format.{commandsInJob, certificateInJob}
-use Rattle.certificate.specs.Check.{checkRead, withResidual}
+use Rattle.certificate.specs.Format.{commandsInJob}
+use Rattle.bound.specs.Format.{certificateInJob}
+use Rattle.bound.specs.Check.{checkRead, withResidual}
 use Rattle.job.specs.Outcome.{tableFromCertificate}
 use Rattle.job.proofs.Answers.{of-rest, certificate-position, certificate-refused, certificateOf, bound-is, bound-within, then-plan}
 use Rattle.job.proofs.from_certificate.Statement.{statement}

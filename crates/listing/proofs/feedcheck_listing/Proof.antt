@@ -1,4 +1,5 @@
 -- `listing::feedcheck_listing` meets its contract. By the table's length, and by what reading the job gave.
+use Prim.Native.Nat.{_^_, _<_}
 use mathlib.Core.Path.{sym, _∙_, ap, subst}
 use borrow.Author.Needs.{needs}
 use Rattle.register.specs.Valid.{Within}
@@ -6,7 +7,8 @@ use Rattle.job.specs.declared.JobRead.{JobRead}
 use Rattle.job.specs.Outcome.{outcome}
 use Rattle.listing.specs.Answer.{linesOf}
 use Rattle.job.proofs.Sound.{outcome-sound}
-use Rattle.listing.proofs.Outcome.{read-within, read-lines, listing-short}
+use Rattle.job.proofs.Ranges.{outcome-ranged}
+use Rattle.listing.proofs.Outcome.{read-within, read-position, read-lines, listing-short}
 use Rattle.listing.proofs.Answers.{short-table, long-table}
 use Rattle.listing.proofs.feedcheck_listing.Statement.{statement}
 use Rattle.listing.proofs.feedcheck_listing.Tie as tie
@@ -27,8 +29,9 @@ read-job-requires c κs = search needs
 write-lines-requires : tie.Need-write-lines-requires
 write-lines-requires c κs =
     let k = c .before .before in
-    let s = k .before .before .before .before .before in
-    subst (λ (r : JobRead). Within (r .register)) (sym (k .read-job .ensures .0)) (read-within (outcome (s .args .job .now)) (outcome-sound (s .args .job .now)))
+    let job = k .before .before .before .before .before .args .job .now in
+    subst (λ (r : JobRead). Within (r .register) × (r .position < 2 ^ 63)) (sym (k .read-job .ensures .0))
+    (read-within (outcome job) (outcome-sound job), read-position (outcome job) (outcome-ranged job))
 
 same-length : tie.Need-same-length
 same-length c = search needs

@@ -1,24 +1,28 @@
 -- `listing::put_lines` meets its contract. By the number that reading the job gave.
+use Prim.Native.Nat.{_^_, _<_}
 use native.Mathlib.Nat.{zero-add}
 use native.Mathlib.Omega.{arith}
 use mathlib.Core.Path.{_≡_, sym, ap, _∙_}
+use mathlib.Core.List.{[], _∷_}
 use lib.ListN.{length}
 use mir.Facts.{toZ-ofZ}
 use mir.Syntax.{w64}
 use mir.Val.{SFits, toZ, ofZ}
 use borrow.Author.Needs.{needs}
 use borrow.Author.Tests.{eq-eqb, ne-eqb}
+use Rattle.integers.proofs.Machine.{read-unsigned}
 use Rattle.job.specs.declared.JobRead.{JobRead}
 use Rattle.wire.specs.Number.{written}
-use Rattle.text.proofs.Written.{same}
-use Rattle.listing.specs.Listing.{acceptedLines, refusalLine}
+use Rattle.text.specs.Text.{line}
+use Rattle.wire.proofs.Written.{same}
+use Rattle.listing.specs.Listing.{acceptedLines}
 use Rattle.listing.specs.Answer.{linesOf}
 use Rattle.listing.proofs.put_lines.Statement.{statement}
 use Rattle.listing.proofs.put_lines.Tie as tie
 
-refusal : (read : JobRead) → (read .number ≡ 0 → ⊥) → refusalLine (read .number) (read .position) ≡ linesOf read
+refusal : (read : JobRead) → (read .number ≡ 0 → ⊥) → read .number < 2 ^ 8 → read .position < 2 ^ 63 → line 0x52 (toZ w64 (read .number) ∷ toZ w64 (read .position) ∷ []) ≡ linesOf read
 unfolding linesOf
-refusal read h = sym (rw (ne-eqb (read .number) 0 h))
+refusal read h n p = rw (read-unsigned w64 (read .number) (omega arith), read-unsigned w64 (read .position) (omega arith)) (sym (rw (ne-eqb (read .number) 0 h)))
 
 -- of numbers that were passed as bits
 lines : (read : JobRead) → read .number ≡ 0 → SFits w64 (read .bound) → SFits w64 (read .cost) → SFits w64 (read .gap) →
@@ -32,13 +36,20 @@ all c =
     let fit = c .struct-told3 .given .1 .1 .1 .1 .1 in
     lines _ (c .before .before .before .before .if1 .left) (record { sfits = fit .0 .1 }) (record { sfits = fit .1 .0 .1 }) (record { sfits = fit .1 .1 .0 .1 })
 
-cast-put-pair : tie.Need-cast-put-pair
-cast-put-pair c = search needs
+refusal-line : (c : tie.Then1) → let read = c .before .before .args .read in line 0x52 (toZ w64 (read .number) ∷ toZ w64 (read .position) ∷ []) ≡ linesOf read
+refusal-line c = let s = c .before .before in refusal (s .args .read) (c .if1 .taken) (s .good .0 .1 .1 .0 .1) (s .pre .1 .0)
 
-put-pair-requires : tie.Need-put-pair-requires
-put-pair-requires c κs =
-    let s = c .before .before .before in
-    omega (arith, ap length (refusal (s .args .read) (c .before .if1 .taken)))
+cast-t6 : tie.Need-cast-t6
+cast-t6 c = search needs
+
+cast-t7 : tie.Need-cast-t7
+cast-t7 c = search needs
+
+slice-aggregate-put-line : tie.Need-slice-aggregate-put-line
+slice-aggregate-put-line c = search needs
+
+put-line-requires : tie.Need-put-line-requires
+put-line-requires c κs = omega (arith, ap length (refusal-line (c .before .before .before)))
 
 same-length : tie.Need-same-length
 same-length c = search needs
@@ -46,9 +57,8 @@ same-length c = search needs
 returns : tie.Need-returns
 returns c =
     let p = c .before .before in
-    let t = p .before .before in
-    let a = t .before .before .args in
-    let w = same (a .out .now) 0 (refusal (a .read) (t .if1 .taken)) (p .put-pair .ensures) in
+    let t = p .before .before .before .before in
+    let w = same _ _ (refusal-line t) (p .put-line .ensures) in
     (w .0 ∙ zero-add _, w .1)
 
 put-accepted-requires : tie.Need-put-accepted-requires
@@ -67,8 +77,10 @@ pub put-lines-spec : {M : Type 1} → statement M
 put-lines-spec =
     tie.close
     (tie.spec
-    cast-put-pair
-    put-pair-requires
+    cast-t6
+    cast-t7
+    slice-aggregate-put-line
+    put-line-requires
     same-length
     returns
     put-accepted-requires

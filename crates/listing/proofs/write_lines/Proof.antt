@@ -5,7 +5,7 @@ use lib.ListN.{length, replicate}
 use Prim.Native.Nat.{_≤_}
 use borrow.Author.Needs.{needs}
 use Rattle.listing.specs.Answer.{listingRoom, linesOf}
-use Rattle.listing.proofs.Lengths.{lines-short}
+use Rattle.listing.proofs.Lengths.{lines-short, longest-fits}
 use Rattle.listing.proofs.Answers.{no-room, copied}
 use Rattle.listing.proofs.write_lines.Statement.{statement}
 use Rattle.listing.proofs.write_lines.Tie as tie
@@ -15,13 +15,17 @@ room : (c : tie.Start) → length (linesOf (c .args .read)) ≤ listingRoom
 room c =
     let fit = c .good .0 .1 .1 in
     let signed = fit .1 .1 .1 .1 .1 in
-    lines-short (c .args .read) (c .pre) (fit .0 .1) (fit .1 .1 .0 .1) (record { sfits = signed .0 .1 }) (record { sfits = signed .1 .0 .1 }) (record { sfits = signed .1 .1 .0 .1 })
+    omega (
+      arith,
+      longest-fits,
+      lines-short (c .args .read) (c .pre .0) (fit .0 .1) (c .pre .1) (record { sfits = signed .0 .1 }) (record { sfits = signed .1 .0 .1 }) (record { sfits = signed .1 .1 .0 .1 }),
+    )
 
 slice-aggregate-put-lines : tie.Need-slice-aggregate-put-lines
 slice-aggregate-put-lines c = search needs
 
 put-lines-requires : tie.Need-put-lines-requires
-put-lines-requires c κs = let s = c .before .before in (s .pre .choices-within, room s)
+put-lines-requires c κs = let s = c .before .before in (s .pre .0 .choices .few, (s .pre .1, room s))
 
 refused-requires : tie.Need-refused-requires
 refused-requires c κs = search needs

@@ -13,7 +13,7 @@ use Rattle.scheme.specs.Scheme.{left, right, variables}
 use Rattle.penalty.specs.Weights.{reaches as defined}
 use Rattle.penalty.specs.Operands.{Lent}
 use Rattle.penalty.proofs.Weights.{reaches-choice, reaches-product, reaches-below as no-later, falling-below}
-use borrow.Fn.Kinds.{In}
+use borrow.Fn.Kinds.{In, Out}
 use borrow.Fn.PlainCycle.{Measures, is, falls, and}
 use Rattle.penalty.proofs.reaches.Reads as reaches
 use Rattle.penalty.proofs.reaches.Kinds as reaches-kinds
@@ -41,106 +41,80 @@ reaches-at t = and 1 reaches-kinds.ps (is 1 reaches-kinds.ps μ-reaches t) reach
 abbrev reaches-below : ℕ → In 1 reaches-kinds.ps
 reaches-below t = and 1 reaches-kinds.ps (falls 1 reaches-kinds.ps _<_ μ-reaches t) reaches.Pre
 
-reaches-returns :
-    (t : ℕ) → reaches-lts.Need-returns (reaches-below t, reaches.Post) (reaches-at t) reaches.Post
-reaches-returns t c s lent m = let a = c .before .args in sym (reaches-choice (a .n) s (a .k) (a .v) (c .if1 .taken))
+module _ (t : ℕ) where
+  -- the contract of its calls: its own, at a smaller number
+  abbrev calls : In 1 reaches-kinds.ps × Out 1 reaches-kinds.ps reaches-kinds.r
+  calls = (reaches-below t, reaches.Post)
 
-reaches-returns-2 :
-    (t : ℕ) →
-    reaches-lts.Need-returns-2 (reaches-below t, reaches.Post) (reaches-at t) reaches.Post
-reaches-returns-2 t c s lent m =
-    let a = c .before .before .args in sym (no-later (a .n) s (lent .products) (a .k) (a .v) m (c .if2 .taken))
+  returns : reaches-lts.Need-returns calls (reaches-at t) reaches.Post
+  returns c s lent m = let a = c .before .args in sym (reaches-choice (a .n) s (a .k) (a .v) (c .if1 .taken))
 
-reaches-returns-3 :
-    (t : ℕ) →
-    reaches-lts.Need-returns-3 (reaches-below t, reaches.Post) (reaches-at t) reaches.Post
-reaches-returns-3 t c s lent m =
-    let a = c .before .before .before .args in
-    found (a .n) (a .k) (a .v) s lent (omega arith) m (c .if3 .taken)
+  returns-2 : reaches-lts.Need-returns-2 calls (reaches-at t) reaches.Post
+  returns-2 c s lent m =
+      let a = c .before .before .args in sym (no-later (a .n) s (lent .products) (a .k) (a .v) m (c .if2 .taken))
 
-reaches-element-copy-out-l : (t : ℕ) → reaches-lts.Need-element-copy-out-l (
-  reaches-below t,
-  reaches.Post,
-) (reaches-at t) reaches.Post
-reaches-element-copy-out-l t c = search needs
+  returns-3 : reaches-lts.Need-returns-3 calls (reaches-at t) reaches.Post
+  returns-3 c s lent m =
+      let a = c .before .before .before .args in
+      found (a .n) (a .k) (a .v) s lent (omega arith) m (c .if3 .taken)
 
-reaches-element-copy-out-r : (t : ℕ) → reaches-lts.Need-element-copy-out-r (
-  reaches-below t,
-  reaches.Post,
-) (reaches-at t) reaches.Post
-reaches-element-copy-out-r t c = search needs
+  element-copy-out-l : reaches-lts.Need-element-copy-out-l calls (reaches-at t) reaches.Post
+  element-copy-out-l c = search needs
 
-reaches-cast-reaches :
-    (t : ℕ) →
-    reaches-lts.Need-cast-reaches (reaches-below t, reaches.Post) (reaches-at t) reaches.Post
-reaches-cast-reaches t c =
-    let p = c .before .before .before .before .before in
-    let f = p .pre .1 .falls (p .args .v) (omega arith) (omega arith) in
-    record { fits = omega (arith, f .0) }
+  element-copy-out-r : reaches-lts.Need-element-copy-out-r calls (reaches-at t) reaches.Post
+  element-copy-out-r c = search needs
 
-reaches-reaches-requires : (t : ℕ) → reaches-lts.Need-reaches-requires (
-  reaches-below t,
-  reaches.Post,
-) (reaches-at t) reaches.Post
-reaches-reaches-requires t c κs =
-    let p = c .before .before .before .before .before in
-    let f = p .pre .1 .falls (p .args .v) (omega arith) (omega arith) in
-    (omega (arith, f .0), falling-below (p .pre .1) (omega (arith, f .0)))
+  cast-reaches : reaches-lts.Need-cast-reaches calls (reaches-at t) reaches.Post
+  cast-reaches c =
+      let p = c .before .before .before .before .before in
+      let f = p .pre .1 .falls (p .args .v) (omega arith) (omega arith) in
+      record { fits = omega (arith, f .0) }
 
-reaches-returns-4 :
-    (t : ℕ) →
-    reaches-lts.Need-returns-4 (reaches-below t, reaches.Post) (reaches-at t) reaches.Post
-reaches-returns-4 t c s lent m =
-    let p = c .before .before .before .before .before .before .before in
-    let a = p .args in
-    let f = p .pre .1 .falls (a .v) (omega arith) (omega arith) in
-    followed (a .n) (a .k) (a .v) s lent (omega arith) m (c .before .before .before .before .if3 .left) true _
-    (sym (c .if4 .taken) ∙ c .before .reaches .ensures s lent (omega (arith, f .0))) refl
+  reaches-requires : reaches-lts.Need-reaches-requires calls (reaches-at t) reaches.Post
+  reaches-requires c κs =
+      let p = c .before .before .before .before .before in
+      let f = p .pre .1 .falls (p .args .v) (omega arith) (omega arith) in
+      (omega (arith, f .0), falling-below (p .pre .1) (omega (arith, f .0)))
 
-reaches-cast-reaches-2 :
-    (t : ℕ) →
-    reaches-lts.Need-cast-reaches-2 (reaches-below t, reaches.Post) (reaches-at t) reaches.Post
-reaches-cast-reaches-2 t c =
-    let p = c .before .before .before .before .before .before .before in
-    let f = p .pre .1 .falls (p .args .v) (omega arith) (omega arith) in
-    record { fits = omega (arith, f .1) }
+  returns-4 : reaches-lts.Need-returns-4 calls (reaches-at t) reaches.Post
+  returns-4 c s lent m =
+      let p = c .before .before .before .before .before .before .before in
+      let a = p .args in
+      let f = p .pre .1 .falls (a .v) (omega arith) (omega arith) in
+      followed (a .n) (a .k) (a .v) s lent (omega arith) m (c .before .before .before .before .if3 .left) true _
+      (sym (c .if4 .taken) ∙ c .before .reaches .ensures s lent (omega (arith, f .0))) refl
 
-reaches-reaches-requires-2 : (t : ℕ) → reaches-lts.Need-reaches-requires-2 (
-  reaches-below t,
-  reaches.Post,
-) (reaches-at t) reaches.Post
-reaches-reaches-requires-2 t c κs =
-    let p = c .before .before .before .before .before .before .before in
-    let f = p .pre .1 .falls (p .args .v) (omega arith) (omega arith) in
-    (omega (arith, f .1), falling-below (p .pre .1) (omega (arith, f .1)))
+  cast-reaches-2 : reaches-lts.Need-cast-reaches-2 calls (reaches-at t) reaches.Post
+  cast-reaches-2 c =
+      let p = c .before .before .before .before .before .before .before in
+      let f = p .pre .1 .falls (p .args .v) (omega arith) (omega arith) in
+      record { fits = omega (arith, f .1) }
 
-reaches-returns-5 :
-    (t : ℕ) →
-    reaches-lts.Need-returns-5 (reaches-below t, reaches.Post) (reaches-at t) reaches.Post
-reaches-returns-5 t c s lent m =
-    let p = c .before .before .before .before .before .before .before .before in
-    let a = p .args in
-    let f = p .pre .1 .falls (a .v) (omega arith) (omega arith) in
-    followed (a .n) (a .k) (a .v) s lent (omega arith) m (c .before .before .before .before .before .if3 .left) false _
-    (sym (c .before .if4 .left) ∙ c .before .before .reaches .ensures s lent (omega (arith, f .0)))
-    (c .reaches2 .ensures s lent (omega (arith, f .1)))
+  reaches-requires-2 : reaches-lts.Need-reaches-requires-2 calls (reaches-at t) reaches.Post
+  reaches-requires-2 c κs =
+      let p = c .before .before .before .before .before .before .before in
+      let f = p .pre .1 .falls (p .args .v) (omega arith) (omega arith) in
+      (omega (arith, f .1), falling-below (p .pre .1) (omega (arith, f .1)))
+
+  returns-5 : reaches-lts.Need-returns-5 calls (reaches-at t) reaches.Post
+  returns-5 c s lent m =
+      let p = c .before .before .before .before .before .before .before .before in
+      let a = p .args in
+      let f = p .pre .1 .falls (a .v) (omega arith) (omega arith) in
+      followed (a .n) (a .k) (a .v) s lent (omega arith) m (c .before .before .before .before .before .if3 .left) false _
+      (sym (c .before .if4 .left) ∙ c .before .before .reaches .ensures s lent (omega (arith, f .0)))
+      (c .reaches2 .ensures s lent (omega (arith, f .1)))
 
 pub +reaches-spec : {M : Type 1} → statement M
-+reaches-spec =
-    close
-    μ-reaches
-    λ t. reaches-lts.spec
-    (reaches-below t, reaches.Post)
-    (reaches-at t)
-    reaches.Post
-    (reaches-returns t)
-    (reaches-returns-2 t)
-    (reaches-returns-3 t)
-    (reaches-element-copy-out-l t)
-    (reaches-element-copy-out-r t)
-    (reaches-cast-reaches t)
-    (reaches-reaches-requires t)
-    (reaches-returns-4 t)
-    (reaches-cast-reaches-2 t)
-    (reaches-reaches-requires-2 t)
-    (reaches-returns-5 t)
++reaches-spec = close μ-reaches λ t. reaches-lts.spec (calls t) (reaches-at t) reaches.Post
+    (returns t)
+    (returns-2 t)
+    (returns-3 t)
+    (element-copy-out-l t)
+    (element-copy-out-r t)
+    (cast-reaches t)
+    (reaches-requires t)
+    (returns-4 t)
+    (cast-reaches-2 t)
+    (reaches-requires-2 t)
+    (returns-5 t)

@@ -60,7 +60,7 @@ module _ (b : tie.Start Inv-loop μ-loop) where
   -- times the coefficient of term t
   scaled : (t : ℕ) → t < b .args .t1 .terms → Product scale (coefficient (b .args .t1) t)
   scaled t l =
-      let m = b .pre .0 .within .terms t l .coefficient-within in
+      let m = b .pre .0 .within .terms .each t l .coefficient-within in
       product scale (coefficient (b .args .t1) t) scale-small (omega arith)
 
 cast-add-term-3 : tie.Need-cast-add-term-3 Inv-loop μ-loop

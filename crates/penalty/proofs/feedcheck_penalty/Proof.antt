@@ -2,7 +2,7 @@
 use mathlib.Core.Path.{_∙_}
 use native.Mathlib.Omega.{arith}
 use borrow.Author.Needs.{needs}
-use Rattle.scheme.proofs.Opened.{opened-refused, opened}
+use Rattle.scheme.proofs.Opened.{opened-refused, opened-accepted}
 use Rattle.penalty.proofs.Answers.{short, part-refused, parts-accepted}
 use Rattle.penalty.proofs.feedcheck_penalty.Statement.{statement}
 use Rattle.penalty.proofs.feedcheck_penalty.Tie as tie
@@ -13,35 +13,30 @@ returns c =
     let x = short (a .register .now) (a .scheme .now) (a .table .now) (omega (arith, c .if1 .taken)) in
     (x .answers, x .holds)
 
-feedcheck-register-requires : tie.Need-feedcheck-register-requires
-feedcheck-register-requires c κs = search needs
-
-feedcheck-scheme-requires : tie.Need-feedcheck-scheme-requires
-feedcheck-scheme-requires c κs = search needs
+open-parts-requires : tie.Need-open-parts-requires
+open-parts-requires c κs = search needs
 
 returns-2 : tie.Need-returns-2
 returns-2 c =
-    let f = c .before .feedcheck-scheme in
-    let x = part-refused _ _ _ (c .before .before .before .if1 .left) (f .result) (opened-refused _ _ (f .result) (f .ensures) (c .if2 .taken)) in
+    let p = c .before .open-parts in
+    let x = part-refused _ _ _ (c .before .before .if1 .left) _ _ _ (opened-refused _ _ (p .result) (p .ensures) (c .if2 .taken)) in
     (x .answers, x .holds)
 
 penalty-form-requires : tie.Need-penalty-form-requires
 penalty-form-requires c κs =
-    let f = c .before .before .feedcheck-scheme in
-    let r = c .before .before .before .feedcheck-register in
-    let o = opened _ _ (f .result) (f .ensures) (r .result) (r .ensures) (c .before .if2 .left) in
-    (o .register-valid, (o .scheme-valid, c .before .before .before .before .if1 .left))
+    let p = c .before .before .open-parts in
+    let o = opened-accepted _ _ (p .result) (p .ensures) (c .before .if2 .left) in
+    (o .register-valid, (o .scheme-valid, c .before .before .before .if1 .left))
 
 same-length : tie.Need-same-length
 same-length c = search needs
 
 returns-3 : tie.Need-returns-3
 returns-3 c =
-    let f = c .before .before .before .before .feedcheck-scheme in
-    let r = c .before .before .before .before .before .feedcheck-register in
-    let a = c .before .before .before .before .before .before .before .before .before .args in
-    let o = opened _ _ (f .result) (f .ensures) (r .result) (r .ensures) (c .before .before .before .if2 .left) in
-    let x = parts-accepted (a .register .now) (a .scheme .now) (a .table .now) (c .before .before .before .before .before .before .if1 .left) _ _ o in
+    let p = c .before .before .before .before .open-parts in
+    let a = c .before .before .before .before .before .before .before .before .args in
+    let o = opened-accepted _ _ (p .result) (p .ensures) (c .before .before .before .if2 .left) in
+    let x = parts-accepted (a .register .now) (a .scheme .now) (a .table .now) (c .before .before .before .before .before .if1 .left) _ _ o in
     (x .answers, c .before .penalty-form .ensures ∙ x .holds)
 
 pub feedcheck-penalty-spec : {M : Type 1} → statement M
@@ -49,8 +44,7 @@ feedcheck-penalty-spec =
     tie.close
     (tie.spec
     returns
-    feedcheck-register-requires
-    feedcheck-scheme-requires
+    open-parts-requires
     returns-2
     penalty-form-requires
     same-length

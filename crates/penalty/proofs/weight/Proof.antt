@@ -60,7 +60,7 @@ contribution-requires c κs =
     let b = c .before .before .before .before .before .before .before .before in
     let t = c .before .before .before .before .before .before .before .loop .t in
     let d = split-of (b .pre .1) t (omega arith) in
-    let m = b .pre .0 .within .terms t (omega arith) .coefficient-within in
+    let m = b .pre .0 .within .terms .each t (omega arith) .coefficient-within in
     let x = coefficient (b .args .t1) t in
     (falling-of (b .pre .1) _ (d .there), (d .ordered, rw (read-signed w32 x (omega (arith, m))) m))
 
@@ -85,7 +85,7 @@ module _ (c : tie.After-contribution Inv-loop μ-loop) where
   unfolding uses
   adds l =
       let valid = at .before .pre .1 in
-      let m = at .before .pre .0 .within .terms t l .coefficient-within in
+      let m = at .before .pre .0 .within .terms .each t l .coefficient-within in
       c .contribution .ensures sch (lent-of valid) (split-of valid t l .there)
       ∙ ap (λ x. cond (uses (reg .choices) sch k t) (abs x) (pos 0)) (read-signed w32 (coefficient reg t) (omega (arith, m)))
 

@@ -10,7 +10,7 @@ use Rattle.integers.specs.Integer.{abs}
 use Rattle.integers.specs.Sum.{except}
 use Rattle.integers.specs.Quadratic.{offDiagonal}
 use Rattle.integers.proofs.Sum.{sumBelow-zero, sumBelow-suc}
-use Rattle.scheme.specs.Sets.{maxVariables}
+use Rattle.scheme.specs.Scheme.{maxVariables}
 use Rattle.scheme.specs.Function.{maxG}
 use Rattle.plain.specs.InTable.{Small, productsIn, halfIn}
 use Rattle.plain.proofs.InTable.{rowTo, row-small}

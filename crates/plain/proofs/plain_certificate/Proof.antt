@@ -25,7 +25,7 @@ use Rattle.wire.proofs.Writer.{bytes-short, bytes-fit}
 use Rattle.plain.specs.InTable.{Small, commandsIn, encodeIn}
 use Rattle.plain.specs.Answer.{ownBytes, ownRoom}
 use Rattle.plain.proofs.InTable.{table-small, commands-are, encode-is}
-use Rattle.plain.proofs.Encoded.{length-plain, plain-bytes}
+use Rattle.plain.proofs.Encoded.{length-plain, plain-bytes, room-small}
 use Rattle.plain.proofs.plain_certificate.Statement.{statement}
 use Rattle.plain.proofs.plain_certificate.Tie as tie
 
@@ -82,10 +82,10 @@ module _ (c : tie.After-command-count) where
   total-few = rw total (plain-bytes (start .args .register) (start .args .scheme) (start .pre .0) (start .pre .1))
 
 mul-count : tie.Need-mul-count
-mul-count c = omega (arith, total-few c)
+mul-count c = omega (arith, total-few c, room-small)
 
 add-count : tie.Need-add-count
-add-count c = omega (arith, total-few c)
+add-count c = omega (arith, total-few c, room-small)
 
 refused-requires : tie.Need-refused-requires
 refused-requires c κs = search needs
@@ -115,7 +115,7 @@ put-certificate-requires c κs =
       small (b .args .register) (b .args .scheme) (b .pre .0) (b .pre .1) _ f,
       (
         rw (base-same (b .args .register) (b .args .scheme) (b .pre .0) (b .pre .1) _ f) (b .pre .0 .within .base),
-        omega (arith, d .command-count .ensures, e .if1 .left),
+        omega (arith, ap length (encoded (b .args .register) (b .args .scheme) (b .pre .0) (b .pre .1) _ f _ (base-same (b .args .register) (b .args .scheme) (b .pre .0) (b .pre .1) _ f)), total d, e .if1 .left),
       ),
     )
 

@@ -8,8 +8,8 @@ use borrow.Author.Needs.{needs}
 use Rattle.wire.specs.Number.{bytesOf, putAt, written}
 use Rattle.plain.specs.Plain.{unlessZero}
 use Rattle.plain.specs.Encoding.{encodeMultipliers}
-use Rattle.wire.proofs.Written.{putAt-three, one-byte, written-none}
-use Rattle.plain.proofs.Encoded.{encode-command, unlessZero-none, unlessZero-one}
+use Rattle.wire.proofs.Written.{putAt-three, one-byte, same, nothing}
+use Rattle.plain.proofs.Encoded.{encode-command, unlessZero-none, unlessZero-one, unlessZero-ten}
 use Rattle.plain.proofs.put_unless_zero.Statement.{statement}
 use Rattle.plain.proofs.put_unless_zero.Tie as tie
 
@@ -17,27 +17,26 @@ returns : tie.Need-returns
 unfolding flatMap
 returns c =
     let a = c .before .before .args in
-    let e = unlessZero-none (a .kind) (a .name) (a .m) (c .if1 .taken) in
-    (rw e (omega arith), rw e (sym (written-none (a .out .now) (a .at))))
+    same (a .out .now) (a .at) (ap encodeMultipliers (sym (unlessZero-none (a .kind) (a .name) (a .m) (c .if1 .taken)))) (nothing (a .out .now) (a .at))
 
--- one command where the multiplier is not 0
-one : (c : tie.Else1) → let a = c .before .before .args in length (unlessZero (a .kind) (a .name) (a .m)) ≡ 1
-one c = let a = c .before .before .args in ap length (unlessZero-one (a .kind) (a .name) (a .m) (c .if1 .left))
+-- ten bytes where the multiplier is not 0
+ten : (c : tie.Else1) → let a = c .before .before .args in length (encodeMultipliers (unlessZero (a .kind) (a .name) (a .m))) ≡ 10
+ten c = let a = c .before .before .args in unlessZero-ten (a .kind) (a .name) (a .m) (c .if1 .left)
 
 put-u8-requires : tie.Need-put-u8-requires
-put-u8-requires c κs = omega (arith, one (c .before))
+put-u8-requires c κs = omega (arith, ten (c .before))
 
 add-put-u8 : tie.Need-add-put-u8
 add-put-u8 c = search needs
 
 put-u8-requires-2 : tie.Need-put-u8-requires-2
-put-u8-requires-2 c κs = omega (arith, one (c .before .before .before .before .before))
+put-u8-requires-2 c κs = omega (arith, ten (c .before .before .before .before .before))
 
 add-put-u64 : tie.Need-add-put-u64
 add-put-u64 c = search needs
 
 put-u64-requires : tie.Need-put-u64-requires
-put-u64-requires c κs = omega (arith, one (c .before .before .before .before .before .before .before .before .before))
+put-u64-requires c κs = omega (arith, ten (c .before .before .before .before .before .before .before .before .before))
 
 add-result : tie.Need-add-result
 add-result c = search needs
@@ -54,7 +53,7 @@ returns-2 c =
     let a = s .before .before .args in
     let e = unlessZero-one (a .kind) (a .name) (a .m) (s .if1 .left) in
     let out = a .out .now in (
-      omega (arith, one s),
+      omega (arith, ten s),
       third .put-u64 .ensures
           ∙ ap (λ l. putAt 8 l (a .at + 2) (a .m)) (second .put-u82 .ensures ∙ ap (λ l. putAt 1 l (a .at + 1) (a .name)) (first .put-u8 .ensures))
           ∙ putAt-three out (a .at) 1 1 8 (a .kind) (a .name) (a .m) (a .at + 1) (a .at + 2) refl (omega arith)

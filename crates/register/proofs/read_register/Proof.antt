@@ -3,26 +3,41 @@ use Prim.Native.Nat.{ℕ, _-_, _<_}
 use native.Mathlib.Omega.{arith}
 use native.Mathlib.Numerals.{add-one}
 use mir.Facts.{toZ-ofZ}
-use mathlib.Core.Path.{_≡_, sym, _∙_, ap}
-use mathlib.Core.List.{List}
-use lib.ListN.{length}
+use mathlib.Core.Path.{_≡_, refl, sym, _∙_, ap}
+use mathlib.Core.List.{List, [], _∷_}
+use lib.ListN.{length, getD}
 use borrow.Author.Needs.{needs}
+use Rattle.integers.proofs.Lists.{_▹_}
+use Rattle.wire.specs.Number.{intAt}
 use Rattle.wire.specs.Checks.{refusal}
-use Rattle.wire.specs.Part.{checksAt}
-use Rattle.register.specs.Format.{registerPart}
-use Rattle.register.specs.Answer.{registerRead}
-use Rattle.register.proofs.Commands.{reached, size-base, size-choice, size-term}
-use Rattle.register.proofs.Going.{Going, starts, shows, missing-here, refused-here, room, choice-here, term-here, base-on, choice-on, term-on, ends-here}
+use Rattle.wire.specs.Part.{operandsAt, total, checksAt}
+use Rattle.wire.specs.Rows.{Progress, rowOf}
+use Rattle.wire.proofs.Rest.{only-last}
+use Rattle.wire.proofs.Accepting.{reached}
+use Rattle.wire.proofs.Loop.{Here, here-at, Going, going-starts, going-missing, going-refused, going-on, going-ends}
+use Rattle.register.specs.declared.Register.{Register}
+use Rattle.register.specs.Limits.{maxChoices, maxTerms}
+use Rattle.register.specs.Register.{tank, minute, mask, fresh}
+use Rattle.register.specs.Format.{baseRow, choiceRow, termRow, endRow, registerRows, registerPart, registerInJob}
+use Rattle.register.specs.Answer.{seenOf, registerRead}
+use Rattle.register.proofs.Passes.{choice-iff, term-iff}
+use Rattle.register.proofs.Entries.{termAt}
+use Rattle.register.proofs.Laws.{Good, laws}
 use Rattle.register.proofs.read_register.Statement.{statement}
 use Rattle.register.proofs.read_register.Tie as tie
 
 abbrev Inv-loop : tie.InvT-loop
-Inv-loop bytes register₀ previous₀ at₀ register previous at = Going bytes previous register at
+Inv-loop bytes register₀ previous₀ at₀ register previous at = Going fresh registerRows Good bytes (reached previous register) at
 
 abbrev μ-loop : tie.MeasureT-loop
 μ-loop bytes register₀ previous₀ at₀ register previous at = length bytes - at
 
--- the loop's turn, once its command is dominanceChecked
+-- what the loop has seen
+seen-is : (previous : ℕ) (r : Register) {i t : ℕ} → i ≡ r .choices - 1 → t ≡ r .terms - 1 → seenOf (reached previous r)
+    ≡ record { previous = previous; choices = r .choices; terms = r .terms; tank = tank r i; minute = minute r i; mask = mask r t }
+seen-is previous r d e = rw (d, e)
+
+-- the loop's turn, once its command is judged
 module _ (c : tie.After-refusal-at Inv-loop μ-loop) where
   abbrev turn : tie.At-loop Inv-loop μ-loop
   turn = c .before .before .before .before .before .before .before
@@ -30,26 +45,42 @@ module _ (c : tie.After-refusal-at Inv-loop μ-loop) where
   abbrev bytes : List ℕ
   bytes = turn .before .before .before .args .bytes .now
 
-  inside : turn .loop .at < length bytes
+  abbrev r : Register
+  r = turn .loop .register
+
+  abbrev p : Progress Register
+  p = reached (turn .loop .previous) r
+
+  abbrev at : ℕ
+  at = turn .loop .at
+
+  inside : at < length bytes
   inside = c .before .before .before .before .before .before .loop-test .taken
 
-  number-is : c .refusal-at .result ≡ refusal (checksAt registerPart bytes (reached (turn .loop .previous) (turn .loop .register)) (turn .loop .at))
-  number-is =
-      c .refusal-at .ensures _ (shows (turn .loop .previous) (turn .loop .register) (c .before .before .before .before .before .last-of .ensures) (c .before .before .before .before .last-of2 .ensures))
+  number-is : c .refusal-at .result ≡ refusal (checksAt registerPart bytes p at)
+  number-is = c .refusal-at .ensures p (seen-is (turn .loop .previous) r (c .before .before .before .before .before .last-of .ensures) (c .before .before .before .before .last-of2 .ensures))
 
 -- and not refused
 module _ (c : tie.Else1 Inv-loop μ-loop) where
-  dominanceChecked : refusal (checksAt registerPart (bytes (c .before)) (reached (turn (c .before) .loop .previous) (turn (c .before) .loop .register)) (turn (c .before) .loop .at)) ≡ 0
-  dominanceChecked = sym (number-is (c .before)) ∙ c .if1 .left
+  judged : refusal (checksAt registerPart (bytes (c .before)) (p (c .before)) (at (c .before))) ≡ 0
+  judged = sym (number-is (c .before)) ∙ c .if1 .left
 
-  going : Going (bytes (c .before)) (turn (c .before) .loop .previous) (turn (c .before) .loop .register) (turn (c .before) .loop .at)
-  going = turn (c .before) .loop .inv
+  here : (b : ℕ) → getD (bytes (c .before)) (at (c .before)) 0 ≡ b → Here fresh registerRows (bytes (c .before)) (p (c .before)) (at (c .before)) b
+  here b e = here-at fresh registerRows (bytes (c .before)) (p (c .before)) (at (c .before)) b e (inside (c .before)) judged
+
+  few : getD (bytes (c .before)) (at (c .before)) 0 ≡ 0x11 → r (c .before) .choices < maxChoices
+  unfolding rowOf
+  few e = choice-iff _ _ _ _ _ .0 (here 0x11 e .allowed) .few
+
+  few-terms : getD (bytes (c .before)) (at (c .before)) 0 ≡ 0x12 → r (c .before) .terms < maxTerms
+  unfolding rowOf
+  few-terms e = term-iff _ _ (termAt (r (c .before)) (r (c .before) .terms - 1)) _ _ .0 (here 0x12 e .allowed) .few
 
 fresh-requires : tie.Need-fresh-requires Inv-loop μ-loop
 fresh-requires c κs = search needs
 
 loop-holds : tie.Need-loop-holds Inv-loop μ-loop
-loop-holds c = rw (c .fresh .ensures) (starts _)
+loop-holds c = rw (c .fresh .ensures) (going-starts fresh registerRows laws _)
 
 last-of-requires : tie.Need-last-of-requires Inv-loop μ-loop
 last-of-requires c κs = search needs
@@ -57,23 +88,23 @@ last-of-requires c κs = search needs
 last-of-requires-2 : tie.Need-last-of-requires-2 Inv-loop μ-loop
 last-of-requires-2 c κs = search needs
 
-mul-refusal-at : tie.Need-mul-refusal-at Inv-loop μ-loop
-mul-refusal-at c = search needs
+mul-t13 : tie.Need-mul-t13 Inv-loop μ-loop
+mul-t13 c = search needs
 
-element-copy-out-refusal-at : tie.Need-element-copy-out-refusal-at Inv-loop μ-loop
-element-copy-out-refusal-at c = search needs
+element-copy-out-t17 : tie.Need-element-copy-out-t17 Inv-loop μ-loop
+element-copy-out-t17 c = search needs
 
-mul-refusal-at-2 : tie.Need-mul-refusal-at-2 Inv-loop μ-loop
-mul-refusal-at-2 c = search needs
+mul-t18 : tie.Need-mul-t18 Inv-loop μ-loop
+mul-t18 c = search needs
 
-element-copy-out-refusal-at-2 : tie.Need-element-copy-out-refusal-at-2 Inv-loop μ-loop
-element-copy-out-refusal-at-2 c = search needs
+element-copy-out-t21 : tie.Need-element-copy-out-t21 Inv-loop μ-loop
+element-copy-out-t21 c = search needs
 
-mul-refusal-at-3 : tie.Need-mul-refusal-at-3 Inv-loop μ-loop
-mul-refusal-at-3 c = search needs
+mul-t22 : tie.Need-mul-t22 Inv-loop μ-loop
+mul-t22 c = search needs
 
-element-copy-out-refusal-at-3 : tie.Need-element-copy-out-refusal-at-3 Inv-loop μ-loop
-element-copy-out-refusal-at-3 c = search needs
+element-copy-out-t25 : tie.Need-element-copy-out-t25 Inv-loop μ-loop
+element-copy-out-t25 c = search needs
 
 refusal-at-requires : tie.Need-refusal-at-requires Inv-loop μ-loop
 refusal-at-requires c κs = search needs
@@ -82,7 +113,8 @@ refused-requires : tie.Need-refused-requires Inv-loop μ-loop
 refused-requires c κs = search needs
 
 returns : tie.Need-returns Inv-loop μ-loop
-returns c = let k = c .before .before in c .refused .ensures ∙ ap registerRead (sym (refused-here (turn k .loop .inv) _ (inside k) (number-is k) (c .before .if1 .taken)))
+unfolding registerInJob
+returns c = c .refused .ensures ∙ ap registerRead (sym (going-refused fresh registerRows laws (turn (c .before .before) .loop .inv) _ (inside (c .before .before)) (number-is (c .before .before)) (c .before .if1 .taken)))
 
 shared-slice-read-command : tie.Need-shared-slice-read-command Inv-loop μ-loop
 shared-slice-read-command c = search needs
@@ -91,7 +123,8 @@ add-i32-at : tie.Need-add-i32-at Inv-loop μ-loop
 add-i32-at c = search needs
 
 i32-at-requires : tie.Need-i32-at-requires Inv-loop μ-loop
-i32-at-requires c κs = let e = c .before .before in omega (arith, room (going e) (inside (e .before)) (dominanceChecked e) 0x10 5 (c .match .keys1) size-base)
+unfolding rowOf total
+i32-at-requires c κs = let e = c .before .before in omega (arith, here e 0x10 (c .match .keys1) .room)
 
 add-at : tie.Need-add-at Inv-loop μ-loop
 add-at c = search needs
@@ -100,19 +133,21 @@ loop-less : tie.Need-loop-less Inv-loop μ-loop
 loop-less c = search needs
 
 loop-again : tie.Need-loop-again Inv-loop μ-loop
-loop-again c = let e = c .before .before .before in rw (toZ-ofZ (record { sfits = c .i32-at .ok }), c .i32-at .ensures) (base-on (going e) (inside (e .before)) (dominanceChecked e) (c .before .match .keys1))
+unfolding rowOf total operandsAt intAt
+loop-again c = let e = c .before .before .before in rw (toZ-ofZ (record { sfits = c .i32-at .ok }), c .i32-at .ensures) (going-on fresh registerRows laws (turn (e .before) .loop .inv) (inside (e .before)) (judged e) 0x10 (c .before .match .keys1) refl)
 
 add-u16-at : tie.Need-add-u16-at Inv-loop μ-loop
 add-u16-at c = search needs
 
 u16-at-requires : tie.Need-u16-at-requires Inv-loop μ-loop
-u16-at-requires c κs = let e = c .before .before in omega (arith, room (going e) (inside (e .before)) (dominanceChecked e) 0x11 5 (c .match .keys2) size-choice)
+unfolding rowOf total
+u16-at-requires c κs = let e = c .before .before in omega (arith, here e 0x11 (c .match .keys2) .room)
 
 mul-register : tie.Need-mul-register Inv-loop μ-loop
 mul-register c = search needs
 
 element-write-register : tie.Need-element-write-register Inv-loop μ-loop
-element-write-register c = let e = c .before .before .before in choice-here (going e) (inside (e .before)) (dominanceChecked e) (c .before .match .keys2) .few
+element-write-register c = few (c .before .before .before) (c .before .match .keys2)
 
 add-u16-at-2 : tie.Need-add-u16-at-2 Inv-loop μ-loop
 add-u16-at-2 c = search needs
@@ -121,13 +156,14 @@ add-u16-at-3 : tie.Need-add-u16-at-3 Inv-loop μ-loop
 add-u16-at-3 c = search needs
 
 u16-at-requires-2 : tie.Need-u16-at-requires-2 Inv-loop μ-loop
-u16-at-requires-2 c κs = let e = c .before .before .before in omega (arith, room (going e) (inside (e .before)) (dominanceChecked e) 0x11 5 (c .before .match .keys2) size-choice)
+unfolding rowOf total
+u16-at-requires-2 c κs = let e = c .before .before .before in omega (arith, here e 0x11 (c .before .match .keys2) .room)
 
 mul-register-2 : tie.Need-mul-register-2 Inv-loop μ-loop
 mul-register-2 c = search needs
 
 element-write-register-2 : tie.Need-element-write-register-2 Inv-loop μ-loop
-element-write-register-2 c = let e = c .before .before .before .before in choice-here (going e) (inside (e .before)) (dominanceChecked e) (c .before .before .match .keys2) .few
+element-write-register-2 c = few (c .before .before .before .before) (c .before .before .match .keys2)
 
 add-register : tie.Need-add-register Inv-loop μ-loop
 add-register c = search needs
@@ -139,19 +175,21 @@ loop-less-2 : tie.Need-loop-less-2 Inv-loop μ-loop
 loop-less-2 c = search needs
 
 loop-again-2 : tie.Need-loop-again-2 Inv-loop μ-loop
-loop-again-2 c = let e = c .before .before .before .before in rw (c .u16-at2 .ensures, c .before .u16-at .ensures, add-one) (choice-on (going e) (inside (e .before)) (dominanceChecked e) (c .before .before .match .keys2))
+unfolding rowOf total operandsAt
+loop-again-2 c = let e = c .before .before .before .before in rw (c .u16-at2 .ensures, c .before .u16-at .ensures, add-one) (going-on fresh registerRows laws (turn (e .before) .loop .inv) (inside (e .before)) (judged e) 0x11 (c .before .before .match .keys2) refl)
 
 add-u32-at : tie.Need-add-u32-at Inv-loop μ-loop
 add-u32-at c = search needs
 
 u32-at-requires : tie.Need-u32-at-requires Inv-loop μ-loop
-u32-at-requires c κs = let e = c .before .before in omega (arith, room (going e) (inside (e .before)) (dominanceChecked e) 0x12 9 (c .match .keys3) size-term)
+unfolding rowOf total
+u32-at-requires c κs = let e = c .before .before in omega (arith, here e 0x12 (c .match .keys3) .room)
 
 mul-register-3 : tie.Need-mul-register-3 Inv-loop μ-loop
 mul-register-3 c = search needs
 
 element-write-register-3 : tie.Need-element-write-register-3 Inv-loop μ-loop
-element-write-register-3 c = let e = c .before .before .before in term-here (going e) (inside (e .before)) (dominanceChecked e) (c .before .match .keys3) .few
+element-write-register-3 c = few-terms (c .before .before .before) (c .before .match .keys3)
 
 add-i32-at-2 : tie.Need-add-i32-at-2 Inv-loop μ-loop
 add-i32-at-2 c = search needs
@@ -160,13 +198,14 @@ add-i32-at-3 : tie.Need-add-i32-at-3 Inv-loop μ-loop
 add-i32-at-3 c = search needs
 
 i32-at-requires-2 : tie.Need-i32-at-requires-2 Inv-loop μ-loop
-i32-at-requires-2 c κs = let e = c .before .before .before in omega (arith, room (going e) (inside (e .before)) (dominanceChecked e) 0x12 9 (c .before .match .keys3) size-term)
+unfolding rowOf total
+i32-at-requires-2 c κs = let e = c .before .before .before in omega (arith, here e 0x12 (c .before .match .keys3) .room)
 
-mul-t43 : tie.Need-mul-t43 Inv-loop μ-loop
-mul-t43 c = search needs
+mul-t44 : tie.Need-mul-t44 Inv-loop μ-loop
+mul-t44 c = search needs
 
 element-set-from-register : tie.Need-element-set-from-register Inv-loop μ-loop
-element-set-from-register c = let e = c .before .before .before .before in term-here (going e) (inside (e .before)) (dominanceChecked e) (c .before .before .match .keys3) .few
+element-set-from-register c = few-terms (c .before .before .before .before) (c .before .before .match .keys3)
 
 add-register-2 : tie.Need-add-register-2 Inv-loop μ-loop
 add-register-2 c = search needs
@@ -178,19 +217,22 @@ loop-less-3 : tie.Need-loop-less-3 Inv-loop μ-loop
 loop-less-3 c = search needs
 
 loop-again-3 : tie.Need-loop-again-3 Inv-loop μ-loop
-loop-again-3 c = let e = c .before .before .before .before in rw (toZ-ofZ (record { sfits = c .i32-at2 .ok }), c .i32-at2 .ensures, c .before .u32-at .ensures, add-one) (term-on (going e) (inside (e .before)) (dominanceChecked e) (c .before .before .match .keys3))
+unfolding rowOf total operandsAt intAt
+loop-again-3 c = let e = c .before .before .before .before in rw (toZ-ofZ (record { sfits = c .i32-at2 .ok }), c .i32-at2 .ensures, c .before .u32-at .ensures, add-one) (going-on fresh registerRows laws (turn (e .before) .loop .inv) (inside (e .before)) (judged e) 0x12 (c .before .before .match .keys3) refl)
 
-add-t46 : tie.Need-add-t46 Inv-loop μ-loop
-add-t46 c = search needs
+add-t47 : tie.Need-add-t47 Inv-loop μ-loop
+add-t47 c = search needs
 
 returns-2 : tie.Need-returns-2 Inv-loop μ-loop
-returns-2 c = let e = c .before .before in ap registerRead (sym (ends-here (going e) (inside (e .before)) (dominanceChecked e) (c .match .rest .0 .0 .1) (c .match .rest .0 .1) (c .match .rest .1)))
+unfolding registerInJob rowOf total operandsAt
+returns-2 c = let e = c .before .before in let f = only-last endRow _ (baseRow ∷ choiceRow ∷ termRow ∷ []) (c .match .rest .0 .0 .1 ▹ c .match .rest .0 .1 ▹ c .match .rest .1 ▹ tt) _ (here e _ refl .place) in ap registerRead (sym (going-ends fresh registerRows laws (turn (e .before) .loop .inv) (inside (e .before)) (judged e) 0x1F f refl))
 
 refused-requires-2 : tie.Need-refused-requires-2 Inv-loop μ-loop
 refused-requires-2 c κs = search needs
 
 returns-3 : tie.Need-returns-3 Inv-loop μ-loop
-returns-3 c = c .refused2 .ensures ∙ ap registerRead (sym (missing-here (c .before .before .loop .inv) (c .before .loop-test .left)))
+unfolding registerInJob
+returns-3 c = c .refused2 .ensures ∙ ap registerRead (sym (going-missing fresh registerRows laws (c .before .before .loop .inv) (c .before .loop-test .left)))
 
 pub read-register-spec : {M : Type 1} → statement M
 read-register-spec =
@@ -202,12 +244,12 @@ read-register-spec =
     loop-holds
     last-of-requires
     last-of-requires-2
-    mul-refusal-at
-    element-copy-out-refusal-at
-    mul-refusal-at-2
-    element-copy-out-refusal-at-2
-    mul-refusal-at-3
-    element-copy-out-refusal-at-3
+    mul-t13
+    element-copy-out-t17
+    mul-t18
+    element-copy-out-t21
+    mul-t22
+    element-copy-out-t25
     refusal-at-requires
     refused-requires
     returns
@@ -237,13 +279,13 @@ read-register-spec =
     add-i32-at-2
     add-i32-at-3
     i32-at-requires-2
-    mul-t43
+    mul-t44
     element-set-from-register
     add-register-2
     add-at-3
     loop-less-3
     loop-again-3
-    add-t46
+    add-t47
     returns-2
     refused-requires-2
     returns-3)

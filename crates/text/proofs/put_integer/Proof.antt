@@ -9,7 +9,7 @@ use borrow.Author.Needs.{needs}
 use Rattle.text.specs.Text.{digits}
 use Rattle.text.specs.Fields.{sign}
 use Rattle.text.proofs.Lines.{field-integer, length-integer}
-use Rattle.text.proofs.Written.{and-then, same}
+use Rattle.wire.proofs.Written.{and-then, same}
 use Rattle.text.proofs.put_integer.Statement.{statement}
 use Rattle.text.proofs.put_integer.Tie as tie
 

@@ -7,7 +7,7 @@ use mir.Facts.{toZ-ofZ}
 use borrow.Author.Needs.{needs}
 use Rattle.text.specs.Fields.{sign}
 use Rattle.text.proofs.Digits.{sign-below, sign-none}
-use Rattle.text.proofs.Written.{same, nothing}
+use Rattle.wire.proofs.Written.{same, nothing}
 use Rattle.text.proofs.put_sign.Statement.{statement}
 use Rattle.text.proofs.put_sign.Tie as tie
 

@@ -1,27 +1,26 @@
--- `certificate::checks::are_within` meets its contract. The loop's invariant: the entries passed are within their range.
-use Prim.Native.Nat.{_≤_, _<_, _-_}
+-- `certificate::checks::are_within` meets its contract. The loop's invariant: the entries passed are small.
+use Prim.Native.Nat.{_≤_, _-_}
 use native.Mathlib.Omega.{arith}
 use native.Mathlib.Numerals.{add-one}
 use mathlib.Core.Path.{_≡_, refl, sym, _∙_, ap}
 use mathlib.Core.Bool.{true}
-use lib.Dec.{leb}
 use lib.IntN.{ℤ, pos, natAbs}
 use lib.ListN.{length, getD}
 use mir.Syntax.{w16, w64}
-use borrow.Author.Tests.{le-leb, lt-leb}
+use borrow.Author.Tests.{not-true, not-false}
 use Rattle.integers.specs.Lists.{allBelow}
 use Rattle.integers.proofs.Machine.{cast-fits, cast-read}
-use Rattle.certificate.specs.Limits.{maxEntry}
 use Rattle.scheme.proofs.Sets.{allBelow-not}
+use Rattle.certificate.specs.Answer.{smallPast}
 use borrow.Author.Needs.{needs}
 use Rattle.certificate.proofs.checks.are_within.Statement.{statement}
 use Rattle.certificate.proofs.checks.are_within.Tie as tie
 
 abbrev Inv-loop : tie.InvT-loop
-Inv-loop entries i₀ i = (i ≤ length entries) × (allBelow i (λ k. leb (natAbs (getD entries k (pos 0))) maxEntry) ≡ true)
+Inv-loop entries place limit i₀ i = (i ≤ length entries) × (allBelow i (smallPast place limit entries) ≡ true)
 
 abbrev μ-loop : tie.MeasureT-loop
-μ-loop entries i₀ i = length entries - i
+μ-loop entries place limit i₀ i = length entries - i
 
 -- the entry looked at
 module _ (c : tie.After-magnitude Inv-loop μ-loop) where
@@ -51,8 +50,7 @@ returns : tie.Need-returns Inv-loop μ-loop
 returns c =
     let a = c .before .before .before .before .before .args in
     let i = c .before .before .before .before .loop .i in
-    let x : maxEntry < natAbs (looked (c .before)) = omega (arith, c .if1 .taken, size-is (c .before)) in
-    sym (allBelow-not (length (a .entries .now)) (λ k. leb (natAbs (getD (a .entries .now) k (pos 0))) maxEntry) i (c .before .before .before .loop-test .taken) (lt-leb _ _ x))
+    sym (allBelow-not (length (a .entries .now)) (smallPast (a .place) (a .limit) (a .entries .now)) i (c .before .before .before .loop-test .taken) (rw (← (size-is (c .before))) (not-true _ (c .if1 .taken))))
 
 add-i : tie.Need-add-i Inv-loop μ-loop
 add-i c = search needs
@@ -62,9 +60,7 @@ loop-less c = search needs
 
 loop-again : tie.Need-loop-again Inv-loop μ-loop
 unfolding allBelow
-loop-again c =
-    let x : natAbs (looked (c .before)) ≤ maxEntry = omega (arith, c .if1 .left, size-is (c .before)) in
-    (search needs, rw (add-one, c .before .before .before .before .loop .inv .1, le-leb _ _ x))
+loop-again c = (search needs, rw (add-one, c .before .before .before .before .loop .inv .1, ← (size-is (c .before))) (not-false _ (c .if1 .left)))
 
 returns-2 : tie.Need-returns-2 Inv-loop μ-loop
 returns-2 c = let e : c .before .loop .i ≡ length (c .before .before .args .entries .now) = omega (arith, c .before .loop .inv .0) in rw (← e) (sym (c .before .loop .inv .1))

@@ -6,9 +6,6 @@ use borrow.Author.Needs.{needs}
 use Rattle.certificate.proofs.checks.multiplier_refusal.Statement.{statement}
 use Rattle.certificate.proofs.checks.multiplier_refusal.Tie as tie
 
-magnitude-requires : tie.Need-magnitude-requires
-magnitude-requires c κs = search needs
-
 first-of-requires : tie.Need-first-of-requires
 first-of-requires c κs = search needs
 
@@ -28,14 +25,14 @@ returns : tie.Need-returns
 returns c = λ whole h.
     let b = c .before .before in
     let a = b .before .before in
-    let d = a .before .before .before .before .before in
-    rw (c .first-of5 .ensures, c .before .first-of4 .ensures, b .first-of3 .ensures, a .first-of2 .ensures, a .before .first-of .ensures, d .magnitude .ensures, toZ-ofZ (d .before .fits .m)) (sym (tests-refusal _ whole _ _ h))
+    let d = a .before .before .before .before .before .before in
+    let told = d .struct-told .given in
+    rw (c .first-of5 .ensures, c .before .first-of4 .ensures, b .first-of3 .ensures, a .first-of2 .ensures, a .before .first-of .ensures, toZ-ofZ (d .before .before .fits .m), toZ-ofZ (record { sfits = told .0 .1 }), toZ-ofZ (record { sfits = told .1 .0 .1 })) (sym (tests-refusal _ whole _ _ h))
 
 pub multiplier-refusal-spec : {M : Type 1} → statement M
 multiplier-refusal-spec =
     tie.close
     (tie.spec
-    magnitude-requires
     first-of-requires
     first-of-requires-2
     first-of-requires-3

@@ -61,54 +61,54 @@ null-form-requires-5 c κs = search needs
 
 returns : tie.Need-returns
 unfolding ruleAsked
-returns c = λ sch e h.
+returns c = λ reg sch h.
     let g = c .before .before in
     let a = g .before .before .before .before .before .args in
-    rw (c .before .match .keys1, c .null-form .ensures, ← e) (tests-31 (a .n) sch (a .sets .now) (a .t .i) (a .t .j) (a .t .k) (a .t .l) (rw e h))
+    rw (c .before .match .keys1, c .null-form .ensures, ← (h .variables-is)) (tests-31 reg sch (a .sets .now) (a .t .i) (a .t .j) (a .t .k) (a .t .l) (rw (h .variables-is) (h .sets-are)))
 
 returns-2 : tie.Need-returns-2
 unfolding ruleAsked
-returns-2 c = λ sch e h.
+returns-2 c = λ reg sch h.
     let g = c .before .before .before in
     let a = g .before .before .before .before .before .args in
-    rw (c .before .before .match .keys2, c .null-form2 .ensures, c .before .is-proper-subset .ensures, g .before .before .set-of2 .ensures, g .before .before .before .set-of .ensures, ← e) (tests-32 (a .n) sch (a .sets .now) (a .t .i) (a .t .j) (a .t .k) (a .t .l) (rw e h))
+    rw (c .before .before .match .keys2, c .null-form2 .ensures, c .before .is-proper-subset .ensures, g .before .before .set-of2 .ensures, g .before .before .before .set-of .ensures, ← (h .variables-is)) (tests-32 reg sch (a .sets .now) (a .t .i) (a .t .j) (a .t .k) (a .t .l) (rw (h .variables-is) (h .sets-are)))
 
 returns-3 : tie.Need-returns-3
 unfolding ruleAsked
-returns-3 c = λ sch e h.
+returns-3 c = λ reg sch h.
     let g = c .before .before in
     let a = g .before .before .before .before .before .args in
-    rw (c .before .match .keys3, c .null-form3 .ensures, g .before .set-of3 .ensures, g .before .before .set-of2 .ensures, g .before .before .before .set-of .ensures, ← e) (tests-33 (a .n) sch (a .sets .now) (a .t .i) (a .t .j) (a .t .k) (a .t .l) (rw e h))
+    rw (c .before .match .keys3, c .null-form3 .ensures, g .before .set-of3 .ensures, g .before .before .set-of2 .ensures, g .before .before .before .set-of .ensures, ← (h .variables-is)) (tests-33 reg sch (a .sets .now) (a .t .i) (a .t .j) (a .t .k) (a .t .l) (rw (h .variables-is) (h .sets-are)))
 
 returns-4 : tie.Need-returns-4
 unfolding ruleAsked
-returns-4 c = λ sch e h.
+returns-4 c = λ reg sch h.
     let g = c .before .before in
     let a = g .before .before .before .before .before .args in
-    rw (c .before .match .keys4, c .null-form4 .ensures, g .set-of4 .ensures, g .before .set-of3 .ensures, g .before .before .set-of2 .ensures, g .before .before .before .set-of .ensures, ← e) (tests-34 (a .n) sch (a .sets .now) (a .t .i) (a .t .j) (a .t .k) (a .t .l) (rw e h))
+    rw (c .before .match .keys4, c .null-form4 .ensures, g .set-of4 .ensures, g .before .set-of3 .ensures, g .before .before .set-of2 .ensures, g .before .before .before .set-of .ensures, ← (h .variables-is)) (tests-34 reg sch (a .sets .now) (a .t .i) (a .t .j) (a .t .k) (a .t .l) (rw (h .variables-is) (h .sets-are)))
 
 returns-5 : tie.Need-returns-5
 unfolding ruleAsked
-returns-5 c = λ sch e h.
+returns-5 c = λ reg sch h.
     let g = c .before .before .before .before in
     let a = g .before .before .before .before .before .args in
-    rw (c .subtracted .ensures, ← e) (tests-product (a .n) sch (a .sets .now) (a .t .i) (a .t .j) (a .t .k) (a .t .l) (a .t .kind) (omega (arith, c .before .before .if1 .left)) (omega (arith, c .before .if2 .taken)))
+    rw (c .subtracted .ensures, ← (h .variables-is), ← (h .choices-is)) (tests-product reg sch (a .sets .now) (a .t .i) (a .t .j) (a .t .k) (a .t .l) (a .t .kind) (omega (arith, c .before .before .if1 .left)) (omega (arith, c .before .if2 .taken)))
 
 returns-6 : tie.Need-returns-6
 unfolding ruleAsked
-returns-6 c = λ sch e h.
+returns-6 c = λ reg sch h.
     let g = c .before .before .before .before .before in
     let a = g .before .before .before .before .before .args in
-    rw (c .subtracted2 .ensures, ← e) (tests-variable (a .n) sch (a .sets .now) (a .t .i) (a .t .j) (a .t .k) (a .t .l) (a .t .kind) (omega (arith, c .before .before .if2 .left)) (omega (arith, c .before .if3 .taken)))
+    rw (c .subtracted2 .ensures, ← (h .variables-is)) (tests-variable reg sch (a .sets .now) (a .t .i) (a .t .j) (a .t .k) (a .t .l) (a .t .kind) (omega (arith, c .before .before .if2 .left)) (omega (arith, c .before .if3 .taken)))
 
 returns-7 : tie.Need-returns-7
 unfolding ruleAsked
-returns-7 c = λ sch e h.
+returns-7 c = λ reg sch h.
     let g = c .before .before .before in
     let a = g .before .before .before .before .before .args in
     let r = c .before .before .match .rest in
     let none : 0x31 ≤ a .t .kind → a .t .kind ≤ 0x39 → ⊥ = λ p q. ⊎-elim (λ t. omega (arith, t .taken, r .1, r .0 .1, r .0 .0 .1, r .0 .0 .0 .1)) (λ u. omega (arith, u .2 .left)) (c .before .if1 .came) in
-    rw (c .null-form5 .ensures) (no-rule (a .n) sch (a .sets .now) (a .t .i) (a .t .j) (a .t .k) (a .t .l) (a .t .kind) none)
+    rw (c .null-form5 .ensures) (no-rule reg sch (a .sets .now) (a .t .i) (a .t .j) (a .t .k) (a .t .l) (a .t .kind) none)
 
 pub rule-of-spec : {M : Type 1} → statement M
 rule-of-spec =

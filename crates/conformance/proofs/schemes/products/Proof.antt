@@ -4,9 +4,6 @@ use Rattle.scheme.specs.Scheme.{maxProducts}
 use borrow.Author.Needs.{needs}
 use Rattle.conformance.proofs.schemes.products.Statement.{statement}
 use Rattle.conformance.proofs.schemes.products.Tie as tie
-use Rattle.conformance.proofs.schemes.choice_sets.Reads as choice-sets-reads
-use Rattle.conformance.proofs.schemes.product.Reads as product-reads
-use Rattle.conformance.proofs.schemes.set_of.Reads as set-of-reads
 
 abbrev Inv-loop : tie.InvT-loop
 Inv-loop line n scheme sets₀ next₀ k₀ sets next k = k ≤ maxProducts

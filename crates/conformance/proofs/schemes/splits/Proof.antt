@@ -4,7 +4,6 @@ use Rattle.register.specs.Limits.{maxTerms}
 use borrow.Author.Needs.{needs}
 use Rattle.conformance.proofs.schemes.splits.Statement.{statement}
 use Rattle.conformance.proofs.schemes.splits.Tie as tie
-use Rattle.conformance.proofs.schemes.split.Reads as split-reads
 
 abbrev Inv-loop : tie.InvT-loop
 Inv-loop line scheme next₀ i₀ next i = i ≤ maxTerms

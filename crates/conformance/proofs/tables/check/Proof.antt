@@ -4,7 +4,6 @@ use lib.ListN.{length}
 use borrow.Author.Needs.{needs}
 use Rattle.conformance.proofs.tables.check.Statement.{statement}
 use Rattle.conformance.proofs.tables.check.Tie as tie
-use Rattle.conformance.proofs.tables.check_of_number.Reads as check-of-number-reads
 
 abbrev Inv-loop : tie.InvT-loop
 Inv-loop table h₀ i₀ h i = i ≤ length table

@@ -3,8 +3,6 @@ use Prim.Native.Nat.{_≤_, _-_}
 use borrow.Author.Needs.{needs}
 use Rattle.conformance.proofs.tables.check_of_number.Statement.{statement}
 use Rattle.conformance.proofs.tables.check_of_number.Tie as tie
-use Rattle.conformance.proofs.tables.bits.Reads as bits-reads
-use Rattle.conformance.proofs.tables.check_of_byte.Reads as check-of-byte-reads
 
 abbrev Inv-loop : tie.InvT-loop
 Inv-loop before x h₀ rest₀ k₀ h rest k = k ≤ 8

@@ -4,7 +4,6 @@ use lib.ListN.{length}
 use borrow.Author.Needs.{needs}
 use Rattle.conformance.proofs.tables.numbers.Statement.{statement}
 use Rattle.conformance.proofs.tables.numbers.Tie as tie
-use Rattle.conformance.proofs.tables.number.Reads as number-reads
 
 abbrev Inv-loop : tie.InvT-loop
 Inv-loop line table listed next₀ i₀ next i = i ≤ length table

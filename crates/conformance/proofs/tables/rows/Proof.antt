@@ -1,10 +1,9 @@
 -- `tables::rows` is safe and ends.
 use Prim.Native.Nat.{_≤_, _+_, _-_, _*_}
-use Rattle.scheme.specs.Sets.{maxVariables}
+use Rattle.scheme.specs.Scheme.{maxVariables}
 use borrow.Author.Needs.{needs}
 use Rattle.conformance.proofs.tables.rows.Statement.{statement}
 use Rattle.conformance.proofs.tables.rows.Tie as tie
-use Rattle.conformance.proofs.tables.row.Reads as row-reads
 
 abbrev Inv-loop : tie.InvT-loop
 Inv-loop line table side next₀ start₀ r₀ next start r = (r ≤ side) × (start ≤ (maxVariables + 1) * r)

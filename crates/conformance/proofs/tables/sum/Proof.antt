@@ -4,9 +4,6 @@ use lib.ListN.{length}
 use borrow.Author.Needs.{needs}
 use Rattle.conformance.proofs.tables.sum.Statement.{statement}
 use Rattle.conformance.proofs.tables.sum.Tie as tie
-use Rattle.conformance.proofs.tables.bits.Reads as bits-reads
-use Rattle.conformance.proofs.tables.from_bits.Reads as from-bits-reads
-use Rattle.std.proofs.num.wrapping_add_u64.Reads as wrapping-add-u64-reads
 
 abbrev Inv-loop : tie.InvT-loop
 Inv-loop row total₀ i₀ total i = i ≤ length row

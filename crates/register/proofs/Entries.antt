@@ -1,0 +1,138 @@
+-- A register with one choice or one term more, and with one less: its entries, and that it stays within its limits.
+use Prim.Native.Nat.{ℕ, suc, _-_, _<_, _≤_}
+use native.Mathlib.Omega.{arith}
+use mathlib.Core.Path.{_≡_, refl, sym, _∙_, ap}
+use mathlib.Core.List.{List}
+use lib.ListN.{getD, set, replicate}
+use lib.Seq.{getD-set-same}
+use lib.IntN.{ℤ, pos, natAbs}
+use Rattle.integers.specs.Lists.{Column}
+use Rattle.integers.proofs.Entries.{kept-set, column-none, column-empty, column-more, column-less, set-back, table-none, table-more, table-less}
+use Rattle.register.specs.declared.Register.{Register}
+use Rattle.register.specs.Limits.{maxChoices, maxTerms, maxBase}
+use Rattle.register.specs.Register.{tank, minute, mask, coefficient, fresh, setBase, setChoices, setTerms, withBase, withChoice, withTerm}
+use Rattle.register.specs.Valid.{Within, Choices, Terms}
+use Rattle.register.proofs.Passes.{NextChoice, NextTerm}
+
+pub fresh-within : Within fresh
+unfolding fresh
+fresh-within = record {
+  base = omega arith;
+  tanks = column-none maxChoices 0;
+  minutes = column-none maxChoices 0;
+  choices = table-none maxChoices _ _ _;
+  masks = column-none maxTerms 0;
+  coefficients = column-none maxTerms (pos 0);
+  terms = table-none maxTerms _ _ _;
+}
+
+-- ---- a register with other values of one group stays within its limits, and is the same where they are
+
+module _ (r : Register) (w : Within r) where
+  in-base : (base : ℤ) → natAbs base ≤ maxBase → Within (setBase r base)
+  in-base base h = record { base = h; tanks = w .tanks; minutes = w .minutes; choices = w .choices; masks = w .masks; coefficients = w .coefficients; terms = w .terms }
+
+  -- other choices, where there is no term
+  in-choices : {n : ℕ} {tanks minutes : List ℕ} → r .terms ≡ 0 → Column maxChoices n 0 tanks → Column maxChoices n 0 minutes → Choices n (λ i. (getD tanks i 0, getD minutes i 0)) → Within (setChoices r n tanks minutes)
+  in-choices none a b c = record { base = w .base; tanks = a; minutes = b; choices = c; masks = w .masks; coefficients = w .coefficients; terms = rw none (table-none maxTerms _ _ _) }
+
+  in-terms : {m : ℕ} {masks : List ℕ} {coefficients : List ℤ} → Column maxTerms m 0 masks → Column maxTerms m (pos 0) coefficients → Terms (r .choices) m (λ t. (getD masks t 0, getD coefficients t (pos 0))) → Within (setTerms r m masks coefficients)
+  in-terms a b c = record { base = w .base; tanks = w .tanks; minutes = w .minutes; choices = w .choices; masks = a; coefficients = b; terms = c }
+
+module _ (r : Register) where
+  same-choices : {n : ℕ} {tanks minutes : List ℕ} → n ≡ r .choices → tanks ≡ r .tanks → minutes ≡ r .minutes → setChoices r n tanks minutes ≡ r
+  same-choices a b c = rw (a, b, c)
+
+  same-terms : {m : ℕ} {masks : List ℕ} {coefficients : List ℤ} → m ≡ r .terms → masks ≡ r .masks → coefficients ≡ r .coefficients → setTerms r m masks coefficients ≡ r
+  same-terms a b c = rw (a, b, c)
+
+-- ---- the base cost
+
+module _ (r : Register) (w : Within r) where
+  pub base-more : (base : ℤ) → natAbs base ≤ maxBase → Within (withBase r base)
+  base-more = in-base r w
+
+  -- a register with neither choices nor terms has only a base cost
+  pub base-back : r .choices ≡ 0 → r .terms ≡ 0 → withBase fresh (r .base) ≡ r
+  unfolding fresh
+  base-back c t =
+      ap (λ x. setTerms x 0 (replicate maxTerms 0) (replicate maxTerms (pos 0))) (same-choices r (sym c) (column-empty maxChoices _ 0 _ c (w .tanks)) (column-empty maxChoices _ 0 _ c (w .minutes)))
+      ∙ same-terms r (sym t) (column-empty maxTerms _ 0 _ t (w .masks)) (column-empty maxTerms _ (pos 0) _ t (w .coefficients))
+
+-- ---- choices: the entries of a register with one more, where there is no term yet, and of one with one less
+
+abbrev pub choiceAt : Register → ℕ → ℕ × ℕ
+choiceAt r i = (tank r i, minute r i)
+
+module _ (r : Register) (w : Within r) (t m : ℕ) where
+  abbrev n : ℕ
+  n = r .choices
+
+  pub choice-kept : (i : ℕ) → i < n → choiceAt (withChoice r t m) i ≡ choiceAt r i
+  choice-kept i l = rw (kept-set (r .tanks) n t 0 i l, kept-set (r .minutes) n m 0 i l)
+
+  pub choice-new : n < maxChoices → choiceAt (withChoice r t m) n ≡ (t, m)
+  choice-new l = rw (getD-set-same (r .tanks) n t 0 (omega (arith, w .tanks .room)), getD-set-same (r .minutes) n m 0 (omega (arith, w .minutes .room)))
+
+  pub choice-more : r .terms ≡ 0 → NextChoice n (tank r (n - 1)) (minute r (n - 1)) t m → Within (withChoice r t m)
+  choice-more none p =
+      in-choices r w none (column-more t (w .tanks)) (column-more m (w .minutes))
+      (table-more (choiceAt r) (choiceAt (withChoice r t m)) n (t, m) choice-kept (choice-new (p .few)) (w .choices) p)
+
+-- without its last choice
+abbrev pub lessChoice : Register → ℕ → Register
+lessChoice r n = setChoices r n (set (r .tanks) n 0) (set (r .minutes) n 0)
+
+module _ (r : Register) (w : Within r) (n : ℕ) (e : r .choices ≡ suc n) where
+  few : n < maxChoices
+  few = omega (arith, w .choices .few)
+
+  pub choice-less : (i : ℕ) → i < n → choiceAt r i ≡ choiceAt (lessChoice r n) i
+  choice-less i l = rw (kept-set (r .tanks) n 0 0 i l, kept-set (r .minutes) n 0 0 i l)
+
+  pub choice-back : withChoice (lessChoice r n) (tank r n) (minute r n) ≡ r
+  choice-back = same-choices r (sym e) (set-back (r .tanks) n 0) (set-back (r .minutes) n 0)
+
+  pub choice-next : r .terms ≡ 0 → Within (lessChoice r n) × NextChoice n (tank (lessChoice r n) (n - 1)) (minute (lessChoice r n) (n - 1)) (tank r n) (minute r n)
+  choice-next none =
+      let (t, p) = table-less (choiceAt (lessChoice r n)) (choiceAt r) n (choiceAt r n) choice-less refl (rw e at (w .choices)) in
+      (in-choices r w none (column-less few (rw e at (w .tanks))) (column-less few (rw e at (w .minutes))) t, p)
+
+-- ---- terms
+
+abbrev pub termAt : Register → ℕ → ℕ × ℤ
+termAt r t = (mask r t, coefficient r t)
+
+module _ (r : Register) (w : Within r) (m : ℕ) (z : ℤ) where
+  abbrev k : ℕ
+  k = r .terms
+
+  pub term-kept : (t : ℕ) → t < k → termAt (withTerm r m z) t ≡ termAt r t
+  term-kept t l = rw (kept-set (r .masks) k m 0 t l, kept-set (r .coefficients) k z (pos 0) t l)
+
+  pub term-new : k < maxTerms → termAt (withTerm r m z) k ≡ (m, z)
+  term-new l = rw (getD-set-same (r .masks) k m 0 (omega (arith, w .masks .room)), getD-set-same (r .coefficients) k z (pos 0) (omega (arith, w .coefficients .room)))
+
+  pub term-more : NextTerm (r .choices) k (termAt r (k - 1)) m z → Within (withTerm r m z)
+  term-more p =
+      in-terms r w (column-more m (w .masks)) (column-more z (w .coefficients))
+      (table-more (termAt r) (termAt (withTerm r m z)) k (m, z) term-kept (term-new (p .few)) (w .terms) p)
+
+-- without its last term
+abbrev pub lessTerm : Register → ℕ → Register
+lessTerm r k = setTerms r k (set (r .masks) k 0) (set (r .coefficients) k (pos 0))
+
+module _ (r : Register) (w : Within r) (k : ℕ) (e : r .terms ≡ suc k) where
+  some : k < maxTerms
+  some = omega (arith, w .terms .few)
+
+  pub term-less : (t : ℕ) → t < k → termAt r t ≡ termAt (lessTerm r k) t
+  term-less t l = rw (kept-set (r .masks) k 0 0 t l, kept-set (r .coefficients) k (pos 0) (pos 0) t l)
+
+  pub term-back : withTerm (lessTerm r k) (mask r k) (coefficient r k) ≡ r
+  term-back = same-terms r (sym e) (set-back (r .masks) k 0) (set-back (r .coefficients) k (pos 0))
+
+  pub term-next : Within (lessTerm r k) × NextTerm (r .choices) k (termAt (lessTerm r k) (k - 1)) (mask r k) (coefficient r k)
+  term-next =
+      let (t, p) = table-less (termAt (lessTerm r k)) (termAt r) k (termAt r k) term-less refl (rw e at (w .terms)) in
+      (in-terms r w (column-less some (rw e at (w .masks))) (column-less some (rw e at (w .coefficients))) t, p)

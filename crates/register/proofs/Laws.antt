@@ -1,0 +1,223 @@
+-- The laws of the register's rows: what has been read is within its limits, from commands that say it; and the last command
+-- can be taken back.
+use Prim.Native.Nat.{ℕ, suc, _-_, _^_, _<_, _≤_}
+use native.Mathlib.Omega.{arith}
+use mathlib.Core.Path.{_≡_, refl, sym, _∙_, ap}
+use mathlib.Core.Logic.{_⊎_, inl, inr, ⊎-elim}
+use mathlib.Core.Bool.{true, false, false≢true}
+use mathlib.Core.List.{List, [], _∷_, _++_}
+use lib.ListN.{getD}
+use lib.IntN.{ℤ, natAbs}
+use lib.Pow.{pow-mono}
+use mir.Syntax.{w32}
+use mir.Val.{ofZ, toZ, hbits}
+use mir.Facts.{ofZ-toZ, fits-ofZ}
+use Rattle.integers.proofs.Lists.{_▹_}
+use Rattle.integers.proofs.Machine.{read-signed, fits-signed}
+use Rattle.wire.specs.Checks.{refusal}
+use Rattle.wire.specs.Rows.{isAmong, rowOf}
+use Rattle.wire.specs.Encoding.{Command, Fit}
+use Rattle.wire.specs.Grammar.{Only, Among, Kind, Kinds}
+use Rattle.wire.proofs.Encoding.{fit-none, fit-one, fit-two}
+use Rattle.wire.proofs.Grammar.{lastFrom, said, None, Entries, apart-not, among-test, kinds-none, none-kinds, kinds-absent, kinds-stand, kinds-more, kinds-less, by-kind, under, underAll}
+use Rattle.wire.proofs.Accepting.{Grows, Back, Laws}
+use Rattle.wire.proofs.Ends.{Ends}
+use Rattle.register.specs.declared.Register.{Register}
+use Rattle.register.specs.Limits.{maxBase}
+use Rattle.register.specs.Register.{tank, minute, mask, coefficient, fresh, withBase, withChoice, withTerm}
+use Rattle.register.specs.Format.{baseRow, choiceRow, termRow, endRow, baseChecks, registerRows}
+use Rattle.register.specs.Valid.{Within, Valid}
+use Rattle.register.specs.Encoding.{baseCommand, choiceCommand, termCommand, endCommand, choiceKind, termKind, kinds}
+use Rattle.register.proofs.Passes.{base-iff, choice-iff, term-iff, end-iff}
+use Rattle.register.proofs.Entries.{fresh-within, base-more, base-back, choice-kept, choice-new, choice-more, lessChoice, choice-less, choice-back, choice-next, termAt, term-kept, term-new, term-more, lessTerm, term-less, term-back, term-next}
+
+-- ---- what has been read; what commands say of it is known where B holds
+
+abbrev pub HeaderWhere : Type 0 → Register → List Command → Type 0
+HeaderWhere B r = Only (λ c. (c .byte ≡ 0x10) × (B → c ≡ baseCommand (r .base)))
+
+abbrev pub Body : Type 0 → Register → List Command → Type 0
+Body B r = Kinds r (HeaderWhere B r) (underAll B kinds)
+
+pub record Good (B : Type 0) (r : Register) (cs : List Command) : Type 0 where
+  pub within : Within r
+  pub body : ((r ≡ fresh) × (cs ≡ [])) ⊎ Body B r cs
+
+abbrev pub Done : Type 0 → Register → List Command → Type 0
+Done = Ends Valid HeaderWhere kinds endCommand
+
+-- a command that does not stand first follows the commands of a register
+followed : {B : Type 0} {r : Register} {cs : List Command} (bs : List ℕ) → isAmong 0 bs ≡ false → isAmong (lastFrom 0 cs) bs ≡ true → Good B r cs → Body B r cs
+followed bs f e g = ⊎-elim (λ h. absurd (false≢true (sym f ∙ rw (h .1) at e))) (λ b. b) (g .body)
+
+header-stands : (B : Type 0) (r : Register) {cs : List Command} → HeaderWhere B r cs → Among (lastFrom 0 cs) (0x10 ∷ [])
+header-stands B r h = rw (h .whole) (inl (h .form .0))
+
+-- ---- each row keeps it
+
+module _ (B : Type 0) where
+  -- the kinds after the choices
+  abbrev afterChoices : List (Kind Register)
+  afterChoices = underAll B (termKind ∷ [])
+
+  -- up to the choices
+  abbrev ToChoices : Register → List Command → Type 0
+  ToChoices r = Entries (HeaderWhere B r) r (under B choiceKind)
+
+  base-grows : Grows B (Good B) (Done B) 0x10 baseRow
+  unfolding fresh
+  base-grows = record { on = λ r cs xs g e q fit. ⊎-elim (first r cs xs g e q fit) (λ b. absurd (apart-not (lastFrom 0 cs) (baseRow .follows) (endRow .follows) tt (among-test (lastFrom 0 cs) (baseRow .follows) e) (among-test (lastFrom 0 cs) (endRow .follows) (kinds-stand r (HeaderWhere B r) (underAll B kinds) cs (0x10 ∷ []) (endRow .follows) tt (header-stands B r) b)))) (g .body) }
+    where
+      first : (r : Register) (cs : List Command) (xs : List ℕ) → Good B r cs → isAmong (lastFrom 0 cs) (0 ∷ []) ≡ true → refusal (baseChecks (toZ w32 (getD xs 0 0))) ≡ 0 → (B → Fit (4 ∷ []) xs) → (r ≡ fresh) × (cs ≡ []) → Good B (withBase r (toZ w32 (getD xs 0 0))) (cs ++ (record { byte = 0x10; operands = xs } ∷ []))
+      first r cs xs g e q fit (a, b) =
+          let r′ = withBase r (toZ w32 (getD xs 0 0)) in
+          record {
+            within = base-more r (g .within) (toZ w32 (getD xs 0 0)) (base-iff _ .0 q);
+            body = inr (none-kinds r′ (HeaderWhere B r′) (underAll B kinds) _ (ap (λ r. r .choices) a, (ap (λ r. r .terms) a, tt))
+                (record { command = record { byte = 0x10; operands = xs }; form = (refl, λ b. let (f, l) = fit-one 4 xs (fit b) in said 0x10 {ys = ofZ w32 (toZ w32 (getD xs 0 0)) ∷ []} (f ∙ rw (ofZ-toZ (record { fits = l })))); whole = rw b }));
+          }
+
+  choice-grows : Grows B (Good B) (Done B) 0x11 choiceRow
+  choice-grows = record {
+    on = λ r cs xs g e q fit.
+        let t = getD xs 0 0 in
+        let m = getD xs 1 0 in
+        let b = followed (choiceRow .follows) refl e g in
+        let none = kinds-absent r (ToChoices r) afterChoices cs (choiceRow .follows) tt e b in
+        let p = choice-iff (r .choices) _ _ t m .0 q in
+        record {
+          within = choice-more r (g .within) t m (none .0) p;
+          body = inr (kinds-more (HeaderWhere B r) r (withChoice r t m) (under B choiceKind) afterChoices none none cs (record { byte = 0x11; operands = xs }) refl
+              (λ i d l h b. h b ∙ ap (λ c. choiceCommand (c .0) (c .1)) (sym (choice-kept r (g .within) t m i l)))
+              (inl refl, λ b. said 0x11 (fit-two 2 2 xs (fit b) .0) ∙ ap (λ c. choiceCommand (c .0) (c .1)) (sym (choice-new r (g .within) t m (p .few)))) b);
+        };
+  }
+
+  term-grows : Grows B (Good B) (Done B) 0x12 termRow
+  term-grows = record {
+    on = λ r cs xs g e q fit.
+        let m = getD xs 0 0 in
+        let z = toZ w32 (getD xs 1 0) in
+        let p = term-iff (r .choices) (r .terms) (termAt r (r .terms - 1)) m z .0 q in
+        record {
+          within = term-more r (g .within) m z p;
+          body = inr (kinds-more (ToChoices r) r (withTerm r m z) (under B termKind) [] tt tt cs (record { byte = 0x12; operands = xs }) refl
+              (λ i d l h b. h b ∙ ap (λ c. termCommand (c .0) (c .1)) (sym (term-kept r (g .within) m z i l)))
+              (inl refl, λ b. let (f, _, l) = fit-two 4 4 xs (fit b) in said 0x12 {ys = m ∷ ofZ w32 z ∷ []} (f ∙ rw (ofZ-toZ (record { fits = l }))) ∙ ap (λ c. termCommand (c .0) (c .1)) (sym (term-new r (g .within) m z (p .few))))
+              (followed (termRow .follows) refl e g));
+        };
+  }
+
+  end-grows : Grows B (Good B) (Done B) 0x1F endRow
+  end-grows = record {
+    on = λ r cs xs g e q fit. record {
+      valid = record { within = g .within; some-choice = end-iff (r .choices) .0 q };
+      body = record {
+        first = cs;
+        second = record { byte = 0x1F; operands = xs } ∷ [];
+        is-first = followed (endRow .follows) refl e g;
+        is-second = record { command = record { byte = 0x1F; operands = xs }; form = (refl, λ b. said 0x1F (fit-none xs (fit b))); whole = refl };
+        whole = refl;
+      };
+    };
+  }
+
+-- ---- the last command taken back
+
+abbrev U : Type 0
+U = Unit {0}
+
+-- a signed operand of 32 bits
+small : (z : ℤ) → natAbs z ≤ maxBase → natAbs z < 2 ^ hbits w32
+small z h = omega arith
+
+module _ (r : Register) (cs : List Command) (w : Within r) (b : Body U r cs) where
+  base-taken : None r (underAll U kinds) → Back fresh registerRows (Good U) false r cs
+  unfolding rowOf
+  base-taken none =
+      let h = kinds-none r (HeaderWhere U r) (underAll U kinds) cs none b in
+      let same = read-signed w32 (r .base) (small (r .base) (w .base)) in
+      record {
+        before = fresh;
+        front = [];
+        command = baseCommand (r .base);
+        good = record { within = fresh-within; body = inl (refl, refl) };
+        allowed = record { byte = omega arith; here = refl; operands = (fits-ofZ (fits-signed w32 (r .base) (small (r .base) (w .base))) .fits, tt); passes = rw same (base-iff (r .base) .1 (w .base)) };
+        after = rw same (base-back r w (none .0) (none .1 .0));
+        ends-is = refl;
+        whole = h .whole ∙ rw (h .form .1 tt);
+      }
+
+  choice-taken : (n : ℕ) → r .choices ≡ suc n → None r (underAll U (termKind ∷ [])) → Back fresh registerRows (Good U) false r cs
+  unfolding rowOf
+  choice-taken n e none =
+      let r′ = lessChoice r n in
+      let (w′, p) = choice-next r w n e (none .0) in
+      let l = kinds-less (HeaderWhere U r) r r′ (under U choiceKind) (afterChoices U) none none cs n e refl (λ i d k h u. h u ∙ ap (λ c. choiceCommand (c .0) (c .1)) (choice-less r w n e i k)) b in
+      record {
+        before = r′;
+        front = l .front;
+        command = choiceCommand (tank r n) (minute r n);
+        good = record { within = w′; body = inr (l .before) };
+        allowed = record {
+          byte = omega arith;
+          here = kinds-stand r′ (HeaderWhere U r) (under U choiceKind ∷ []) (l .front) (0x10 ∷ []) (choiceRow .follows) tt (header-stands U r) (kinds-none r′ (ToChoices U r′) (afterChoices U) (l .front) none (l .before));
+          operands = (omega (arith, p .fits .tank-within), (omega (arith, p .fits .minute-within), tt));
+          passes = choice-iff _ _ _ _ _ .1 p;
+        };
+        after = choice-back r w n e;
+        ends-is = refl;
+        whole = l .whole ∙ rw (l .form .1 tt);
+      }
+
+  term-taken : (k : ℕ) → r .terms ≡ suc k → Unit {0} → Back fresh registerRows (Good U) false r cs
+  unfolding rowOf
+  term-taken k e none =
+      let r′ = lessTerm r k in
+      let (w′, p) = term-next r w k e in
+      let h : natAbs (coefficient r k) ≤ maxBase = omega (arith, p .fits .coefficient-within) in
+      let same = read-signed w32 (coefficient r k) (small (coefficient r k) h) in
+      let l = kinds-less (ToChoices U r) r r′ (under U termKind) [] tt tt cs k e refl (λ i d k′ h u. h u ∙ ap (λ c. termCommand (c .0) (c .1)) (term-less r w k e i k′)) b in
+      record {
+        before = r′;
+        front = l .front;
+        command = termCommand (mask r k) (coefficient r k);
+        good = record { within = w′; body = inr (l .before) };
+        allowed = record {
+          byte = omega arith;
+          here = kinds-stand r′ (HeaderWhere U r) (underAll U kinds) (l .front) (0x10 ∷ []) (termRow .follows) tt (header-stands U r) (l .before);
+          operands = (omega (arith, p .fits .mask-names, pow-mono (w .choices .few)), (fits-ofZ (fits-signed w32 (coefficient r k) (small (coefficient r k) h)) .fits, tt));
+          passes = rw same (term-iff (r .choices) k (termAt r′ (k - 1)) (mask r k) (coefficient r k) .1 p);
+        };
+        after = rw same (term-back r w k e);
+        ends-is = refl;
+        whole = l .whole ∙ rw (l .form .1 tt);
+      }
+
+end-taken : (r : Register) (cs : List Command) → Done U r cs → Back fresh registerRows (Good U) true r cs
+unfolding rowOf
+end-taken r cs d =
+    let b = d .body in
+    record {
+      before = r;
+      front = b .first;
+      command = endCommand;
+      good = record { within = d .valid .within; body = inr (b .is-first) };
+      allowed = record {
+        byte = omega arith;
+        here = kinds-stand r (HeaderWhere U r) (underAll U kinds) (b .first) (0x10 ∷ []) (endRow .follows) tt (header-stands U r) (b .is-first);
+        operands = tt;
+        passes = end-iff (r .choices) .1 (d .valid .some-choice);
+      };
+      after = refl;
+      ends-is = refl;
+      whole = b .whole ∙ rw (b .is-second .whole, b .is-second .form .1 tt);
+    }
+
+pub laws : Laws fresh registerRows Good Done
+laws = record {
+  starts = λ B. record { within = fresh-within; body = inl (refl, refl) };
+  grows = λ B. base-grows B ▹ choice-grows B ▹ term-grows B ▹ end-grows B ▹ tt;
+  back = λ r cs g. ⊎-elim (λ h. inl h) (λ b. inr (by-kind (Back fresh registerRows (Good U) false r cs) r (underAll U kinds) (base-taken r cs (g .within) b) (choice-taken r cs (g .within) b, (term-taken r cs (g .within) b, tt)))) (g .body);
+  back-end = end-taken;
+}
