@@ -6,7 +6,7 @@ use mathlib.Core.Path.{_≡_, refl, ap, _∙_}
 use mathlib.Core.List.{List, [], _∷_, _++_, flatMap}
 use lib.IntN.{ℤ, pos, natAbs}
 use lib.ListN.{length, length-append}
-use lib.Dec.{eqb, leb→le}
+use lib.Dec.{eqb}
 use mir.Syntax.{w64}
 use mir.Val.{SFits}
 use Rattle.integers.specs.Lists.{joinBelow}
@@ -85,7 +85,10 @@ lines-short read w n p b c g =
           (small-no-longer (pos (read .number)) (omega arith), (small-no-longer (pos (read .position)) (omega arith), tt)),
     )))
 
+pub longest-is : longestListing ≡ 929
+unfolding longestListing line flatMap decimal digits digitsTo
+longest-is = refl
+
 -- the room that users are told is enough for the longest listing
 pub longest-fits : longestListing ≤ listingRoom
-unfolding longestListing line flatMap decimal digits digitsTo
-longest-fits = leb→le longestListing listingRoom tt
+longest-fits = omega (arith, longest-is)

@@ -9,7 +9,7 @@ use Rattle.register.specs.declared.Register.{Register}
 use Rattle.register.specs.Register.{tank, minute}
 use Rattle.listing.specs.Listing.{choiceLine, fedLine}
 
--- of a choice: its `T` line under `T`, and else its `F` line where it is fed
+-- of a choice: with `T` its `T` line, and else its `F` line where it is fed
 abbrev pub lineUnder : ℕ → Bool → ℕ → ℕ → ℕ → List ℕ
 lineUnder letter fed choice tank minute = cond (eqb letter 0x54) (choiceLine choice tank minute) (cond fed (fedLine tank minute) [])
 

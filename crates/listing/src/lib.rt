@@ -25,7 +25,7 @@ impl Listing {
     pub const MAX_BYTES: usize = 4096;
 }
 
-// Writes the line of a choice under a letter: `T`, or `F` where it is fed. Returns the position after it.
+// Writes the line of a choice with a letter: `T`, or `F` where it is fed. Returns the position after it.
 fn put_choice(
     out: &mut [u8],
     at: usize,
@@ -51,7 +51,7 @@ fn put_choice(
     at
 }
 
-// Writes the line of each choice under a letter. Returns the position after them.
+// Writes the line of each choice with a letter. Returns the position after them.
 fn put_choices(register: Register, plan: u32, letter: u8, out: &mut [u8], start: usize) -> usize
     requires { ⌜ register .choices ≤ maxChoices ⌝ }
     requires { ⌜ start + length (linesUnder letter register plan) ≤ length (now out) ⌝ }

@@ -17,7 +17,7 @@ use Rattle.register.specs.declared.Register.{Register}
 use Rattle.register.specs.Register.{coefficient}
 use Rattle.register.specs.Valid as R
 use Rattle.scheme.specs.declared.Scheme.{Scheme}
-use Rattle.scheme.specs.Scheme.{maxVariables, variables}
+use Rattle.scheme.specs.Scheme.{variables}
 use Rattle.scheme.specs.Valid.{Valid}
 use Rattle.scheme.proofs.Accept.{variables-within}
 use Rattle.certificate.specs.Certificate.{Multiplier}
@@ -99,8 +99,8 @@ module _ (c : ℕ → ℤ) (r : Register) (s : Scheme) where
   unfolding encodePlain encodeWith
   length-plain = simp length-append (omega (arith, length-scale (plain c r s .scale) (plain c r s .target), length-multipliers (plain c r s .multipliers) ten-plain))
 
--- the room by its numbers
-room-is : ownRoom ≡ 14 + 20 * maxVariables
+-- the room that users are told
+pub room-is : ownRoom ≡ 1_294
 unfolding commandSize total byKey arity
 room-is = refl
 
