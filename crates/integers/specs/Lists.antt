@@ -16,6 +16,11 @@ unfoldable pub allBelow : ℕ → (ℕ → Bool) → Bool
 allBelow zero f = true
 allBelow (suc n) f = allBelow n f && f n
 
+-- a test that passes at some of 0, 1, .. n − 1
+abbrev pub anyBelow : ℕ → (ℕ → Bool) → Bool
+anyBelow zero f = false
+anyBelow (suc n) f = anyBelow n f || f n
+
 -- the first number below n at which a test passes, or n where there is none
 unfoldable pub firstBelow : ℕ → (ℕ → Bool) → ℕ
 firstBelow zero f = 0

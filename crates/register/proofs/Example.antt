@@ -23,4 +23,8 @@ exampleRegister = record {
   minutes = 480 ∷ 720 ∷ 480 ∷ replicate 29 0;
   masks = 1 ∷ 2 ∷ 7 ∷ replicate 253 0;
   coefficients = negsuc 5 ∷ negsuc 3 ∷ pos 5 ∷ replicate 253 (pos 0);
+  windows = 0;
+  «window_tanks» = replicate 64 0;
+  «window_froms» = replicate 64 0;
+  «window_tos» = replicate 64 0;
 }

@@ -18,18 +18,19 @@ use Rattle.wire.specs.Checks.{refusal}
 use Rattle.wire.specs.Rows.{isAmong, rowOf}
 use Rattle.wire.specs.Encoding.{Command, Fit}
 use Rattle.wire.specs.Grammar.{Only, Among, Kind, Kinds}
-use Rattle.wire.proofs.Encoding.{fit-none, fit-one, fit-two}
+use Rattle.wire.proofs.Encoding.{fit-none, fit-one, fit-two, fit-three}
 use Rattle.wire.proofs.Grammar.{lastFrom, said, None, Entries, apart-not, among-test, kinds-none, none-kinds, kinds-absent, kinds-stand, kinds-more, kinds-less, by-kind, under, underAll}
 use Rattle.wire.proofs.Accepting.{Grows, Back, Laws}
 use Rattle.wire.proofs.Ends.{Ends}
 use Rattle.register.specs.declared.Register.{Register}
 use Rattle.register.specs.Limits.{maxBase}
-use Rattle.register.specs.Register.{tank, minute, mask, coefficient, fresh, withBase, withChoice, withTerm}
-use Rattle.register.specs.Format.{baseRow, choiceRow, termRow, endRow, baseChecks, registerRows}
-use Rattle.register.specs.Valid.{Within, Valid}
-use Rattle.register.specs.Encoding.{baseCommand, choiceCommand, termCommand, endCommand, choiceKind, termKind, kinds}
-use Rattle.register.proofs.Passes.{base-iff, choice-iff, term-iff, end-iff}
-use Rattle.register.proofs.Entries.{fresh-within, base-more, base-back, choice-kept, choice-new, choice-more, lessChoice, choice-less, choice-back, choice-next, termAt, term-kept, term-new, term-more, lessTerm, term-less, term-back, term-next}
+use Rattle.register.specs.Register.{tank, minute, mask, coefficient, windowTank, windowFrom, windowTo, fresh, withBase, withChoice, withTerm, withWindow}
+use Rattle.register.specs.Format.{baseRow, choiceRow, termRow, windowRow, endRow, baseChecks, registerRows}
+use Rattle.register.specs.Valid.{Within, Valid, windowAt}
+use Rattle.register.specs.Encoding.{baseCommand, choiceCommand, termCommand, windowCommand, endCommand, choiceKind, termKind, windowKind, kinds}
+use Rattle.register.proofs.Passes.{base-iff, choice-iff, term-iff, window-iff, end-iff}
+use Rattle.register.proofs.MayFeed.{may-iff}
+use Rattle.register.proofs.Entries.{fresh-within, base-more, base-back, choice-kept, choice-new, choice-more, lessChoice, choice-less, choice-back, choice-next, termAt, term-kept, term-new, term-more, lessTerm, term-less, term-back, term-next, window-kept, window-new, window-more, lessWindow, window-less, window-back, window-next}
 
 -- ---- what has been read; what commands say of it is known where B holds
 
@@ -56,13 +57,21 @@ header-stands B r h = rw (h .whole) (inl (h .form .0))
 -- ---- each row keeps it
 
 module _ (B : Type 0) where
-  -- the kinds after the choices
+  -- the kinds after the windows, and after the choices
+
+  abbrev afterWindows : List (Kind Register)
+  afterWindows = underAll B (choiceKind ∷ termKind ∷ [])
+
   abbrev afterChoices : List (Kind Register)
   afterChoices = underAll B (termKind ∷ [])
 
-  -- up to the choices
+  -- up to the windows, and to the choices
+
+  abbrev ToWindows : Register → List Command → Type 0
+  ToWindows r = Entries (HeaderWhere B r) r (under B windowKind)
+
   abbrev ToChoices : Register → List Command → Type 0
-  ToChoices r = Entries (HeaderWhere B r) r (under B choiceKind)
+  ToChoices r = Entries (ToWindows r) r (under B choiceKind)
 
   base-grows : Grows B (Good B) (Done B) 0x10 baseRow
   unfolding fresh
@@ -73,7 +82,7 @@ module _ (B : Type 0) where
           let r′ = withBase r (toZ w32 (getD xs 0 0)) in
           record {
             within = base-more r (g .within) (toZ w32 (getD xs 0 0)) (base-iff _ .0 q);
-            body = inr (none-kinds r′ (HeaderWhere B r′) (underAll B kinds) _ (ap (λ r. r .choices) a, (ap (λ r. r .terms) a, tt))
+            body = inr (none-kinds r′ (HeaderWhere B r′) (underAll B kinds) _ (ap (λ r. r .windows) a, (ap (λ r. r .choices) a, (ap (λ r. r .terms) a, tt)))
                 (record { command = record { byte = 0x10; operands = xs }; form = (refl, λ b. let (f, l) = fit-one 4 xs (fit b) in said 0x10 {ys = ofZ w32 (toZ w32 (getD xs 0 0)) ∷ []} (f ∙ rw (ofZ-toZ (record { fits = l })))); whole = rw b }));
           }
 
@@ -84,10 +93,10 @@ module _ (B : Type 0) where
         let m = getD xs 1 0 in
         let b = followed (choiceRow .follows) refl e g in
         let none = kinds-absent r (ToChoices r) afterChoices cs (choiceRow .follows) tt e b in
-        let p = choice-iff (r .choices) _ _ t m .0 q in
+        let (p, may) = choice-iff (r .choices) _ _ t m _ .0 q in
         record {
-          within = choice-more r (g .within) t m (none .0) p;
-          body = inr (kinds-more (HeaderWhere B r) r (withChoice r t m) (under B choiceKind) afterChoices none none cs (record { byte = 0x11; operands = xs }) refl
+          within = choice-more r (g .within) t m (none .0) p (may-iff (r .«window_tanks») (r .«window_froms») (r .«window_tos») t m (r .windows) .0 may);
+          body = inr (kinds-more (ToWindows r) r (withChoice r t m) (under B choiceKind) afterChoices none none cs (record { byte = 0x11; operands = xs }) refl
               (λ i d l h b. h b ∙ ap (λ c. choiceCommand (c .0) (c .1)) (sym (choice-kept r (g .within) t m i l)))
               (inl refl, λ b. said 0x11 (fit-two 2 2 xs (fit b) .0) ∙ ap (λ c. choiceCommand (c .0) (c .1)) (sym (choice-new r (g .within) t m (p .few)))) b);
         };
@@ -105,6 +114,23 @@ module _ (B : Type 0) where
               (λ i d l h b. h b ∙ ap (λ c. termCommand (c .0) (c .1)) (sym (term-kept r (g .within) m z i l)))
               (inl refl, λ b. let (f, _, l) = fit-two 4 4 xs (fit b) in said 0x12 {ys = m ∷ ofZ w32 z ∷ []} (f ∙ rw (ofZ-toZ (record { fits = l }))) ∙ ap (λ c. termCommand (c .0) (c .1)) (sym (term-new r (g .within) m z (p .few))))
               (followed (termRow .follows) refl e g));
+        };
+  }
+
+  window-grows : Grows B (Good B) (Done B) 0x13 windowRow
+  window-grows = record {
+    on = λ r cs xs g e q fit.
+        let t = getD xs 0 0 in
+        let f = getD xs 1 0 in
+        let o = getD xs 2 0 in
+        let b = followed (windowRow .follows) refl e g in
+        let none = kinds-absent r (ToWindows r) afterWindows cs (windowRow .follows) tt e b in
+        let p = window-iff (r .windows) (windowAt r (r .windows - 1)) t f o .0 q in
+        record {
+          within = window-more r (g .within) t f o (none .0) p;
+          body = inr (kinds-more (HeaderWhere B r) r (withWindow r t f o) (under B windowKind) afterWindows none none cs (record { byte = 0x13; operands = xs }) refl
+              (λ i d l h b. h b ∙ ap (λ c. windowCommand (c .0) (c .1) (c .2)) (sym (window-kept r (g .within) t f o i l)))
+              (inl refl, λ b. said 0x13 (fit-three 2 2 2 xs (fit b)) ∙ ap (λ c. windowCommand (c .0) (c .1) (c .2)) (sym (window-new r (g .within) t f o (p .few)))) b);
         };
   }
 
@@ -143,7 +169,7 @@ module _ (r : Register) (cs : List Command) (w : Within r) (b : Body U r cs) whe
         command = baseCommand (r .base);
         good = record { within = fresh-within; body = inl (refl, refl) };
         allowed = record { byte = omega arith; here = refl; operands = (fits-ofZ (fits-signed w32 (r .base) (small (r .base) (w .base))) .fits, tt); passes = rw same (base-iff (r .base) .1 (w .base)) };
-        after = rw same (base-back r w (none .0) (none .1 .0));
+        after = rw same (base-back r w (none .0) (none .1 .0) (none .1 .1 .0));
         ends-is = refl;
         whole = h .whole ∙ rw (h .form .1 tt);
       }
@@ -152,8 +178,8 @@ module _ (r : Register) (cs : List Command) (w : Within r) (b : Body U r cs) whe
   unfolding rowOf
   choice-taken n e none =
       let r′ = lessChoice r n in
-      let (w′, p) = choice-next r w n e (none .0) in
-      let l = kinds-less (HeaderWhere U r) r r′ (under U choiceKind) (afterChoices U) none none cs n e refl (λ i d k h u. h u ∙ ap (λ c. choiceCommand (c .0) (c .1)) (choice-less r w n e i k)) b in
+      let (w′, p, may) = choice-next r w n e (none .0) in
+      let l = kinds-less (ToWindows U r) r r′ (under U choiceKind) (afterChoices U) none none cs n e refl (λ i d k h u. h u ∙ ap (λ c. choiceCommand (c .0) (c .1)) (choice-less r w n e i k)) b in
       record {
         before = r′;
         front = l .front;
@@ -161,11 +187,33 @@ module _ (r : Register) (cs : List Command) (w : Within r) (b : Body U r cs) whe
         good = record { within = w′; body = inr (l .before) };
         allowed = record {
           byte = omega arith;
-          here = kinds-stand r′ (HeaderWhere U r) (under U choiceKind ∷ []) (l .front) (0x10 ∷ []) (choiceRow .follows) tt (header-stands U r) (kinds-none r′ (ToChoices U r′) (afterChoices U) (l .front) none (l .before));
+          here = kinds-stand r′ (HeaderWhere U r) (underAll U (windowKind ∷ choiceKind ∷ [])) (l .front) (0x10 ∷ []) (choiceRow .follows) tt (header-stands U r) (kinds-none r′ (ToChoices U r′) (afterChoices U) (l .front) none (l .before));
           operands = (omega (arith, p .fits .tank-within), (omega (arith, p .fits .minute-within), tt));
-          passes = choice-iff _ _ _ _ _ .1 p;
+          passes = choice-iff _ _ _ _ _ _ .1 (p, may-iff (r .«window_tanks») (r .«window_froms») (r .«window_tos») (tank r n) (minute r n) (r .windows) .1 may);
         };
         after = choice-back r w n e;
+        ends-is = refl;
+        whole = l .whole ∙ rw (l .form .1 tt);
+      }
+
+  window-taken : (k : ℕ) → r .windows ≡ suc k → None r (underAll U (choiceKind ∷ termKind ∷ [])) → Back fresh registerRows (Good U) false r cs
+  unfolding rowOf
+  window-taken k e none =
+      let r′ = lessWindow r k in
+      let (w′, p) = window-next r w k e (none .0) in
+      let l = kinds-less (HeaderWhere U r) r r′ (under U windowKind) (afterWindows U) none none cs k e refl (λ i d l h u. h u ∙ ap (λ c. windowCommand (c .0) (c .1) (c .2)) (window-less r w k e i l)) b in
+      record {
+        before = r′;
+        front = l .front;
+        command = windowCommand (windowTank r k) (windowFrom r k) (windowTo r k);
+        good = record { within = w′; body = inr (l .before) };
+        allowed = record {
+          byte = omega arith;
+          here = kinds-stand r′ (HeaderWhere U r) (under U windowKind ∷ []) (l .front) (0x10 ∷ []) (windowRow .follows) tt (header-stands U r) (kinds-none r′ (ToWindows U r′) (afterWindows U) (l .front) none (l .before));
+          operands = (omega (arith, p .fits .tank-within), (omega (arith, p .fits .from-within), (omega (arith, p .fits .to-within), tt)));
+          passes = window-iff k (windowAt r′ (k - 1)) _ _ _ .1 p;
+        };
+        after = window-back r w k e;
         ends-is = refl;
         whole = l .whole ∙ rw (l .form .1 tt);
       }
@@ -217,7 +265,7 @@ end-taken r cs d =
 pub laws : Laws fresh registerRows Good Done
 laws = record {
   starts = λ B. record { within = fresh-within; body = inl (refl, refl) };
-  grows = λ B. base-grows B ▹ choice-grows B ▹ term-grows B ▹ end-grows B ▹ tt;
-  back = λ r cs g. ⊎-elim (λ h. inl h) (λ b. inr (by-kind (Back fresh registerRows (Good U) false r cs) r (underAll U kinds) (base-taken r cs (g .within) b) (choice-taken r cs (g .within) b, (term-taken r cs (g .within) b, tt)))) (g .body);
+  grows = λ B. base-grows B ▹ choice-grows B ▹ term-grows B ▹ window-grows B ▹ end-grows B ▹ tt;
+  back = λ r cs g. ⊎-elim (λ h. inl h) (λ b. inr (by-kind (Back fresh registerRows (Good U) false r cs) r (underAll U kinds) (base-taken r cs (g .within) b) (window-taken r cs (g .within) b, (choice-taken r cs (g .within) b, (term-taken r cs (g .within) b, tt))))) (g .body);
   back-end = end-taken;
 }

@@ -2,7 +2,9 @@ pub mod Example
 pub mod Worked
 pub mod Answers
 pub mod Passes
+pub mod MayFeed
 pub mod Entries
+pub mod Passed
 pub mod Laws
 pub mod Accept
 pub mod Canonical
@@ -10,3 +12,4 @@ pub mod Lowest
 pub mod Opened
 pub mod Prefix
 pub mod Position
+pub mod Before

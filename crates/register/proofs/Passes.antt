@@ -1,27 +1,27 @@
 -- What the checks of a command say of its operands: none fails just where these are as they should be.
 use mathlib.Core.Path.{_≡_}
-use mathlib.Core.Logic.{_↔_, inl, inr, ⊎-elim}
-use mathlib.Core.Bool.{true, or-false, or-true, and-false, _||_, _&&_}
+use mathlib.Core.Logic.{_⊎_, _↔_, inl, inr, ⊎-elim}
+use mathlib.Core.Bool.{Bool, true, or-false, or-true, and-false, _||_, _&&_}
 use mathlib.Core.List.{[], _∷_}
-use Prim.Native.Nat.{ℕ, _^_, _≤_}
+use Prim.Native.Nat.{ℕ, _^_, _≤_, _<_}
 use native.Mathlib.Omega.{arith}
 use lib.Dec.{eqb, ltb}
 use lib.IntN.{ℤ, natAbs}
 use borrow.Author.Tests.{eqb-true, eqb-false, ltb-true, ltb-false, leb-false, not-false, lt-ltb, le-ltb, lt-leb, eq-eqb, ne-eqb}
 use Rattle.integers.specs.Lists.{comesBefore}
-use Rattle.integers.proofs.Lists.{or-none, or-either, and-both}
+use Rattle.integers.proofs.Lists.{flag, or-none, or-either, and-both}
 use Rattle.integers.proofs.Entries.{Next}
 use Rattle.wire.specs.Checks.{refusal}
 use Rattle.wire.proofs.Checks.{refusal-none, none-refusal}
-use Rattle.register.specs.Limits.{maxChoices, maxTerms, maxBase, maxTank, maxMinute, maxCoefficient}
-use Rattle.register.specs.Format.{baseChecks, choiceChecks, termChecks, endChecks}
-use Rattle.register.specs.Valid.{Choice, Before, Term, Rises}
+use Rattle.register.specs.Limits.{maxChoices, maxTerms, maxWindows, maxBase, maxTank, maxMinute, maxCoefficient, maxTo}
+use Rattle.register.specs.Format.{baseChecks, choiceChecks, termChecks, windowChecks, endChecks}
+use Rattle.register.specs.Valid.{Choice, Before, Term, Rises, Window}
 
 pub base-iff : (base : ℤ) → (refusal (baseChecks base) ≡ 0) ↔ (natAbs base ≤ maxBase)
 unfolding baseChecks
 base-iff base = ((λ e. ltb-false _ _ (refusal-none (baseChecks base) (omega arith) e .0)), λ h. none-refusal (baseChecks base) (le-ltb _ _ h, tt))
 
--- by tank, then minute
+-- by tank, then minute or "from"
 module _ (tank₀ minute₀ tank minute : ℕ) where
   pub earlier : comesBefore (tank₀ ∷ minute₀ ∷ []) (tank ∷ minute ∷ []) ≡ (ltb tank₀ tank || eqb tank₀ tank && ltb minute₀ minute)
   unfolding comesBefore
@@ -43,34 +43,44 @@ module _ (tank₀ minute₀ tank minute : ℕ) where
 abbrev pub NextChoice : (n tank₀ minute₀ tank minute : ℕ) → Type 0
 NextChoice n tank₀ minute₀ tank minute = Next maxChoices n (tank₀, minute₀) (λ c. Choice (c .0) (c .1)) Before (tank, minute)
 
-pub choice-iff : (n tank₀ minute₀ tank minute : ℕ) → (refusal (choiceChecks n tank₀ minute₀ tank minute) ≡ 0) ↔ NextChoice n tank₀ minute₀ tank minute
+pub choice-iff : (n tank₀ minute₀ tank minute : ℕ) (may : Bool) → (refusal (choiceChecks n tank₀ minute₀ tank minute may) ≡ 0) ↔ (NextChoice n tank₀ minute₀ tank minute × (may ≡ true))
 unfolding choiceChecks
-choice-iff n tank₀ minute₀ tank minute = (to, from)
+choice-iff n tank₀ minute₀ tank minute may = (to, from)
   where
-    to : refusal (choiceChecks n tank₀ minute₀ tank minute) ≡ 0 → NextChoice n tank₀ minute₀ tank minute
+    to : refusal (choiceChecks n tank₀ minute₀ tank minute may) ≡ 0 → NextChoice n tank₀ minute₀ tank minute × (may ≡ true)
     to e =
-        let p = refusal-none (choiceChecks n tank₀ minute₀ tank minute) (omega arith) e in
+        let p = refusal-none (choiceChecks n tank₀ minute₀ tank minute may) (omega arith) e in
         let r = or-none _ _ (p .1 .0) in
-        let q = or-none _ _ (r .0) in
-        record {
-          few = leb-false maxChoices n (p .0);
-          fits = record {
-            tank-above = omega (arith, eqb-false tank 0 (q .0));
-            tank-within = ltb-false maxTank tank (q .1);
-            minute-within = ltb-false maxMinute minute (r .1);
-          };
-          rises = ⊎-elim (λ a. inl (eqb-true n 0 a)) (λ b. inr (later-iff tank₀ minute₀ tank minute .0 (rw earlier at b))) (or-either _ _ (not-false _ (p .1 .1 .0)));
-        }
+        let q = or-none _ _ (r .0) in (
+          record {
+            few = leb-false maxChoices n (p .0);
+            fits = record {
+              tank-above = omega (arith, eqb-false tank 0 (q .0));
+              tank-within = ltb-false maxTank tank (q .1);
+              minute-within = ltb-false maxMinute minute (r .1);
+            };
+            rises = ⊎-elim (λ a. inl (eqb-true n 0 a)) (λ b. inr (later-iff tank₀ minute₀ tank minute .0 (rw earlier at b))) (or-either _ _ (not-false _ (p .1 .1 .0)));
+          },
+          not-false may (p .1 .1 .1 .0),
+        )
 
-    from : NextChoice n tank₀ minute₀ tank minute → refusal (choiceChecks n tank₀ minute₀ tank minute) ≡ 0
-    from p =
-        none-refusal (choiceChecks n tank₀ minute₀ tank minute) (
+    from : NextChoice n tank₀ minute₀ tank minute × (may ≡ true) → refusal (choiceChecks n tank₀ minute₀ tank minute may) ≡ 0
+    from (p, m) =
+        none-refusal (choiceChecks n tank₀ minute₀ tank minute may) (
           lt-leb maxChoices n (p .few),
           (
             rw (ne-eqb tank 0 (omega (arith, p .fits .tank-above)), le-ltb maxTank tank (p .fits .tank-within), le-ltb maxMinute minute (p .fits .minute-within)),
-            (⊎-elim (λ (e : n ≡ 0). rw e) (λ l. rw (earlier, later-iff tank₀ minute₀ tank minute .1 l, or-true)) (p .rises), tt),
+            (⊎-elim (λ (e : n ≡ 0). rw e) (λ l. rw (earlier, later-iff tank₀ minute₀ tank minute .1 l, or-true)) (p .rises), (rw m, tt)),
           ),
         )
+
+-- a choice that does not rise is refused before its windows are looked at
+pub choice-settled : (n tank₀ minute₀ tank minute : ℕ) (a b : Bool) → ((n ≡ 0) ⊎ (tank₀ ≤ tank) → a ≡ b) → refusal (choiceChecks n tank₀ minute₀ tank minute a) ≡ refusal (choiceChecks n tank₀ minute₀ tank minute b)
+unfolding refusal choiceChecks
+choice-settled n tank₀ minute₀ tank minute a b h =
+    flag (eqb n 0 || comesBefore (tank₀ ∷ minute₀ ∷ []) (tank ∷ minute ∷ []))
+    (λ t. rw (h (⊎-elim (λ z. inl (eqb-true n 0 z)) (λ l. inr (⊎-elim (λ (k : tank₀ < tank). omega arith) (λ k. omega (arith, k .0)) (later-iff tank₀ minute₀ tank minute .0 (rw earlier at l)))) (or-either _ _ t))))
+    (λ t. rw t)
 
 abbrev pub NextTerm : (n m : ℕ) → ℕ × ℤ → (mask : ℕ) → ℤ → Type 0
 NextTerm n m last mask coefficient = Next maxTerms m last (λ c. Term n (c .0) (c .1)) Rises (mask, coefficient)
@@ -104,6 +114,46 @@ term-iff n m last mask coefficient = (to, from)
             (
               rw (ne-eqb mask 0 (omega (arith, p .fits .mask-not-0)), lt-leb (2 ^ n) mask (p .fits .mask-names)),
               (⊎-elim (λ (e : m ≡ 0). rw e) (λ l. rw (lt-ltb (last .0) mask l, or-true)) (p .rises), tt),
+            ),
+          ),
+        )
+
+abbrev pub NextWindow : (k : ℕ) → ℕ × ℕ × ℕ → (tank from to : ℕ) → Type 0
+NextWindow k last tank from to = Next maxWindows k last (λ c. Window (c .0) (c .1) (c .2)) (λ c d. Before (c .0, c .1) (d .0, d .1)) (tank, from, to)
+
+pub window-iff : (k : ℕ) (last : ℕ × ℕ × ℕ) (tank from to : ℕ) → (refusal (windowChecks k (last .0) (last .1) tank from to) ≡ 0) ↔ NextWindow k last tank from to
+unfolding windowChecks
+window-iff k last tank from to = (there, back)
+  where
+    there : refusal (windowChecks k (last .0) (last .1) tank from to) ≡ 0 → NextWindow k last tank from to
+    there e =
+        let p = refusal-none (windowChecks k (last .0) (last .1) tank from to) (omega arith) e in
+        let a = or-none _ _ (p .1 .0) in
+        let b = or-none _ _ (a .0) in
+        let c = or-none _ _ (b .0) in
+        let d = or-none _ _ (c .0) in
+        record {
+          few = leb-false maxWindows k (p .0);
+          fits = record {
+            tank-above = omega (arith, eqb-false tank 0 (d .0));
+            tank-within = ltb-false maxTank tank (d .1);
+            from-within = ltb-false maxMinute from (c .1);
+            to-above = omega (arith, eqb-false to 0 (b .1));
+            to-within = ltb-false maxTo to (a .1);
+            ordered = leb-false to from (p .1 .1 .0);
+          };
+          rises = ⊎-elim (λ a. inl (eqb-true k 0 a)) (λ b. inr (later-iff (last .0) (last .1) tank from .0 (rw earlier at b))) (or-either _ _ (not-false _ (p .1 .1 .1 .0)));
+        }
+
+    back : NextWindow k last tank from to → refusal (windowChecks k (last .0) (last .1) tank from to) ≡ 0
+    back p =
+        none-refusal (windowChecks k (last .0) (last .1) tank from to) (
+          lt-leb maxWindows k (p .few),
+          (
+            rw (ne-eqb tank 0 (omega (arith, p .fits .tank-above)), le-ltb maxTank tank (p .fits .tank-within), le-ltb maxMinute from (p .fits .from-within), ne-eqb to 0 (omega (arith, p .fits .to-above)), le-ltb maxTo to (p .fits .to-within)),
+            (
+              lt-leb to from (p .fits .ordered),
+              (⊎-elim (λ (e : k ≡ 0). rw e) (λ l. rw (earlier, later-iff (last .0) (last .1) tank from .1 l, or-true)) (p .rises), tt),
             ),
           ),
         )

@@ -14,13 +14,17 @@ use Rattle.wire.proofs.Grammar.{each-below}
 use Rattle.wire.proofs.Encoding.{encode-append}
 use Rattle.wire.proofs.Walk.{counted, counted-append, accepts-sized, position-found, each-counted, each-length, each-around, entry-stands, stands-byte}
 use Rattle.register.specs.declared.Register.{Register}
-use Rattle.register.specs.Register.{tank, minute, mask, coefficient}
+use Rattle.register.specs.Register.{tank, minute, mask, coefficient, windowTank, windowFrom, windowTo}
 use Rattle.register.specs.Format.{registerPart}
 use Rattle.register.specs.Valid.{Valid}
-use Rattle.register.specs.Encoding.{baseCommand, choiceCommand, termCommand, endCommand, Header, choiceKind, termKind, Encodes, encodeRegister}
+use Rattle.register.specs.Encoding.{baseCommand, choiceCommand, termCommand, windowCommand, endCommand, Header, choiceKind, termKind, windowKind, Encodes, encodeRegister}
 use Rattle.register.specs.Position.{termPosition}
 use Rattle.register.proofs.Accept.{commands-accepted}
-use Rattle.register.proofs.Canonical.{choicesOf, termsOf, commandsOf, commandsOf-are, commandsOf-bytes}
+use Rattle.register.proofs.Canonical.{windowsOf, choicesOf, termsOf, commandsOf, commandsOf-are, commandsOf-bytes}
+
+-- a command in the middle
+around : (p f b e : List Command) (c : Command) → p ++ (f ++ (c ∷ b)) ++ e ≡ p ++ f ++ (c ∷ (b ++ e))
+around p f b e c = simp append-assoc
 
 -- ---- in every encoding
 
@@ -28,29 +32,33 @@ module _ (r : Register) (v : Valid r) (s : List ℕ) (e : Encodes r s) (t : ℕ)
   pub term-stands : Stands registerPart termKind r t (e .commands) (termPosition s t)
   unfolding termPosition
   term-stands =
-      rw (e .bytes) (entry-stands registerPart r (Header r) (Only (λ c. c ≡ endCommand)) (choiceKind ∷ []) [] termKind tt (λ ds h. rw (h .whole, h .form)) _ _ (e .commands) (commands-accepted r (e .commands) v (e .are)) (e .are) t l)
+      rw (e .bytes) (entry-stands registerPart r (Header r) (Only (λ c. c ≡ endCommand)) (windowKind ∷ choiceKind ∷ []) [] termKind tt (λ ds h. rw (h .whole, h .form)) _ _ (e .commands) (commands-accepted r (e .commands) v (e .are)) (e .are) t l)
 
   pub term-byte : Among (getD s (termPosition s t) 0) (termKind .bytes)
   term-byte = rw (e .bytes) (stands-byte registerPart termKind r t _ (e .commands) (rw (e .bytes) at term-stands))
 
--- ---- in the one that a writer makes: after 5 bytes of the base cost, 5 of each choice and 9 of each term before it
+-- ---- in the one that a writer makes: after 5 bytes of the base cost, 7 of each window, 5 of each choice and 9 of each term before it
 
 module _ (r : Register) (v : Valid r) where
+  abbrev windowOf : ℕ → Command
+  windowOf j = windowCommand (windowTank r j) (windowFrom r j) (windowTo r j)
+
   abbrev choiceOf : ℕ → Command
   choiceOf i = choiceCommand (tank r i) (minute r i)
 
   abbrev termOf : ℕ → Command
   termOf t = termCommand (mask r t) (coefficient r t)
 
-  pub canonical-position : (t : ℕ) → t < r .terms → termPosition (encodeRegister r) t ≡ 5 + 5 * r .choices + 9 * t
+  pub canonical-position : (t : ℕ) → t < r .terms → termPosition (encodeRegister r) t ≡ 5 + 7 * r .windows + 5 * r .choices + 9 * t
   unfolding termPosition encode flatMap encodeCommand fields rowOf bytesOf
   canonical-position t l =
+      let windows = each-below (λ j c. c ≡ windowOf j) windowOf (r .windows) (λ j l. refl) in
       let choices = each-below (λ i c. c ≡ choiceOf i) choiceOf (r .choices) (λ i l. refl) in
       let m = each-around (λ t c. c ≡ termOf t) (r .terms) (termsOf r) (each-below _ termOf (r .terms) (λ t l. refl)) t l in
-      let front = (baseCommand (r .base) ∷ []) ++ choicesOf r ++ m .front in
-      let whole : commandsOf r ≡ front ++ (m .command ∷ (m .back ++ (endCommand ∷ []))) = ap (λ x. (baseCommand (r .base) ∷ []) ++ choicesOf r ++ x ++ (endCommand ∷ [])) (m .whole) ∙ simp append-assoc in
+      let front = (baseCommand (r .base) ∷ []) ++ windowsOf r ++ choicesOf r ++ m .front in
+      let whole : commandsOf r ≡ front ++ (m .command ∷ (m .back ++ (endCommand ∷ []))) = ap (λ x. (baseCommand (r .base) ∷ []) ++ windowsOf r ++ choicesOf r ++ x ++ (endCommand ∷ [])) (m .whole) ∙ around ((baseCommand (r .base) ∷ []) ++ windowsOf r ++ choicesOf r) (m .front) (m .back) (endCommand ∷ []) (m .command) in
       let n : counted (termKind .bytes) front ≡ t =
-      rw (counted-append, counted-append, each-counted (termKind .bytes) _ 0 (r .choices) (choicesOf r) (λ i c d. rw d) choices, each-counted (termKind .bytes) _ 1 t (m .front) (λ i c d. rw d) (m .before)) (omega arith) in
-      let k : length (encode registerPart front) ≡ 5 + 5 * r .choices + 9 * t =
-      rw (encode-append registerPart (choicesOf r) (m .front), length-append (encode registerPart (choicesOf r)) (encode registerPart (m .front)), each-length registerPart _ 5 (r .choices) (choicesOf r) (λ i c d. rw d) choices, each-length registerPart _ 9 t (m .front) (λ i c d. rw d) (m .before)) (omega arith) in
+      rw (counted-append, counted-append, counted-append, each-counted (termKind .bytes) _ 0 (r .windows) (windowsOf r) (λ i c d. rw d) windows, each-counted (termKind .bytes) _ 0 (r .choices) (choicesOf r) (λ i c d. rw d) choices, each-counted (termKind .bytes) _ 1 t (m .front) (λ i c d. rw d) (m .before)) (omega arith) in
+      let k : length (encode registerPart front) ≡ 5 + 7 * r .windows + 5 * r .choices + 9 * t =
+      rw (encode-append registerPart (windowsOf r ++ choicesOf r) (m .front), encode-append registerPart (windowsOf r) (choicesOf r), length-append (encode registerPart (windowsOf r) ++ encode registerPart (choicesOf r)) (encode registerPart (m .front)), length-append (encode registerPart (windowsOf r)) (encode registerPart (choicesOf r)), each-length registerPart _ 7 (r .windows) (windowsOf r) (λ i c d. rw d) windows, each-length registerPart _ 5 (r .choices) (choicesOf r) (λ i c d. rw d) choices, each-length registerPart _ 9 t (m .front) (λ i c d. rw d) (m .before)) (omega arith) in
       ap (λ s. termPosition s t) (sym (commandsOf-bytes r)) ∙ position-found registerPart (termKind .bytes) (commandsOf r) front _ (m .command) t (accepts-sized registerPart (commandsOf r) _ _ (commands-accepted r (commandsOf r) v (commandsOf-are r))) whole n (rw (m .form)) ∙ k

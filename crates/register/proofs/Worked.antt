@@ -10,7 +10,7 @@ use Rattle.register.specs.Register.{fresh}
 use Rattle.integers.specs.Lists.{comesBefore}
 use Rattle.register.specs.declared.Register.{Register}
 use Rattle.register.proofs.Example.{registerBytes}
-use Rattle.register.specs.Format.{baseChecks, choiceChecks, termChecks, endChecks, registerInJob, registerByItself}
+use Rattle.register.specs.Format.{baseChecks, choiceChecks, termChecks, windowChecks, endChecks, registerInJob, registerByItself}
 
 -- number and position of a refusal, 0 and the position past the end where there is none
 abbrev answer : Reading (Progress Register) → ℕ × ℕ
@@ -25,7 +25,9 @@ pub answers : map (λ s. answer (registerByItself s))
     ∷ (0x10 ∷ 0 ∷ 0 ∷ 0 ∷ 0 ∷ 0x11 ∷ 0 ∷ 0 ∷ 0 ∷ 0 ∷ [])
     ∷ (0x10 ∷ 0 ∷ 0 ∷ 0 ∷ 0 ∷ 0x11 ∷ 1 ∷ 0 ∷ 0 ∷ 0 ∷ 0x12 ∷ 2 ∷ 0 ∷ 0 ∷ 0 ∷ 1 ∷ 0 ∷ 0 ∷ 0 ∷ [])
     ∷ (0x10 ∷ 0 ∷ 0 ∷ 0 ∷ 0 ∷ 0x11 ∷ 2 ∷ 0 ∷ 0 ∷ 0 ∷ 0x11 ∷ 1 ∷ 0 ∷ 0 ∷ 0 ∷ [])
+    ∷ (0x10 ∷ 0 ∷ 0 ∷ 0 ∷ 0 ∷ 0x13 ∷ 1 ∷ 0 ∷ 2 ∷ 0 ∷ 2 ∷ 0 ∷ [])
+    ∷ (0x10 ∷ 0 ∷ 0 ∷ 0 ∷ 0 ∷ 0x13 ∷ 1 ∷ 0 ∷ 2 ∷ 0 ∷ 4 ∷ 0 ∷ 0x11 ∷ 1 ∷ 0 ∷ 3 ∷ 0 ∷ 0x11 ∷ 1 ∷ 0 ∷ 4 ∷ 0 ∷ [])
     ∷ [])
-    ≡ (0, 48) ∷ (1, 0) ∷ (2, 0) ∷ (3, 5) ∷ (4, 5) ∷ (5, 10) ∷ (7, 10) ∷ []
-unfolding registerByItself registerInJob byItself readPart readFrom run follow step command commandChecks checksAt afterAt operandsAt total natAt little refusal rowOf fresh baseChecks choiceChecks termChecks endChecks comesBefore
+    ≡ (0, 48) ∷ (1, 0) ∷ (2, 0) ∷ (3, 5) ∷ (4, 5) ∷ (5, 10) ∷ (7, 10) ∷ (6, 5) ∷ (13, 17) ∷ []
+unfolding registerByItself registerInJob byItself readPart readFrom run follow step command commandChecks checksAt afterAt operandsAt total natAt little refusal rowOf fresh baseChecks choiceChecks termChecks windowChecks endChecks comesBefore
 answers = refl

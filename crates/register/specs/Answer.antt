@@ -1,5 +1,8 @@
 -- What the register's calls answer, by what reading leads to.
-use Prim.Native.Nat.{ℕ, _-_}
+use Prim.Native.Nat.{ℕ, _-_, _<_, _≤_}
+use mathlib.Core.Path.{_≡_}
+use mathlib.Core.List.{List}
+use lib.ListN.{getD}
 use Rattle.wire.specs.Part.{Reading, refused, accepted}
 use Rattle.wire.specs.Rows.{Progress}
 use Rattle.register.specs.declared.Register.{Register}
@@ -17,7 +20,18 @@ seenOf p = let r = p .parsed in record {
   tank = tank r (r .choices - 1);
   minute = minute r (r .choices - 1);
   mask = mask r (r .terms - 1);
+  windows = r .windows;
 }
+
+-- that, and the windows, whose tanks do not fall. The first `passed` of them are of tanks below the last choice's: a choice that
+-- rises need not look at these
+pub record Given (p : Progress Register) (seen : Seen) (passed : ℕ) (tanks froms tos : List ℕ) : Type 0 where
+  pub seen-is : seenOf p ≡ seen
+  pub tanks-are : p .parsed .«window_tanks» ≡ tanks
+  pub froms-are : p .parsed .«window_froms» ≡ froms
+  pub tos-are : p .parsed .«window_tos» ≡ tos
+  pub no-fall : (i j : ℕ) → i ≤ j → j < seen .windows → getD tanks i 0 ≤ getD tanks j 0
+  pub earlier : (j : ℕ) → j < passed → (1 ≤ seen .choices) × (getD tanks j 0 < seen .tank)
 
 -- for the reader of a job: a refusal's number and position, or 0, the position past the end and the register
 

@@ -1,5 +1,5 @@
--- The register's bytes: `10` base cost, `11` for each choice, `12` for each term, `1F`. Written without the reader: of the part's
--- rows only the widths of operands are used.
+-- The register's bytes: `10` base cost, `13` for each window, `11` for each choice, `12` for each term, `1F`. Written without the
+-- reader: of the part's rows only the widths of operands are used.
 use Prim.Native.Nat.{ℕ}
 use mathlib.Core.Path.{_≡_}
 use mathlib.Core.List.{List, [], _∷_, _++_}
@@ -12,10 +12,10 @@ use Rattle.wire.specs.Encoding.{Command}
 use Rattle.wire.specs.Grammar.{Only, Then, Kind, Kinds}
 use Rattle.wire.specs.Grammar as G
 use Rattle.register.specs.declared.Register.{Register}
-use Rattle.register.specs.Register.{tank, minute, mask, coefficient}
+use Rattle.register.specs.Register.{tank, minute, mask, coefficient, windowTank, windowFrom, windowTo}
 use Rattle.register.specs.Format.{registerPart}
 
--- ---- an encoding: header, each choice in one of its forms, each term in one of its forms, end
+-- ---- an encoding: header, each window, choice and term in one of its forms, end
 
 -- `10` base cost
 abbrev pub baseCommand : ℤ → Command
@@ -38,9 +38,16 @@ termCommand mask coefficient = record { byte = 0x12; operands = mask ∷ ofZ w32
 abbrev pub termKind : Kind Register
 termKind = record { bytes = 0x12 ∷ []; count = λ r. r .terms; says = λ r t c. c ≡ termCommand (mask r t) (coefficient r t) }
 
+-- `13` tank, from, to
+abbrev pub windowCommand : (tank from to : ℕ) → Command
+windowCommand tank from to = record { byte = 0x13; operands = tank ∷ from ∷ to ∷ [] }
+
+abbrev pub windowKind : Kind Register
+windowKind = record { bytes = 0x13 ∷ []; count = λ r. r .windows; says = λ r j c. c ≡ windowCommand (windowTank r j) (windowFrom r j) (windowTo r j) }
+
 -- in this order
 abbrev pub kinds : List (Kind Register)
-kinds = choiceKind ∷ termKind ∷ []
+kinds = windowKind ∷ choiceKind ∷ termKind ∷ []
 
 -- `1F`
 abbrev pub endCommand : Command
@@ -68,7 +75,14 @@ encodeChoice tank minute = 0x11 ∷ (bytesOf 2 tank ++ bytesOf 2 minute)
 unfoldable pub encodeTerm : (mask : ℕ) → ℤ → List ℕ
 encodeTerm mask coefficient = 0x12 ∷ (bytesOf 4 mask ++ bytesOf 4 (ofZ w32 coefficient))
 
--- the choices, and the terms, one after the other
+-- `13` window: tank u16, from u16, to u16
+unfoldable pub encodeWindow : (tank from to : ℕ) → List ℕ
+encodeWindow tank from to = 0x13 ∷ (bytesOf 2 tank ++ (bytesOf 2 from ++ bytesOf 2 to))
+
+-- the windows, the choices, and the terms, one after the other
+
+abbrev pub encodeWindows : Register → List ℕ
+encodeWindows r = joinBelow (r .windows) (λ j. encodeWindow (windowTank r j) (windowFrom r j) (windowTo r j))
 
 abbrev pub encodeChoices : Register → List ℕ
 encodeChoices r = joinBelow (r .choices) (λ i. encodeChoice (tank r i) (minute r i))
@@ -78,7 +92,7 @@ encodeTerms r = joinBelow (r .terms) (λ t. encodeTerm (mask r t) (coefficient r
 
 -- all but the end
 abbrev pub encodeBody : Register → List ℕ
-encodeBody r = encodeBase (r .base) ++ encodeChoices r ++ encodeTerms r
+encodeBody r = encodeBase (r .base) ++ encodeWindows r ++ encodeChoices r ++ encodeTerms r
 
 unfoldable pub encodeRegister : Register → List ℕ
 encodeRegister r = encodeBody r ++ (0x1F ∷ [])

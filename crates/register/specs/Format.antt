@@ -1,18 +1,19 @@
--- The register's commands: `10` base cost, `11` choice, `12` term, `1F` end.
+-- The register's commands: `10` base cost, `11` choice, `12` term, `13` window, `1F` end.
 use Prim.Native.Nat.{ℕ, _-_, _^_}
-use mathlib.Core.Bool.{true, false, not, _||_}
+use mathlib.Core.Bool.{Bool, true, false, not, _&&_, _||_}
 use mathlib.Core.List.{List, [], _∷_}
 use lib.Dec.{ltb, leb, eqb}
 use lib.IntN.{ℤ, natAbs}
+use lib.ListN.{getD}
 use mir.Syntax.{w32}
 use mir.Val.{toZ}
-use Rattle.integers.specs.Lists.{comesBefore}
+use Rattle.integers.specs.Lists.{anyBelow, comesBefore}
 use Rattle.wire.specs.Checks.{Check, check}
 use Rattle.wire.specs.Part.{Part, Reading, readPart, byItself}
-use Rattle.wire.specs.Rows.{Progress, Row, partOf, unary, binary}
+use Rattle.wire.specs.Rows.{Progress, Row, partOf, unary, binary, ternary}
 use Rattle.register.specs.declared.Register.{Register}
-use Rattle.register.specs.Limits.{maxChoices, maxTerms, maxBase, maxTank, maxMinute, maxCoefficient}
-use Rattle.register.specs.Register.{tank, minute, mask, fresh, withBase, withChoice, withTerm}
+use Rattle.register.specs.Limits.{maxChoices, maxTerms, maxWindows, maxBase, maxTank, maxMinute, maxCoefficient, maxTo}
+use Rattle.register.specs.Register.{tank, minute, mask, windowTank, windowFrom, fresh, withBase, withChoice, withTerm, withWindow}
 
 -- base cost within ±1,000,000,000
 unfoldable pub baseChecks : ℤ → List Check
@@ -29,21 +30,31 @@ baseRow = record {
   last = false;
 }
 
--- up to 32 choices, in their ranges, rising strictly by tank, then minute: n choices were read, the last with tank₀, minute₀
-unfoldable pub choiceChecks : (n tank₀ minute₀ tank minute : ℕ) → List Check
-choiceChecks n tank₀ minute₀ tank minute =
+-- a test of whether a tank may be fed at a minute, by n windows with these tanks, "from" and "to": none of them is the tank's, or
+-- one of the tank's holds the minute, "from" ≤ minute < "to"
+abbrev pub mayFeed : (n : ℕ) (tanks froms tos : List ℕ) (tank minute : ℕ) → Bool
+mayFeed n tanks froms tos tank minute =
+    not (anyBelow n (λ j. eqb (getD tanks j 0) tank))
+    || anyBelow n (λ j. eqb (getD tanks j 0) tank && leb (getD froms j 0) minute && ltb minute (getD tos j 0))
+
+-- up to 32 choices, in their ranges, rising strictly by tank, then minute, where the tank may be fed: n choices were read, the last
+-- with tank₀, minute₀
+unfoldable pub choiceChecks : (n tank₀ minute₀ tank minute : ℕ) → (may : Bool) → List Check
+choiceChecks n tank₀ minute₀ tank minute may =
     check 3 (leb maxChoices n)
     ∷ check 4 (eqb tank 0 || ltb maxTank tank || ltb maxMinute minute)
     ∷ check 7 (not (eqb n 0 || comesBefore (tank₀ ∷ minute₀ ∷ []) (tank ∷ minute ∷ [])))
+    ∷ check 13 (not may)
     ∷ []
 
 -- `11` choice: tank u16, minute u16. All `11` come before all `12`
 abbrev pub choiceRow : Row Register
 choiceRow = record {
   byte = 0x11;
-  follows = 0x10 ∷ 0x11 ∷ [];
+  follows = 0x10 ∷ 0x11 ∷ 0x13 ∷ [];
   widths = 2 ∷ 2 ∷ [];
-  checks = λ r. let previous = r .choices - 1 in binary (choiceChecks (r .choices) (tank r previous) (minute r previous));
+  checks = λ r. let previous = r .choices - 1 in
+      binary λ t m. choiceChecks (r .choices) (tank r previous) (minute r previous) t m (mayFeed (r .windows) (r .«window_tanks») (r .«window_froms») (r .«window_tos») t m);
   after = λ r. binary (withChoice r);
   last = false;
 }
@@ -62,14 +73,35 @@ termChecks n m mask₀ mask coefficient =
 abbrev pub termRow : Row Register
 termRow = record {
   byte = 0x12;
-  follows = 0x10 ∷ 0x11 ∷ 0x12 ∷ [];
+  follows = 0x10 ∷ 0x11 ∷ 0x12 ∷ 0x13 ∷ [];
   widths = 4 ∷ 4 ∷ [];
   checks = λ r. binary λ m c. termChecks (r .choices) (r .terms) (mask r (r .terms - 1)) m (toZ w32 c);
   after = λ r. binary λ m c. withTerm r m (toZ w32 c);
   last = false;
 }
 
--- a register has a choice; it needs no term
+-- up to 64 windows, in their ranges, "from" below "to", rising strictly by tank, then "from": k windows were read, the last with
+-- tank₀, from₀
+unfoldable pub windowChecks : (k tank₀ from₀ tank from to : ℕ) → List Check
+windowChecks k tank₀ from₀ tank from to =
+    check 3 (leb maxWindows k)
+    ∷ check 4 (eqb tank 0 || ltb maxTank tank || ltb maxMinute from || eqb to 0 || ltb maxTo to)
+    ∷ check 6 (leb to from)
+    ∷ check 7 (not (eqb k 0 || comesBefore (tank₀ ∷ from₀ ∷ []) (tank ∷ from ∷ [])))
+    ∷ []
+
+-- `13` window: tank u16, from u16, to u16. Between `10` and the first `11`
+abbrev pub windowRow : Row Register
+windowRow = record {
+  byte = 0x13;
+  follows = 0x10 ∷ 0x13 ∷ [];
+  widths = 2 ∷ 2 ∷ 2 ∷ [];
+  checks = λ r. let previous = r .windows - 1 in ternary (windowChecks (r .windows) (windowTank r previous) (windowFrom r previous));
+  after = λ r. ternary (withWindow r);
+  last = false;
+}
+
+-- a register has a choice; it needs no term and no window
 unfoldable pub endChecks : ℕ → List Check
 endChecks n = check 3 (eqb n 0) ∷ []
 
@@ -77,7 +109,7 @@ endChecks n = check 3 (eqb n 0) ∷ []
 abbrev pub endRow : Row Register
 endRow = record {
   byte = 0x1F;
-  follows = 0x10 ∷ 0x11 ∷ 0x12 ∷ [];
+  follows = 0x10 ∷ 0x11 ∷ 0x12 ∷ 0x13 ∷ [];
   widths = [];
   checks = λ r xs. endChecks (r .choices);
   after = λ r xs. r;
@@ -85,7 +117,7 @@ endRow = record {
 }
 
 abbrev pub registerRows : List (Row Register)
-registerRows = baseRow ∷ choiceRow ∷ termRow ∷ endRow ∷ []
+registerRows = baseRow ∷ choiceRow ∷ termRow ∷ windowRow ∷ endRow ∷ []
 
 abbrev pub registerPart : Part (Progress Register)
 registerPart = partOf fresh registerRows

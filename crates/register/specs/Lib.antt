@@ -8,3 +8,4 @@ pub mod Encoding
 pub mod Position
 pub mod Answer
 pub mod Opening
+pub mod Before

@@ -1,13 +1,16 @@
 -- The register's limits and ranges.
-use Prim.Native.Nat.{ℕ}
+use Prim.Native.Nat.{ℕ, suc}
 
--- up to 32 choices and 256 terms
+-- up to 32 choices, 256 terms and 64 windows
 
 abbrev pub maxChoices : ℕ
 maxChoices = 32
 
 abbrev pub maxTerms : ℕ
 maxTerms = 256
+
+abbrev pub maxWindows : ℕ
+maxWindows = 64
 
 -- the highest base cost, tank, minute and coefficient; base cost and coefficient may be as far below 0
 
@@ -22,3 +25,8 @@ maxMinute = 1_439
 
 abbrev pub maxCoefficient : ℕ
 maxCoefficient = 1_000_000
+
+-- a window's "from" is a minute, and its "to" at most the one past the last
+
+abbrev pub maxTo : ℕ
+maxTo = suc maxMinute

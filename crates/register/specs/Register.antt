@@ -1,10 +1,10 @@
--- The register's record: its entries, the fresh one, and one more choice or term.
+-- The register's record: its entries, the fresh one, and one more choice, term or window.
 use Prim.Native.Nat.{ℕ, suc}
 use mathlib.Core.List.{List}
 use lib.ListN.{getD, set, replicate}
 use lib.IntN.{ℤ, pos}
 use Rattle.register.specs.declared.Register.{Register}
-use Rattle.register.specs.Limits.{maxChoices, maxTerms}
+use Rattle.register.specs.Limits.{maxChoices, maxTerms, maxWindows}
 
 -- choice i: its tank and its minute
 
@@ -22,7 +22,18 @@ mask r t = getD (r .masks) t 0
 abbrev pub coefficient : Register → ℕ → ℤ
 coefficient r t = getD (r .coefficients) t (pos 0)
 
--- no base cost, no choice, no term; every entry is 0
+-- window j: its tank, its "from" and its "to"
+
+abbrev pub windowTank : Register → ℕ → ℕ
+windowTank r j = getD (r .«window_tanks») j 0
+
+abbrev pub windowFrom : Register → ℕ → ℕ
+windowFrom r j = getD (r .«window_froms») j 0
+
+abbrev pub windowTo : Register → ℕ → ℕ
+windowTo r j = getD (r .«window_tos») j 0
+
+-- no base cost, no choice, no term, no window; every entry is 0
 unfoldable pub fresh : Register
 fresh = record {
   base = pos 0;
@@ -32,9 +43,13 @@ fresh = record {
   minutes = replicate maxChoices 0;
   masks = replicate maxTerms 0;
   coefficients = replicate maxTerms (pos 0);
+  windows = 0;
+  «window_tanks» = replicate maxWindows 0;
+  «window_froms» = replicate maxWindows 0;
+  «window_tos» = replicate maxWindows 0;
 }
 
--- ---- a register with other values of one group: the base cost, the choices, the terms
+-- ---- a register with other values of one group: the base cost, the choices, the terms, the windows
 
 abbrev pub setBase : Register → ℤ → Register
 setBase r base = record {
@@ -45,6 +60,10 @@ setBase r base = record {
   minutes = r .minutes;
   masks = r .masks;
   coefficients = r .coefficients;
+  windows = r .windows;
+  «window_tanks» = r .«window_tanks»;
+  «window_froms» = r .«window_froms»;
+  «window_tos» = r .«window_tos»;
 }
 
 abbrev pub setChoices : Register → ℕ → (tanks minutes : List ℕ) → Register
@@ -56,6 +75,10 @@ setChoices r n tanks minutes = record {
   minutes = minutes;
   masks = r .masks;
   coefficients = r .coefficients;
+  windows = r .windows;
+  «window_tanks» = r .«window_tanks»;
+  «window_froms» = r .«window_froms»;
+  «window_tos» = r .«window_tos»;
 }
 
 abbrev pub setTerms : Register → ℕ → List ℕ → List ℤ → Register
@@ -67,6 +90,25 @@ setTerms r m masks coefficients = record {
   minutes = r .minutes;
   masks = masks;
   coefficients = coefficients;
+  windows = r .windows;
+  «window_tanks» = r .«window_tanks»;
+  «window_froms» = r .«window_froms»;
+  «window_tos» = r .«window_tos»;
+}
+
+abbrev pub setWindows : Register → ℕ → (tanks froms tos : List ℕ) → Register
+setWindows r k tanks froms tos = record {
+  base = r .base;
+  choices = r .choices;
+  terms = r .terms;
+  tanks = r .tanks;
+  minutes = r .minutes;
+  masks = r .masks;
+  coefficients = r .coefficients;
+  windows = k;
+  «window_tanks» = tanks;
+  «window_froms» = froms;
+  «window_tos» = tos;
 }
 
 -- ---- what a command gives
@@ -81,3 +123,8 @@ withChoice r tank minute = setChoices r (suc (r .choices)) (set (r .tanks) (r .c
 -- one term more
 abbrev pub withTerm : Register → ℕ → ℤ → Register
 withTerm r mask coefficient = setTerms r (suc (r .terms)) (set (r .masks) (r .terms) mask) (set (r .coefficients) (r .terms) coefficient)
+
+-- one window more
+abbrev pub withWindow : Register → (tank from to : ℕ) → Register
+withWindow r tank from to =
+    setWindows r (suc (r .windows)) (set (r .«window_tanks») (r .windows) tank) (set (r .«window_froms») (r .windows) from) (set (r .«window_tos») (r .windows) to)

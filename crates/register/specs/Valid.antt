@@ -1,12 +1,12 @@
--- The paper's conditions on a register: counts, ranges, names and orders. Written without the reader.
+-- The conditions of the scope paper and of R-1 on a register: counts, ranges, names, orders and windows. Written without the reader.
 use Prim.Native.Nat.{ℕ, _^_, _<_, _≤_}
 use mathlib.Core.Path.{_≡_}
 use mathlib.Core.Logic.{_⊎_}
 use lib.IntN.{ℤ, pos, natAbs}
 use Rattle.integers.specs.Lists.{Column, Table}
 use Rattle.register.specs.declared.Register.{Register}
-use Rattle.register.specs.Limits.{maxChoices, maxTerms, maxBase, maxTank, maxMinute, maxCoefficient}
-use Rattle.register.specs.Register.{tank, minute, mask, coefficient}
+use Rattle.register.specs.Limits.{maxChoices, maxTerms, maxWindows, maxBase, maxTank, maxMinute, maxCoefficient, maxTo}
+use Rattle.register.specs.Register.{tank, minute, mask, coefficient, windowTank, windowFrom, windowTo}
 
 -- the ranges of a choice's numbers; a minute may be 0, a tank not
 pub record Choice (tank minute : ℕ) : Type 0 where
@@ -14,7 +14,7 @@ pub record Choice (tank minute : ℕ) : Type 0 where
   pub tank-within : tank ≤ maxTank
   pub minute-within : minute ≤ maxMinute
 
--- a choice comes before another: by tank, then minute
+-- a choice comes before another: by tank, then minute; so does a window, by tank, then "from"
 abbrev pub Before : (c d : ℕ × ℕ) → Type 0
 Before c d = (c .0 < d .0) ⊎ ((c .0 ≡ d .0) × (c .1 < d .1))
 
@@ -29,6 +29,15 @@ pub record Term (n mask : ℕ) (coefficient : ℤ) : Type 0 where
 abbrev pub Rises : (c d : ℕ × ℤ) → Type 0
 Rises c d = c .0 < d .0
 
+-- the ranges of a window's numbers; "from" is below "to"
+pub record Window (t from to : ℕ) : Type 0 where
+  pub tank-above : 1 ≤ t
+  pub tank-within : t ≤ maxTank
+  pub from-within : from ≤ maxMinute
+  pub to-above : 1 ≤ to
+  pub to-within : to ≤ maxTo
+  pub ordered : from < to
+
 -- up to 32 choices, each in its ranges, rising
 abbrev pub Choices : (n : ℕ) → (ℕ → ℕ × ℕ) → Type 0
 Choices n f = Table maxChoices n f (λ c. Choice (c .0) (c .1)) Before
@@ -36,6 +45,25 @@ Choices n f = Table maxChoices n f (λ c. Choice (c .0) (c .1)) Before
 -- up to 256 terms over n choices, masks rising
 abbrev pub Terms : (n m : ℕ) → (ℕ → ℕ × ℤ) → Type 0
 Terms n m f = Table maxTerms m f (λ c. Term n (c .0) (c .1)) Rises
+
+-- up to 64 windows (tank, from, to), each in its ranges, rising
+abbrev pub Windows : (k : ℕ) → (ℕ → ℕ × ℕ × ℕ) → Type 0
+Windows k f = Table maxWindows k f (λ c. Window (c .0) (c .1) (c .2)) (λ c d. Before (c .0, c .1) (d .0, d .1))
+
+-- one of the tank's windows among k holds the minute: "from" ≤ minute < "to"
+pub record Inside (k : ℕ) (f : ℕ → ℕ × ℕ × ℕ) (tank minute : ℕ) : Type 0 where
+  pub window : ℕ
+  pub there : window < k
+  pub own : f window .0 ≡ tank
+  pub from : f window .1 ≤ minute
+  pub to : minute < f window .2
+
+-- a tank may be fed at any minute where none of k windows is its own, and otherwise inside its windows
+abbrev pub MayFeed : (k : ℕ) → (ℕ → ℕ × ℕ × ℕ) → (tank minute : ℕ) → Type 0
+MayFeed k f tank minute = ((j : ℕ) → j < k → f j .0 ≡ tank → ⊥) ⊎ Inside k f tank minute
+
+abbrev pub windowAt : Register → ℕ → ℕ × ℕ × ℕ
+windowAt r j = (windowTank r j, windowFrom r j, windowTo r j)
 
 -- within the limits, as far as commands other than the end say; entries past the counts are 0
 pub record Within (r : Register) : Type 0 where
@@ -46,6 +74,12 @@ pub record Within (r : Register) : Type 0 where
   pub masks : Column maxTerms (r .terms) 0 (r .masks)
   pub coefficients : Column maxTerms (r .terms) (pos 0) (r .coefficients)
   pub terms : Terms (r .choices) (r .terms) (λ t. (mask r t, coefficient r t))
+  pub window-tanks : Column maxWindows (r .windows) 0 (r .«window_tanks»)
+  pub window-froms : Column maxWindows (r .windows) 0 (r .«window_froms»)
+  pub window-tos : Column maxWindows (r .windows) 0 (r .«window_tos»)
+  pub windows : Windows (r .windows) (windowAt r)
+  -- each choice's tank may be fed at its minute
+  pub may-feed : (i : ℕ) → i < r .choices → MayFeed (r .windows) (windowAt r) (tank r i) (minute r i)
 
 -- and a first choice is there, which the end command asks for
 pub record Valid (r : Register) : Type 0 where

@@ -1,6 +1,8 @@
 // The refusal of each of the register's commands, by what has been seen before it.
 use super::Register;
 use super::Seen;
+use super::last_of;
+use super::windows::may_feed;
 use wire::command_refusal;
 use wire::first_of;
 ghost use mathlib.Core.Path.{_≡_};
@@ -10,9 +12,9 @@ ghost use lib.ListN.{length};
 ghost use Rattle.wire.specs.Checks.{refusal};
 ghost use Rattle.wire.specs.Part.{checksAt, size};
 ghost use Rattle.wire.specs.Rows.{Progress, isAmong, rowOf};
-ghost use Rattle.register.specs.Limits.{maxChoices};
-ghost use Rattle.register.specs.Format.{baseChecks, choiceChecks, termChecks, endChecks, registerRows, registerPart};
-ghost use Rattle.register.specs.Answer.{seenOf};
+ghost use Rattle.register.specs.Limits.{maxChoices, maxWindows};
+ghost use Rattle.register.specs.Format.{baseChecks, choiceChecks, termChecks, windowChecks, endChecks, registerRows, registerPart};
+ghost use Rattle.register.specs.Answer.{Given};
 
 // The refusal of a base cost, or 0.
 fn base_refusal(base: i32) -> u8
@@ -21,9 +23,9 @@ fn base_refusal(base: i32) -> u8
     first_of(Register::MAX_BASE < wire::magnitude(base as i64), 4, 0)
 }
 
-// The refusal of a choice after n others, the last of which is tank0 at minute0, or 0.
-fn choice_refusal(n: usize, tank0: u16, minute0: u16, tank: u16, minute: u16) -> u8
-    ensures { λ r. ⌜ r ≡ refusal (choiceChecks n tank0 minute0 tank minute) ⌝ }
+// The refusal of a choice after n others, the last of which is tank0 at minute0, or 0; `may` where its tank may be fed then.
+fn choice_refusal(n: usize, tank0: u16, minute0: u16, tank: u16, minute: u16, may: bool) -> u8
+    ensures { λ r. ⌜ r ≡ refusal (choiceChecks n tank0 minute0 tank minute may) ⌝ }
 {
     let out = (tank == 0) | (Register::MAX_TANK < tank) | (Register::MAX_MINUTE < minute);
     let later = (tank0 < tank) | ((tank0 == tank) & (minute0 < minute));
@@ -31,7 +33,7 @@ fn choice_refusal(n: usize, tank0: u16, minute0: u16, tank: u16, minute: u16) ->
     first_of(
         Register::MAX_CHOICES <= n,
         3,
-        first_of(out, 4, first_of(falls, 7, 0)),
+        first_of(out, 4, first_of(falls, 7, first_of(!may, 13, 0))),
     )
 }
 
@@ -48,6 +50,21 @@ fn term_refusal(n: usize, m: usize, mask0: u32, mask: u32, coefficient: i32) -> 
     first_of(Register::MAX_TERMS <= m, 3, first_of(out, 4, named))
 }
 
+// The refusal of a window after k others, the last of which is tank0 from from0, or 0.
+fn window_refusal(k: usize, tank0: u16, from0: u16, tank: u16, from: u16, to: u16) -> u8
+    ensures { λ r. ⌜ r ≡ refusal (windowChecks k tank0 from0 tank from to) ⌝ }
+{
+    let out = (tank == 0)
+        | (Register::MAX_TANK < tank)
+        | (Register::MAX_MINUTE < from)
+        | (to == 0)
+        | (Register::MAX_TO < to);
+    let later = (tank0 < tank) | ((tank0 == tank) & (from0 < from));
+    let falls = !((k == 0) | later);
+    let misordered = first_of(to <= from, 6, first_of(falls, 7, 0));
+    first_of(Register::MAX_WINDOWS <= k, 3, first_of(out, 4, misordered))
+}
+
 // The refusal of an end after n choices, or 0.
 fn end_refusal(n: usize) -> u8
     ensures { λ r. ⌜ r ≡ refusal (endChecks n) ⌝ }
@@ -55,11 +72,11 @@ fn end_refusal(n: usize) -> u8
     first_of(n == 0, 3, 0)
 }
 
-// A term or the end may stand directly after a command.
-fn after_choices(previous: u8) -> bool
-    ensures { λ r. ⌜ r ≡ isAmong previous (0x10 ∷ 0x11 ∷ 0x12 ∷ []) ⌝ }
+// A term or the end may stand directly after a command: after each but the end.
+fn after_any(previous: u8) -> bool
+    ensures { λ r. ⌜ r ≡ isAmong previous (0x10 ∷ 0x11 ∷ 0x12 ∷ 0x13 ∷ []) ⌝ }
 {
-    (previous == 0x10) | ((previous == 0x11) | (previous == 0x12))
+    (previous == 0x10) | ((previous == 0x11) | ((previous == 0x12) | (previous == 0x13)))
 }
 
 // A command may stand directly after another, or first where that is 0.
@@ -68,9 +85,10 @@ fn stands_after(previous: u8, command: u8) -> bool
 {
     match command {
         0x10 => previous == 0,
-        0x11 => (previous == 0x10) | (previous == 0x11),
-        0x12 => after_choices(previous),
-        0x1f => after_choices(previous),
+        0x11 => (previous == 0x10) | ((previous == 0x11) | (previous == 0x13)),
+        0x12 => after_any(previous),
+        0x13 => (previous == 0x10) | (previous == 0x13),
+        0x1f => after_any(previous),
         _ => false,
     }
 }
@@ -83,15 +101,25 @@ pub fn command_size(command: u8) -> usize
         0x10 => 5,
         0x11 => 5,
         0x12 => 9,
+        0x13 => 7,
         _ => 1,
     }
 }
 
-// The refusal of the command at a position, or 0, by what has been seen. Place and size first, then its operands.
-pub fn refusal_at(bytes: &[u8], at: usize, seen: Seen) -> u8
+// The refusal of the command at a position, or 0, by what has been seen and the windows, of which the first `passed` are of tanks
+// below the last choice's. Place and size first, then its operands.
+pub fn refusal_at<'a>(
+    bytes: &[u8],
+    at: usize,
+    seen: Seen,
+    passed: usize,
+    tanks: &'a [u16; Register::MAX_WINDOWS],
+    froms: &'a [u16; Register::MAX_WINDOWS],
+    tos: &'a [u16; Register::MAX_WINDOWS],
+) -> u8
     requires { ⌜ at < length (now bytes) ⌝ }
-    requires { ⌜ seen .choices ≤ maxChoices ⌝ }
-    ensures { λ r. ⌜ ((p : Progress Register) → seenOf p ≡ seen → r ≡ refusal (checksAt registerPart (now (bytes .entry)) p at)) ⌝ }
+    requires { ⌜ (seen .choices ≤ maxChoices) × (passed ≤ seen .windows) × (seen .windows ≤ maxWindows) ⌝ }
+    ensures { λ r. ⌜ ((p : Progress Register) → Given p seen passed (now (tanks .entry)) (now (froms .entry)) (now (tos .entry)) → r ≡ refusal (checksAt registerPart (now (bytes .entry)) p at)) ⌝ }
 {
     let command = bytes[at];
     let previous = seen.previous;
@@ -108,12 +136,20 @@ pub fn refusal_at(bytes: &[u8], at: usize, seen: Seen) -> u8
         0x11 => {
             let tank = wire::u16_at(bytes, at + 1);
             let minute = wire::u16_at(bytes, at + 1 + 2);
-            choice_refusal(seen.choices, seen.tank, seen.minute, tank, minute)
+            let may = may_feed(tanks, froms, tos, passed, seen.windows, tank, minute);
+            choice_refusal(seen.choices, seen.tank, seen.minute, tank, minute, may)
         }
         0x12 => {
             let mask = wire::u32_at(bytes, at + 1);
             let coefficient = wire::i32_at(bytes, at + 1 + 4);
             term_refusal(seen.choices, seen.terms, seen.mask, mask, coefficient)
+        }
+        0x13 => {
+            let tank = wire::u16_at(bytes, at + 1);
+            let from = wire::u16_at(bytes, at + 1 + 2);
+            let to = wire::u16_at(bytes, at + 1 + 2 + 2);
+            let j = last_of(seen.windows);
+            window_refusal(seen.windows, tanks[j], froms[j], tank, from, to)
         }
         _ => end_refusal(seen.choices),
     }

@@ -1,9 +1,11 @@
-// Part 1 of the job file, the register: the choices of a plan and the terms of its cost.
+// Part 1 of the job file, the register: the choices of a plan, the terms of its cost and the windows of its tanks.
 
 mod checks;
 pub mod walk;
+mod windows;
 
 use checks::refusal_at;
+use windows::pass_windows;
 ghost use mathlib.Core.Path.{_≡_};
 ghost use Prim.Native.Nat.{_-_};
 ghost use Rattle.register.specs.Register.{fresh};
@@ -20,9 +22,13 @@ pub struct Register {
     pub minutes: [u16; Register::MAX_CHOICES],
     pub masks: [u32; Register::MAX_TERMS],
     pub coefficients: [i32; Register::MAX_TERMS],
+    pub windows: usize,
+    pub window_tanks: [u16; Register::MAX_WINDOWS],
+    pub window_froms: [u16; Register::MAX_WINDOWS],
+    pub window_tos: [u16; Register::MAX_WINDOWS],
 }
 
-// What the checks of a command look at: the byte of the last command, the counts, and the last choice and mask.
+// What the checks of a command look at beside the windows: the byte of the last command, the counts, and the last choice and mask.
 pub struct Seen {
     pub previous: u8,
     pub choices: usize,
@@ -30,6 +36,7 @@ pub struct Seen {
     pub tank: u16,
     pub minute: u16,
     pub mask: u32,
+    pub windows: usize,
 }
 
 // What reading the register at the front of a run of bytes leads to: a refusal's number and position, or 0, the position
@@ -54,6 +61,8 @@ impl Register {
 
     pub const MAX_TERMS: usize = 256;
 
+    pub const MAX_WINDOWS: usize = 64;
+
     // The largest magnitude of the base cost.
     pub const MAX_BASE: u64 = 1_000_000_000;
 
@@ -63,6 +72,9 @@ impl Register {
 
     // The largest magnitude of a coefficient.
     pub const MAX_COEFFICIENT: u64 = 1_000_000;
+
+    // The largest "to" of a window, which ends before that minute.
+    pub const MAX_TO: u16 = Register::MAX_MINUTE + 1;
 
     pub fn fresh() -> Register
         ensures { λ r. ⌜ r ≡ fresh ⌝ }
@@ -75,6 +87,10 @@ impl Register {
             minutes: [0; Register::MAX_CHOICES],
             masks: [0; Register::MAX_TERMS],
             coefficients: [0; Register::MAX_TERMS],
+            windows: 0,
+            window_tanks: [0; Register::MAX_WINDOWS],
+            window_froms: [0; Register::MAX_WINDOWS],
+            window_tos: [0; Register::MAX_WINDOWS],
         }
     }
 }
@@ -120,9 +136,11 @@ pub fn read_register(bytes: &[u8]) -> RegisterRead
     let mut register = Register::fresh();
     let mut previous: u8 = 0;
     let mut at: usize = 0;
+    let mut passed: usize = 0;
     while at < bytes.len() {
         let n = register.choices;
         let m = register.terms;
+        let k = register.windows;
         let i = last_of(n);
         let t = last_of(m);
         let seen = Seen {
@@ -132,8 +150,17 @@ pub fn read_register(bytes: &[u8]) -> RegisterRead
             tank: register.tanks[i],
             minute: register.minutes[i],
             mask: register.masks[t],
+            windows: k,
         };
-        let number = refusal_at(bytes, at, seen);
+        let number = refusal_at(
+            bytes,
+            at,
+            seen,
+            passed,
+            &register.window_tanks,
+            &register.window_froms,
+            &register.window_tos,
+        );
         if number != 0 {
             return RegisterRead::refused(number, at);
         }
@@ -145,9 +172,11 @@ pub fn read_register(bytes: &[u8]) -> RegisterRead
                 at += 5;
             }
             0x11 => {
-                register.tanks[n] = wire::u16_at(bytes, at + 1);
+                let tank = wire::u16_at(bytes, at + 1);
+                register.tanks[n] = tank;
                 register.minutes[n] = wire::u16_at(bytes, at + 1 + 2);
                 register.choices = n + 1;
+                passed = pass_windows(&register.window_tanks, passed, k, tank);
                 previous = 0x11;
                 at += 5;
             }
@@ -157,6 +186,14 @@ pub fn read_register(bytes: &[u8]) -> RegisterRead
                 register.terms = m + 1;
                 previous = 0x12;
                 at += 9;
+            }
+            0x13 => {
+                register.window_tanks[k] = wire::u16_at(bytes, at + 1);
+                register.window_froms[k] = wire::u16_at(bytes, at + 1 + 2);
+                register.window_tos[k] = wire::u16_at(bytes, at + 1 + 2 + 2);
+                register.windows = k + 1;
+                previous = 0x13;
+                at += 7;
             }
             _ => {
                 return RegisterRead {

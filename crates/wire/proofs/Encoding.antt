@@ -41,6 +41,10 @@ pub fit-two : (v w : ℕ) (xs : List ℕ) → Fit (v ∷ w ∷ []) xs → (xs �
 fit-two v w [] f = absurd f
 fit-two v w (x ∷ xs) f = let (e, l) = fit-one w xs (f .1) in (ap (λ l. x ∷ l) e, f .0, l)
 
+pub fit-three : (u v w : ℕ) (xs : List ℕ) → Fit (u ∷ v ∷ w ∷ []) xs → xs ≡ getD xs 0 0 ∷ getD xs 1 0 ∷ getD xs 2 0 ∷ []
+fit-three u v w [] f = absurd f
+fit-three u v w (x ∷ xs) f = ap (λ l. x ∷ l) (fit-two v w xs (f .1) .0)
+
 -- the bytes of the operands that are read are those that were read
 fields-operandsAt : (ws s : List ℕ) (at : ℕ) → Bytes s → at + total ws ≤ length s → fields ws (operandsAt ws s at) ≡ take (total ws) (drop at s)
 unfolding operandsAt fields total

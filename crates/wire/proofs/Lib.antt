@@ -15,6 +15,7 @@ pub mod Acceptance
 pub mod Ends
 pub mod Ranged
 pub mod Rest
+pub mod Alike
 pub mod Loop
 pub mod Walk
 pub mod Outcome

@@ -19,6 +19,15 @@ module _ {R : Type 0} where
   no-row [] b h = refl
   no-row (row ∷ rows) b h = rw (ne-eqb b (row .byte) (h .0)) (no-row rows b (h .1))
 
+  -- what holds of the byte of each row, and where the byte has no row, holds of any byte
+  pub by-bytes : (Q : ℕ → Type 0) (rows : List (Row R)) (b : ℕ) → (NoneOf rows b → Q b) → All (λ row. Q (row .byte)) rows → Q b
+  by-bytes Q [] b none h = none tt
+  by-bytes Q (row ∷ rows) b none h = go (ℕ-discrete b (row .byte)) (λ d. by-bytes Q rows b (λ n. none (d, n)) (h .1))
+    where
+      go : Dec (b ≡ row .byte) → ((b ≡ row .byte → ⊥) → Q b) → Q b
+      go (yes e) rest = rw e (h .0)
+      go (no d) rest = rest d
+
   module _ (end : Row R) (b : ℕ) where
     -- it has the last row, or none
     last-row : (rows : List (Row R)) → NoneOf rows b → rowOf (rows ++ (end ∷ [])) b ≡ rowOf (end ∷ []) b

@@ -54,9 +54,12 @@ partOf fresh rows = record {
   last = λ b. rowOf rows b .last;
 }
 
--- a function of the first operand, and of the first two
+-- a function of the first operand, of the first two, and of the first three
 abbrev pub unary : {A : Type 0} → (ℕ → A) → List ℕ → A
 unary f xs = f (getD xs 0 0)
 
 abbrev pub binary : {A : Type 0} → (ℕ → ℕ → A) → List ℕ → A
 binary f xs = f (getD xs 0 0) (getD xs 1 0)
+
+abbrev pub ternary : {A : Type 0} → (ℕ → ℕ → ℕ → A) → List ℕ → A
+ternary f xs = f (getD xs 0 0) (getD xs 1 0) (getD xs 2 0)

@@ -16,10 +16,13 @@ first-of-requires-2 c κs = search needs
 first-of-requires-3 : tie.Need-first-of-requires-3
 first-of-requires-3 c κs = search needs
 
+first-of-requires-4 : tie.Need-first-of-requires-4
+first-of-requires-4 c κs = search needs
+
 returns : tie.Need-returns
 unfolding refusal choiceChecks comesBefore
-returns c = simp (and-false, or-false) (rw (c .first-of3 .ensures, c .before .first-of2 .ensures, c .before .before .first-of .ensures))
+returns c = simp (and-false, or-false) (rw (c .first-of4 .ensures, c .before .first-of3 .ensures, c .before .before .first-of2 .ensures, c .before .before .before .first-of .ensures))
 
 pub choice-refusal-spec : {M : Type 1} → statement M
 choice-refusal-spec =
-    tie.close (tie.spec first-of-requires first-of-requires-2 first-of-requires-3 returns)
+    tie.close (tie.spec first-of-requires first-of-requires-2 first-of-requires-3 first-of-requires-4 returns)
