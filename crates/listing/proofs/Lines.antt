@@ -1,9 +1,9 @@
--- Equal `T` and `F` lines stand for the same choices, the same ones fed.
+-- Equal `T` and `F` lines stand for the same choices, the same ones fed; and the `F` lines are those of the fed choices.
 use Prim.Native.Nat.{ℕ, zero, suc, _+_, _*_, _<_}
 use native.Mathlib.Nat.{mul-one}
 use native.Mathlib.Omega.{arith}
 use mathlib.Core.Path.{_≡_, refl, sym, ap, ap₂, _∙_, subst}
-use mathlib.Core.Logic.{_↔_, ⊎-elim}
+use mathlib.Core.Logic.{_↔_, inl, ⊎-elim}
 use mathlib.Core.Bool.{Bool, true, false, cond, true≢false}
 use mathlib.Core.List.{List, [], _∷_, _++_}
 use lib.Dec.{ltb}
@@ -15,7 +15,9 @@ use Rattle.integers.proofs.Lists.{flag, cond-cases, All-append, All-join}
 use Rattle.integers.proofs.Join.{join-cong, length-join, getD-join}
 use Rattle.integers.proofs.Entries.{below-or-last}
 use Rattle.sets.specs.Sets.{isMember}
+use Rattle.text.specs.Text.{line, Starts, HasLine}
 use Rattle.text.proofs.Unique.{line-without, texts, texts-append, texts-join, texts-one, texts-none, texts-determine}
+use Rattle.text.proofs.Standing.{starts-line, starts-join, stands-alone, stands-first, stands-second, stands-join, stands-among}
 use Rattle.register.specs.declared.Register.{Register}
 use Rattle.register.specs.Limits.{maxMinute}
 use Rattle.register.specs.Register.{tank, minute}
@@ -216,6 +218,51 @@ lines-without r plan =
   where
     Other : ℕ → Type 0
     Other b = b ≡ 0x42 → ⊥
+
+-- an `F` line that stands among the lines is that of a fed choice: what holds of each of these holds of it
+module _ (P : (t m : ℕ) → Type 0) (r : Register) (plan : ℕ) (h : (i : ℕ) → i < r .choices → isMember i plan ≡ true → P (tank r i) (minute r i)) where
+  Holds : Line → Type 0
+  Holds l = l .0 ≡ 0x46 → P (natAbs (getD (l .1) 0 (pos 0))) (natAbs (getD (l .1) 1 (pos 0)))
+
+  pub fed-shown : (last : List ℤ) (t m : ℕ) → HasLine (fedLine t m) (planLines r plan ++ line 0x42 last) → P t m
+  unfolding Holds
+  fed-shown last t m s = stands-among Holds 0x46 (pos t ∷ pos m ∷ []) lines each-holds (subst (HasLine (fedLine t m)) (sym text) s) refl
+    where
+      lines : List Line
+      lines = choices r ++ feeds r plan ++ ((0x42, last) ∷ [])
+
+      text : texts lines ≡ planLines r plan ++ line 0x42 last
+      text = texts-append (choices r ++ feeds r plan) ((0x42, last) ∷ []) ∙ ap₂ _++_ (plan-lines r plan) (texts-one 0x42 last)
+
+      Each : Line → Type 0
+      Each l = (0x0A < l .0) × Holds l
+
+      fed : (i : ℕ) → i < r .choices → (b : Bool) → isMember i plan ≡ b → All Each (cond b (feed r i ∷ []) [])
+      fed i l false q = tt
+      fed i l true q = ((omega arith, λ e. h i l q), tt)
+
+      each-holds : All Each lines
+      each-holds =
+          All-append Each (choices r ++ feeds r plan) ((0x42, last) ∷ [])
+          (All-append Each (choices r) (feeds r plan)
+          (All-join Each (r .choices) _ (λ i l. ((omega arith, λ e. absurd (omega arith)), tt)))
+          (All-join Each (r .choices) _ (λ i l. fed i l (isMember i plan) refl)))
+          ((omega arith, λ e. absurd (omega arith)), tt)
+
+-- and the line of each fed choice stands there
+pub shown-fed : (r : Register) (plan i : ℕ) → i < r .choices → isMember i plan ≡ true → (last : List ℕ) → HasLine (fedLine (tank r i) (minute r i)) (planLines r plan ++ last)
+unfolding choiceLines fedLines
+shown-fed r plan i l fed last =
+    stands-first x (planLines r plan) last
+    (stands-second x (choiceLines r) (fedLines r plan) (starts-join (r .choices) _ (λ j. starts-line 0x54 (pos j ∷ pos (tank r j) ∷ pos (minute r j) ∷ [])))
+    (stands-join x (r .choices) f (λ j. cond-cases Starts (isMember j plan) (fedLine (tank r j) (minute r j)) [] (λ _. starts-line 0x46 (pos (tank r j) ∷ pos (minute r j) ∷ [])) (λ _. inl refl))
+    i l (subst (λ b. HasLine x (cond b x [])) (sym fed) (stands-alone x))))
+  where
+    x : List ℕ
+    x = fedLine (tank r i) (minute r i)
+
+    f : ℕ → List ℕ
+    f j = cond (isMember j plan) (fedLine (tank r j) (minute r j)) []
 
 -- "Whoever wrote the scheme and the certificate, the same register and plan give the same lines": the `T` and `F` lines of two
 -- accepted jobs are equal just where both jobs have the same choices and feed the same ones.

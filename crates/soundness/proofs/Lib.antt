@@ -6,3 +6,4 @@ pub mod Acceptance
 pub mod Refusals
 pub mod Writers
 pub mod Written
+pub mod Windows

@@ -15,10 +15,10 @@ use Rattle.text.specs.Text.{digits, decimal, line}
 use Rattle.text.proofs.Digits.{digits-one, digits-more}
 
 -- the first element and the others
-head-is : {x y : ℕ} {xs ys : List ℕ} → _≡_ {A = List ℕ} (x ∷ xs) (y ∷ ys) → x ≡ y
+pub head-is : {x y : ℕ} {xs ys : List ℕ} → _≡_ {A = List ℕ} (x ∷ xs) (y ∷ ys) → x ≡ y
 head-is e = ap (λ l. getD l 0 0) e
 
-tail-is : {x y : ℕ} {xs ys : List ℕ} → _≡_ {A = List ℕ} (x ∷ xs) (y ∷ ys) → xs ≡ ys
+pub tail-is : {x y : ℕ} {xs ys : List ℕ} → _≡_ {A = List ℕ} (x ∷ xs) (y ∷ ys) → xs ≡ ys
 tail-is e = ap (λ l. drop 1 l) e
 
 -- ---- the number that digits say, after those that say n
@@ -65,7 +65,7 @@ digits-are n = digits-to (suc n) n (omega arith)
 high : (n : ℕ) → All (λ b. 47 < b) (digits n)
 high n = All-map Digit (λ b. 47 < b) (λ b h. h .0) (digits n) (digits-are n)
 
-decimal-above : (z : ℤ) → All (λ b. 32 < b) (decimal z)
+pub decimal-above : (z : ℤ) → All (λ b. 32 < b) (decimal z)
 unfolding decimal
 decimal-above (pos n) = All-map (λ b. 47 < b) (λ b. 32 < b) (λ b h. omega arith) (digits n) (high n)
 decimal-above (negsuc n) = (omega arith, All-map (λ b. 47 < b) (λ b. 32 < b) (λ b h. omega arith) (digits (suc n)) (high (suc n)))
@@ -95,7 +95,7 @@ cut (x ∷ xs) (y ∷ ys) u v h k a b e =
     (rw (head-is e, f), g)
 
 -- the fields, byte 0A, and what follows them
-abbrev fields : List ℤ → List ℕ
+abbrev pub fields : List ℤ → List ℕ
 fields xs = flatMap (λ z. 0x20 ∷ decimal z) xs
 
 abbrev fieldsThen : List ℤ → List ℕ → List ℕ
@@ -149,7 +149,7 @@ line-without byte letter xs l d =
 
 -- ---- a text of lines
 
-pub texts : List (ℕ × List ℤ) → List ℕ
+unfoldable pub texts : List (ℕ × List ℤ) → List ℕ
 texts lines = flatMap (λ l. line (l .0) (l .1)) lines
 
 pub texts-append : (a b : List (ℕ × List ℤ)) → texts (a ++ b) ≡ texts a ++ texts b
