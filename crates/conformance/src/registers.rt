@@ -1,4 +1,5 @@
-// register.txt: name REG | number part position base n m, then n times: tank minute, then m times: mask coefficient.
+// register.txt: name REG | number part position base n m, then n times: tank minute, then m times: mask coefficient,
+// then w, then w times: tank from to.
 use register::Register;
 use vectors::Cursor;
 
@@ -23,6 +24,17 @@ fn term(next: Cursor, line: &[u8], is_counted: bool, mask: u32, coefficient: i32
         next.signed(line, wide(coefficient))
     } else {
         next.also((mask == 0) & (coefficient == 0))
+    }
+}
+
+// A window, or past the count zeros.
+fn window(next: Cursor, line: &[u8], is_counted: bool, tank: u16, from: u16, to: u16) -> Cursor {
+    if is_counted {
+        let next = next.unsigned(line, tank as u64);
+        let next = next.unsigned(line, from as u64);
+        next.unsigned(line, to as u64)
+    } else {
+        next.also((tank == 0) & (from == 0) & (to == 0))
     }
 }
 
@@ -58,6 +70,23 @@ fn terms(from: Cursor, line: &[u8], register: Register) -> Cursor {
     next
 }
 
+fn windows(from: Cursor, line: &[u8], register: Register) -> Cursor {
+    let mut next = from;
+    let mut i = 0;
+    while i < Register::MAX_WINDOWS {
+        next = window(
+            next,
+            line,
+            i < register.windows,
+            register.window_tanks[i],
+            register.window_froms[i],
+            register.window_tos[i],
+        );
+        i += 1;
+    }
+    next
+}
+
 pub fn agrees(line: &[u8]) -> bool {
     let mut buffer = io::buffer();
     let start = Cursor::past_name(line);
@@ -72,5 +101,7 @@ pub fn agrees(line: &[u8]) -> bool {
     let next = next.unsigned(line, register.terms as u64);
     let next = choices(next, line, register);
     let next = terms(next, line, register);
+    let next = next.unsigned(line, register.windows as u64);
+    let next = windows(next, line, register);
     next.ends(line)
 }
