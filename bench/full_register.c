@@ -1,25 +1,14 @@
-// Times `feedcheck_register` on a full register: 32 choices, 256 terms.
-#include <stddef.h>
-#include <stdint.h>
+// Times `feedcheck_register` on a full register of 32 choices and 256 terms: without windows; with two windows for each of the 32
+// tanks that the choices have; and with 64 windows of the one tank that all choices have. A choice is in the last window of its
+// tank and in no other, so that all windows of the tank are looked at.
 #include <stdio.h>
-#include <string.h>
 #include <time.h>
 
-typedef struct {
-    int32_t base;
-    size_t choices, terms;
-    uint16_t tanks[32], minutes[32];
-    uint32_t masks[256];
-    int32_t coefficients[256];
-} Register;
+#include "../include/feedcheck.h"
 
-typedef struct {
-    uint8_t number, part;
-    size_t position;
-    Register reg;
-} RegisterAnswer;
+enum { CHOICES = FEEDCHECK_MAX_CHOICES, TERMS = FEEDCHECK_MAX_TERMS, WINDOWS = FEEDCHECK_MAX_WINDOWS, ROUNDS = 200000 };
 
-RegisterAnswer feedcheck_register(const uint8_t *bytes, size_t length);
+typedef enum { NONE, TWO_EACH, ONE_TANK } Shape;
 
 static size_t put(uint8_t *to, uint32_t value, size_t width) {
     for (size_t i = 0; i < width; i++)
@@ -27,16 +16,49 @@ static size_t put(uint8_t *to, uint32_t value, size_t width) {
     return width;
 }
 
-static size_t full(uint8_t *to) {
+static size_t put_window(uint8_t *to, uint32_t tank, uint32_t first, uint32_t after) {
+    size_t at = 0;
+    to[at++] = 0x13;
+    at += put(to + at, tank, 2);
+    at += put(to + at, first, 2);
+    at += put(to + at, after, 2);
+    return at;
+}
+
+// Choice i is at this minute.
+static uint32_t minute(uint32_t i) { return WINDOWS + 10 * i; }
+
+static size_t put_windows(uint8_t *to, Shape shape) {
+    size_t at = 0;
+    switch (shape) {
+    case NONE:
+        break;
+    case TWO_EACH:
+        for (uint32_t i = 0; i < CHOICES; i++) {
+            at += put_window(to + at, 1 + i, 0, minute(i));
+            at += put_window(to + at, 1 + i, minute(i), 1440);
+        }
+        break;
+    case ONE_TANK:
+        for (uint32_t w = 0; w < WINDOWS - 1; w++)
+            at += put_window(to + at, 1, w, w + 1);
+        at += put_window(to + at, 1, WINDOWS - 1, 1440);
+        break;
+    }
+    return at;
+}
+
+static size_t full(uint8_t *to, Shape shape) {
     size_t at = 0;
     to[at++] = 0x10;
     at += put(to + at, 7, 4);
-    for (uint32_t i = 0; i < 32; i++) {
+    at += put_windows(to + at, shape);
+    for (uint32_t i = 0; i < CHOICES; i++) {
         to[at++] = 0x11;
-        at += put(to + at, 1 + i, 2);
-        at += put(to + at, 10 * i, 2);
+        at += put(to + at, shape == ONE_TANK ? 1 : 1 + i, 2);
+        at += put(to + at, minute(i), 2);
     }
-    for (uint32_t t = 0; t < 256; t++) {
+    for (uint32_t t = 0; t < TERMS; t++) {
         to[at++] = 0x12;
         at += put(to + at, 1 + 16777215 * t, 4);
         at += put(to + at, t % 2 ? 1000000 : (uint32_t)-1000000, 4);
@@ -45,12 +67,10 @@ static size_t full(uint8_t *to) {
     return at;
 }
 
-int main(void) {
+static void run(const char *name, Shape shape) {
     static uint8_t bytes[4096];
-    size_t length = full(bytes);
-    RegisterAnswer answer = feedcheck_register(bytes, length);
-    printf("number %u, choices %zu, terms %zu, last coefficient %d\n", answer.number, answer.reg.choices, answer.reg.terms, answer.reg.coefficients[255]);
-    enum { ROUNDS = 200000 };
+    size_t length = full(bytes, shape);
+    FeedcheckRegisterAnswer answer = feedcheck_register(bytes, length);
     struct timespec from, to;
     size_t sum = 0;
     clock_gettime(CLOCK_MONOTONIC, &from);
@@ -60,6 +80,13 @@ int main(void) {
     }
     clock_gettime(CLOCK_MONOTONIC, &to);
     double micros = ((to.tv_sec - from.tv_sec) * 1e9 + (to.tv_nsec - from.tv_nsec)) / 1e3 / ROUNDS;
-    printf("%zu bytes, %.2f microseconds a call (%zu)\n", length, micros, sum / ROUNDS);
+    printf("%s: number %u, %zu choices, %zu terms, %zu windows, %zu bytes, %.2f microseconds a call\n", name, answer.number,
+           answer.reg.choices, sum / ROUNDS, answer.reg.windows, length, micros);
+}
+
+int main(void) {
+    run("no windows", NONE);
+    run("two windows for each tank", TWO_EACH);
+    run("all windows of one tank", ONE_TANK);
     return 0;
 }

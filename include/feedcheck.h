@@ -4,8 +4,8 @@
  * A lent table or buffer overlaps nothing else that the call is given. A table has at least FEEDCHECK_TABLE_NUMBERS numbers; a
  * shorter one is refused 11 and left as it was, as is a buffer shorter than the bytes to be written.
  *
- * An answer's number is 0, or that of a refusal; then part and position say which command is refused, and every other field is 0
- * (a job's tally is carried on all the same). The numbers are explained in docs/REFUSALS.md.
+ * An answer's number is 0, or that of a refusal, 1 to 13; then part and position say which command is refused, and every other
+ * field is 0 (a job's tally is carried on all the same). The numbers are explained in docs/REFUSALS.md.
  *
  * Each call stands in a static library of its own, target/staticlib/libNAME.a; the name is given beside each call.
  * tools/libraries makes all nine, `rt staticlib NAME` one. They can be linked together. include/example.c is a complete program,
@@ -23,22 +23,26 @@ extern "C" {
 enum {
     FEEDCHECK_MAX_CHOICES = 32,
     FEEDCHECK_MAX_TERMS = 256,
+    FEEDCHECK_MAX_WINDOWS = 64,
     FEEDCHECK_MAX_PRODUCTS = 32,
     FEEDCHECK_TABLE_NUMBERS = 4225, /* numbers of a working table */
     FEEDCHECK_MAX_BUILT = 865,      /* a buffer of so many bytes is enough for every scheme that is built */
     FEEDCHECK_MAX_PLAIN = 1294,     /* for every certificate of our own */
     FEEDCHECK_MAX_LISTING = 4096,   /* for every listing */
-    FEEDCHECK_MAX_JOB = 25306,      /* no job of more bytes is accepted */
-    FEEDCHECK_MAX_JOB_READ = 25435  /* a longer job is answered as its first so many bytes are */
+    FEEDCHECK_MAX_JOB = 25754,      /* no job of more bytes is accepted */
+    FEEDCHECK_MAX_JOB_READ = 25883  /* a longer job is answered as its first so many bytes are */
 };
 
-/* Entries past the counts are 0. */
+/* Window number w is of the tank window_tanks[w]: window_froms[w] is its first minute, window_tos[w] the first minute after it.
+ * Where a tank has no window, every minute is allowed. Entries past the counts are 0. */
 typedef struct {
     int32_t base;
     size_t choices, terms;
     uint16_t tanks[FEEDCHECK_MAX_CHOICES], minutes[FEEDCHECK_MAX_CHOICES];
     uint32_t masks[FEEDCHECK_MAX_TERMS];
     int32_t coefficients[FEEDCHECK_MAX_TERMS];
+    size_t windows;
+    uint16_t window_tanks[FEEDCHECK_MAX_WINDOWS], window_froms[FEEDCHECK_MAX_WINDOWS], window_tos[FEEDCHECK_MAX_WINDOWS];
 } FeedcheckRegister;
 
 /* Product number n + k has the operands lefts[k] and rights[k]; term t has the split split_lefts[t], split_rights[t]. */

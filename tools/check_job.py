@@ -1,6 +1,6 @@
 #!/usr/bin/env python3
-"""The lines of a job, worked out from the scope paper by itself, slowly and in Python's whole numbers. It shares no code with the
-library; its answers are a second opinion, not a proof.
+"""The lines of a job, worked out from the scope paper and the requests by themselves, slowly and in Python's whole numbers. It shares no
+code with the library; its answers are a second opinion, not a proof.
 
     tools/check_job.py FILE            prints the lines of the job in FILE
     tools/check_job.py --rest FILE     prints R, row by row, with what each row has left over, where `3F` is reached
@@ -40,14 +40,22 @@ class Job:
     def register(self):
         _, v = self.take(0x10)
         self.need(abs(v["cost"]) <= 1_000_000_000, 4)
-        self.base, self.choices, self.terms = v["cost"], [], []
+        self.base, self.windows, self.choices, self.terms = v["cost"], [], [], []
         while True:
-            byte, v = self.take(*([0x12, 0x1F] if self.terms else [0x11, 0x12, 0x1F]))
-            if byte == 0x11:
+            byte, v = self.take(0x12, 0x1F, *([] if self.terms else [0x11]), *([] if self.choices else [0x13]))
+            if byte == 0x13:
+                self.need(len(self.windows) < 64, 3)
+                self.need(1 <= v["tank"] <= 9_999 and v["from"] <= 1_439 and 1 <= v["to"] <= 1_440, 4)
+                self.need(v["from"] < v["to"], 6)
+                self.need(not self.windows or self.windows[-1][:2] < (v["tank"], v["from"]), 7)
+                self.windows.append((v["tank"], v["from"], v["to"]))
+            elif byte == 0x11:
                 self.need(len(self.choices) < 32, 3)
                 self.need(1 <= v["tank"] <= 9_999 and v["minute"] <= 1_439, 4)
                 choice = v["tank"], v["minute"]
                 self.need(not self.choices or self.choices[-1] < choice, 7)
+                windows = [range(start, end) for tank, start, end in self.windows if tank == v["tank"]]
+                self.need(not windows or any(v["minute"] in window for window in windows), 13)
                 self.choices.append(choice)
             elif byte == 0x12:
                 self.need(len(self.terms) < 256, 3)

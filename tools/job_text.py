@@ -19,6 +19,7 @@ COMMANDS = {
     0x10: (1, "base", [("cost", I32)]),
     0x11: (1, "choice", [("tank", U16), ("minute", U16)]),
     0x12: (1, "term", [("mask", U32), ("coefficient", I32)]),
+    0x13: (1, "window", [("tank", U16), ("from", U16), ("to", U16)]),
     0x1F: (1, "end", []),
     0x21: (2, "product", [("l", U8), ("r", U8)]),
     0x22: (2, "split", [("l", U8), ("r", U8)]),
@@ -70,15 +71,25 @@ def choices_of(mask):
     return "choices " + " ".join(str(i) for i in range(32) if mask >> i & 1) if mask else "no choice"
 
 
+def clock(minute):
+    return f"{minute // 60:02}:{minute % 60:02}"
+
+
 def product_of(l, r):
     return f"z{l}" if l == r else f"z{l} z{r}"
 
 
 class Meaning:
-    """What the commands so far have named: the sets of the variables, the operands of the products, how many terms and splits."""
+    """What the commands so far have named: the windows, the sets of the variables, the operands of the products, how many terms and
+    splits."""
 
     def __init__(self):
-        self.sets, self.products, self.terms, self.splits = [], {}, 0, 0
+        self.windows, self.sets, self.products, self.terms, self.splits = [], [], {}, 0, 0
+
+    def outside(self, tank, minute):
+        """Whether a tank has windows and a minute is in none of them."""
+        windows = [(start, end) for of, start, end in self.windows if of == tank]
+        return bool(windows) and not any(start <= minute < end for start, end in windows)
 
     def union(self, *variables):
         """The union of variables' sets, None where one is not there."""
@@ -104,11 +115,16 @@ class Meaning:
         """What a command means, and what it adds to what is named."""
         if byte == 0x11:
             self.sets.append(1 << len(self.sets))
-            clock = f", {v['minute'] // 60:02}:{v['minute'] % 60:02}" if v["minute"] < 1_440 else ""
-            return f"choice {len(self.sets) - 1}{clock}"
+            time = f", {clock(v['minute'])}" if v["minute"] < 1_440 else ""
+            outside = ", in no window of its tank" if self.outside(v["tank"], v["minute"]) else ""
+            return f"choice {len(self.sets) - 1}{time}{outside}"
         if byte == 0x12:
             self.terms += 1
             return f"term {self.terms - 1}: {choices_of(v['mask'])}"
+        if byte == 0x13:
+            self.windows.append((v["tank"], v["from"], v["to"]))
+            times = f", {clock(v['from'])} to {clock(v['to'])}" if v["from"] < v["to"] <= 1_440 else ""
+            return f"window {len(self.windows) - 1}{times}"
         if byte == 0x21:
             k = len(self.sets)
             self.products[k] = v["l"], v["r"]

@@ -1,6 +1,7 @@
 #!/usr/bin/env python3
 """Tries tools/job_text.py: bytes to lines and back, on every example, on every file of the folders given, and on damaged copies of
-the example job: each front of it, each byte changed to four others, each byte left out.
+two jobs, one without windows and one with them: each front of it, each byte changed to five others, each byte left out. Then the lines
+of a register with windows, right ones and others, and lines that are no command.
 
     tools/test_job_text.py [FOLDER ..]
 """
@@ -13,23 +14,60 @@ from job_text import make, show
 
 EXAMPLES = pathlib.Path(__file__).resolve().parent.parent / "examples"
 
+# a run of bytes, command by command, with the line of each: windows in order, misordered and out of range, a choice at the last minute
+# before "from", at "from", at "to", of a tank without a window, and a window that is cut off
+SHOWN = [
+    ("10 00000000", "00000  1  10 base      cost 0"),
+    ("13 0400 2805 A005", "00005  1  13 window    tank 4  from 1320  to 1440  (window 0, 22:00 to 24:00)"),
+    ("13 0700 0000 6801", "00012  1  13 window    tank 7  from 0  to 360  (window 1, 00:00 to 06:00)"),
+    ("13 0800 5802 5802", "00019  1  13 window    tank 8  from 600  to 600  (window 2)"),
+    ("13 0900 0000 A105", "00026  1  13 window    tank 9  from 0  to 1441  (window 3)"),
+    ("11 0400 2705", "00033  1  11 choice    tank 4  minute 1319  (choice 0, 21:59, in no window of its tank)"),
+    ("11 0400 2805", "00038  1  11 choice    tank 4  minute 1320  (choice 1, 22:00)"),
+    ("11 0700 6801", "00043  1  11 choice    tank 7  minute 360  (choice 2, 06:00, in no window of its tank)"),
+    ("11 0A00 6801", "00048  1  11 choice    tank 10  minute 360  (choice 3, 06:00)"),
+    ("13 0B00 0000 68", "00053  -  raw  13 0B 00 00 00 68"),
+]
+
+NO_COMMANDS = [
+    "00005  1  13 window    tank 4  from 1320",
+    "00005  1  13 window    tank 4  from 1320  to",
+    "00005  1  13 window    tank 4  from 1320  minute 1440",
+    "00005  1  13 window    tank 4  from 1320  to 65536",
+    "00005  1  13 window    tank 4  from -1  to 1440",
+]
+
 
 def damaged(job):
     for at in range(len(job)):
         yield job[:at]
         yield job[:at] + job[at + 1:]
-        for byte in (0x00, 0x11, 0x3F, 0xFF):
+        for byte in (0x00, 0x11, 0x13, 0x3F, 0xFF):
             yield job[:at] + bytes([byte]) + job[at + 1:]
+
+
+def is_refused(line):
+    try:
+        make([line])
+    except SystemExit:
+        return True
+    return False
 
 
 def main():
     files = [path for folder in [EXAMPLES, *map(pathlib.Path, sys.argv[1:])] for path in sorted(folder.iterdir()) if path.is_file()]
     jobs = [(path.name, path.read_bytes()) for path in files]
-    jobs += [("the example, damaged", job) for job in damaged((EXAMPLES / "example.job").read_bytes())]
-    failed = [name for name, job in jobs if make(show(job)) != job]
-    for name in failed:
-        print("not the same bytes:", name)
-    print(f"{len(jobs) - len(failed)} passed, {len(failed)} failed")
+    for name in ("example", "windows.night"):
+        jobs += [(f"{name}, damaged", job) for job in damaged((EXAMPLES / f"{name}.job").read_bytes())]
+    trials = [(f"not the same bytes: {name}", make(show(job)) == job) for name, job in jobs]
+    lines = show(bytes.fromhex("".join(run for run, _ in SHOWN)))
+    trials += [(f"not the line: {line}", shown == line) for (_, line), shown in zip(SHOWN, lines, strict=True)]
+    trials += [(f"not the bytes: {line}", make([line]) == bytes.fromhex(run)) for run, line in SHOWN]
+    trials += [(f"taken for a command: {line}", is_refused(line)) for line in NO_COMMANDS]
+    failed = [said for said, holds in trials if not holds]
+    for said in failed:
+        print(said)
+    print(f"{len(trials) - len(failed)} passed, {len(failed)} failed")
     sys.exit(1 if failed else 0)
 
 

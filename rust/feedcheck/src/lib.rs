@@ -18,6 +18,9 @@ pub const MAX_CHOICES: usize = 32;
 /// The most terms of a register, and so the most splits of a scheme.
 pub const MAX_TERMS: usize = 256;
 
+/// The most windows of a register.
+pub const MAX_WINDOWS: usize = 64;
+
 /// The most products of a scheme.
 pub const MAX_PRODUCTS: usize = 32;
 
@@ -34,10 +37,10 @@ pub const MAX_PLAIN: usize = 1_294;
 pub const MAX_LISTING: usize = 4_096;
 
 /// No job of more bytes is accepted.
-pub const MAX_JOB: usize = 25_306;
+pub const MAX_JOB: usize = 25_754;
 
 /// A longer job is answered as its first so many bytes are.
-pub const MAX_JOB_READ: usize = 25_435;
+pub const MAX_JOB_READ: usize = 25_883;
 
 /// A refusal: its number in the table of docs/REFUSALS.md, the part (1 register, 2 scheme, 3 certificate, 4 plan) and the
 /// position of the command that is refused; part and position are 0 where no command causes it.
@@ -68,12 +71,13 @@ impl Refusal {
             4 => "a number is out of range",
             5 => "a name of nothing",
             6 => "a pair is misordered",
-            7 => "a choice or a mask is not rising",
+            7 => "a choice, a window or a mask is not rising",
             8 => "sets don't fit",
             9 => "R falls short",
             10 => "the builder needs a 33rd product",
             11 => "a lent table or buffer is short",
             12 => "bytes stand after the end",
+            13 => "a choice is outside its tank's windows",
             _ => "no refusal",
         }
     }

@@ -2,9 +2,11 @@
 //!
 //! A Rust slice's pointer is never null and is aligned, and a lent slice overlaps nothing else, which is all that the calls ask.
 
-use crate::{MAX_CHOICES, MAX_PRODUCTS, MAX_TERMS};
+use crate::{MAX_CHOICES, MAX_PRODUCTS, MAX_TERMS, MAX_WINDOWS};
 
-/// The record of a register. Entries past the counts are 0.
+/// The record of a register. Window number w is of the tank window_tanks[w]: window_froms[w] is its first minute, window_tos[w]
+/// the first minute after it. Where a tank has no window, every minute is allowed. Entries past the counts
+/// are 0.
 #[derive(Clone, Copy, Debug, PartialEq, Eq)]
 #[repr(C)]
 pub struct Register {
@@ -15,6 +17,10 @@ pub struct Register {
     pub minutes: [u16; MAX_CHOICES],
     pub masks: [u32; MAX_TERMS],
     pub coefficients: [i32; MAX_TERMS],
+    pub windows: usize,
+    pub window_tanks: [u16; MAX_WINDOWS],
+    pub window_froms: [u16; MAX_WINDOWS],
+    pub window_tos: [u16; MAX_WINDOWS],
 }
 
 /// The record of a scheme: product number n + k has the operands lefts[k] and rights[k], term t the split split_lefts[t],
