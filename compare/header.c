@@ -1,5 +1,5 @@
-// The example of the scope through include/feedcheck.h, every call. Prints a line and exits 1 where an answer is another than the
-// scope's.
+// The example of the scope through include/feedcheck.h, every call, and a register with windows. Prints a line and exits 1 where
+// an answer is another than the scope's.
 #include <stdio.h>
 #include <string.h>
 
@@ -11,6 +11,10 @@ static const uint8_t JOB[113] = {
     0x21, 0, 1, 0x21, 2, 3, 0x22, 0, 0, 0x22, 1, 1, 0x22, 4, 4, 0x2F,
     0x30, 1, 0, 0, 0, 0, 0, 0, 0, 0, 0, 0, 0, 0x39, 0, 6, 0, 0, 0, 0, 0, 0, 0, 0x39, 1, 4, 0, 0, 0, 0, 0, 0, 0,
     0x38, 4, 5, 0, 0, 0, 0, 0, 0, 0, 0x3F, 0x40, 3, 0, 0, 0};
+
+// Tank 4 from 480 to 482 and from 720 to 1440, tank 7 from 0 to 1, then a choice of tank 4 at minute 481.
+static const uint8_t WINDOWS[32] = {0x10, 0, 0, 0, 0, 0x13, 4, 0, 0xE0, 1, 0xE2, 1, 0x13, 4, 0, 0xD0, 2, 0xA0, 5,
+                                    0x13, 7, 0, 0, 0, 1, 0, 0x11, 4, 0, 0xE1, 1, 0x1F};
 
 enum { REGISTER = 48, SCHEME = 16, CERTIFICATE = 44, PLAN = 5 };
 
@@ -31,6 +35,18 @@ int main(void) {
     FeedcheckRegisterAnswer a = feedcheck_register(JOB, REGISTER);
     expect("register", a.number == 0 && a.reg.base == 10 && a.reg.choices == 3 && a.reg.terms == 3 && a.reg.tanks[2] == 7 &&
                            a.reg.minutes[1] == 720 && a.reg.masks[2] == 7 && a.reg.coefficients[0] == -6);
+    expect("register, no windows", a.reg.windows == 0 && a.reg.window_tanks[0] == 0 && a.reg.window_tos[63] == 0);
+    a = feedcheck_register(WINDOWS, sizeof WINDOWS);
+    expect("windows", a.number == 0 && a.reg.choices == 1 && a.reg.minutes[0] == 481 && a.reg.windows == 3 &&
+                          a.reg.window_tanks[1] == 4 && a.reg.window_tanks[2] == 7 && a.reg.window_froms[0] == 480 &&
+                          a.reg.window_froms[1] == 720 && a.reg.window_tos[0] == 482 && a.reg.window_tos[1] == 1440 &&
+                          a.reg.window_tos[2] == 1 && a.reg.window_tos[3] == 0);
+    uint8_t outside[sizeof WINDOWS];
+    memcpy(outside, WINDOWS, sizeof WINDOWS);
+    outside[29] = 0xE2;
+    a = feedcheck_register(outside, sizeof outside);
+    expect("windows, choice outside", a.number == 13 && a.part == 1 && a.position == 26 && a.reg.windows == 0 &&
+                                          a.reg.window_tanks[0] == 0);
     FeedcheckSchemeAnswer b = feedcheck_scheme(JOB, REGISTER, scheme, SCHEME);
     expect("scheme", b.number == 0 && b.scheme.products == 2 && b.scheme.splits == 3 && b.scheme.rights[1] == 3 &&
                          b.scheme.split_lefts[2] == 4);
@@ -56,6 +72,6 @@ int main(void) {
     w = feedcheck_listing(JOB, sizeof JOB, table, FEEDCHECK_TABLE_NUMBERS, buffer, sizeof buffer);
     expect("listing", w.number == 0 && w.count == strlen(LINES) && memcmp(buffer, LINES, w.count) == 0);
     if (!failed)
-        printf("header: the example is answered as the scope says\n");
+        printf("header: the example and the windows are answered as the scope says\n");
     return failed;
 }

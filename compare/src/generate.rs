@@ -2,9 +2,10 @@
 
 use crate::random::Random;
 use reference::certificate::{self, Certificate, Multiplier, Square};
-use reference::register::{Choice, Register, Term, MAX_CHOICES, MAX_TERMS};
+use reference::register::{Choice, Register, Term, Window, MAX_CHOICES, MAX_MINUTE, MAX_TERMS, MAX_TO, MAX_WINDOWS};
 use reference::scheme::{Scheme, MAX_PRODUCTS};
 use reference::{builder, plain};
+use std::collections::BTreeMap;
 
 /// The bytes of the four parts, each by itself, and those of a job.
 #[derive(Clone, Default)]
@@ -50,8 +51,9 @@ pub fn input(random: &mut Random, seeds: &[Whole]) -> Input {
 
 /// Four parts that are right, but that R may fall short.
 pub fn whole(random: &mut Random, size: Size) -> Whole {
-    let (register, scheme) =
+    let (mut register, scheme) =
         if size != Size::Full && random.chance(40) { built(random, size) } else { products_first(random, size) };
+    register.windows = windows(random, &register.choices);
     let certificate = any_certificate(random, size, &register, &scheme);
     let plan = random.next() as u32 & register.all();
     Whole {
@@ -107,6 +109,57 @@ fn choices(random: &mut Random, count: usize) -> Vec<Choice> {
     all.into_iter().map(|(tank, minute)| Choice { tank, minute }).collect()
 }
 
+/// Windows of some of the tanks that have choices, each choice of theirs inside one, and of tanks that have none.
+fn windows(random: &mut Random, choices: &[Choice]) -> Vec<Window> {
+    let wanted = match random.below(10) {
+        0..=3 => return Vec::new(),
+        4..=6 => 1 + random.below(6),
+        7 => random.below(MAX_WINDOWS + 1),
+        8 => MAX_WINDOWS - 1,
+        _ => MAX_WINDOWS,
+    };
+    let mut tanks: Vec<u16> = choices.iter().map(|choice| choice.tank).collect();
+    tanks.dedup();
+    tanks.retain(|_| random.chance(70));
+    // "to", by tank and "from".
+    let mut found: BTreeMap<(u16, u16), u16> = BTreeMap::new();
+    for &Choice { tank, minute } in choices.iter().filter(|choice| tanks.contains(&choice.tank)) {
+        let inside = found.iter().any(|(&(of, from), &to)| of == tank && (from..to).contains(&minute));
+        if !inside || random.chance(50) {
+            let before = random.below(minute as usize + 1) as u16;
+            let from = random.pick(&[minute, minute, 0, before]);
+            let to = found.entry((tank, from)).or_insert(0);
+            *to = (*to).max(later(random, minute));
+        }
+    }
+    while found.len() < wanted {
+        let (any_tank, any_minute) = (1 + random.below(9_999) as u16, random.below(1_440) as u16);
+        let tank = if !tanks.is_empty() && random.chance(60) {
+            random.pick(&tanks)
+        } else {
+            random.pick(&[1, 2, 3, 9_998, 9_999, any_tank])
+        };
+        // A tank of choices that has no windows stays without.
+        if !tanks.contains(&tank) && choices.iter().any(|choice| choice.tank == tank) {
+            continue;
+        }
+        // It touches a window before it, begins inside that one, or stands anywhere.
+        let from = match found.range((tank, 0)..(tank, any_minute)).next_back() {
+            Some((_, &to)) if to <= MAX_MINUTE && random.chance(30) => to,
+            Some((&(_, from), &to)) if from + 1 < to && random.chance(30) => from + 1,
+            _ => random.pick(&[0, 1, MAX_MINUTE - 1, MAX_MINUTE, any_minute, any_minute]),
+        };
+        found.entry((tank, from)).or_insert(later(random, from));
+    }
+    found.into_iter().map(|((tank, from), to)| Window { tank, from, to }).collect()
+}
+
+/// A "to" after the minute: the least, the greatest, or any.
+fn later(random: &mut Random, minute: u16) -> u16 {
+    let any = random.within(minute as i64 + 1, MAX_TO as i64) as u16;
+    random.pick(&[minute + 1, minute + 1, MAX_TO, any])
+}
+
 fn coefficient(random: &mut Random) -> i32 {
     let (small, any) = (random.within(1, 9) as i32, random.within(1, 1_000_000) as i32);
     random.pick(&[1, -1, 1_000_000, -1_000_000, small, -small, any, -any])
@@ -117,7 +170,7 @@ fn base(random: &mut Random) -> i32 {
     random.pick(&[0, 10, -10, 1_000_000_000, -1_000_000_000, any])
 }
 
-/// A register of masks, each once, in any order.
+/// A register of masks, each once, in any order; without windows.
 fn register_of(random: &mut Random, choice_count: usize, mut masks: Vec<u32>) -> Register {
     masks.sort();
     masks.dedup();
@@ -125,6 +178,7 @@ fn register_of(random: &mut Random, choice_count: usize, mut masks: Vec<u32>) ->
     let term = |mask, random: &mut Random| Term { mask, coefficient: coefficient(random), position: 0 };
     Register {
         base: base(random),
+        windows: Vec::new(),
         choices: choices(random, choice_count),
         terms: masks.into_iter().map(|mask| term(mask, random)).collect(),
     }
@@ -360,14 +414,25 @@ fn command(byte: u8, operands: &[&[u8]]) -> Vec<u8> {
 
 pub fn register_commands(register: &Register) -> Vec<Vec<u8>> {
     let mut commands = vec![command(0x10, &[&register.base.to_le_bytes()])];
+    for window in &register.windows {
+        commands.push(window_command(window));
+    }
     for choice in &register.choices {
-        commands.push(command(0x11, &[&choice.tank.to_le_bytes(), &choice.minute.to_le_bytes()]));
+        commands.push(choice_command(choice));
     }
     for term in &register.terms {
         commands.push(command(0x12, &[&term.mask.to_le_bytes(), &term.coefficient.to_le_bytes()]));
     }
     commands.push(vec![0x1F]);
     commands
+}
+
+fn choice_command(choice: &Choice) -> Vec<u8> {
+    command(0x11, &[&choice.tank.to_le_bytes(), &choice.minute.to_le_bytes()])
+}
+
+fn window_command(window: &Window) -> Vec<u8> {
+    command(0x13, &[&window.tank.to_le_bytes(), &window.from.to_le_bytes(), &window.to.to_le_bytes()])
 }
 
 pub fn scheme_commands(scheme: &Scheme) -> Vec<Vec<u8>> {
@@ -412,6 +477,7 @@ fn widths(byte: u8) -> Vec<usize> {
         0x10 | 0x40 => vec![4],
         0x11 => vec![2, 2],
         0x12 => vec![4, 4],
+        0x13 => vec![2, 2, 2],
         0x21 | 0x22 => vec![1, 1],
         0x30 => vec![4, 8],
         0x31 | 0x35..=0x39 => vec![1, 8],
@@ -423,8 +489,9 @@ fn widths(byte: u8) -> Vec<usize> {
     }
 }
 
-const COMMANDS: [u8; 21] = [
-    0x10, 0x11, 0x12, 0x1F, 0x21, 0x22, 0x2F, 0x30, 0x31, 0x32, 0x33, 0x34, 0x35, 0x36, 0x37, 0x38, 0x39, 0x3A, 0x3F, 0x40, 0x00,
+const COMMANDS: [u8; 22] = [
+    0x10, 0x11, 0x12, 0x13, 0x1F, 0x21, 0x22, 0x2F, 0x30, 0x31, 0x32, 0x33, 0x34, 0x35, 0x36, 0x37, 0x38, 0x39, 0x3A, 0x3F, 0x40,
+    0x00,
 ];
 
 // Damage.
@@ -462,6 +529,9 @@ fn damage_commands(random: &mut Random, whole: &mut Whole, part: usize) {
     let commands = &mut whole.parts[part];
     if commands.is_empty() {
         return;
+    }
+    if commands.iter().any(|command| command.first() == Some(&0x13)) && random.chance(40) {
+        return damage_windows(random, commands);
     }
     let at = random.below(commands.len());
     match random.below(14) {
@@ -528,6 +598,7 @@ fn damage_commands(random: &mut Random, whole: &mut Whole, part: usize) {
             match more[0] {
                 0x11 => more[3..5].copy_from_slice(&1_439u16.to_le_bytes()),
                 0x12 => more[1..5].copy_from_slice(&(((1u64 << n) - 1) as u32).to_le_bytes()),
+                0x13 => more = window_command(&Window { tank: 9_999, from: MAX_MINUTE, to: MAX_TO }),
                 0x21 => more[1..3].copy_from_slice(&[random.below(all) as u8, all as u8 - 1]),
                 _ => {}
             }
@@ -540,6 +611,97 @@ fn damage_commands(random: &mut Random, whole: &mut Whole, part: usize) {
     }
 }
 
+/// Changes a window, or a choice, in one way that windows bear on.
+fn damage_windows(random: &mut Random, commands: &mut Vec<Vec<u8>>) {
+    let places = |byte, length| -> Vec<usize> {
+        (0..commands.len()).filter(|&at| commands[at][0] == byte && commands[at].len() == length).collect()
+    };
+    let (windows, choices) = (places(0x13, 7), places(0x11, 5));
+    if windows.is_empty() || choices.is_empty() {
+        return;
+    }
+    let same_tank = |&(window, choice): &(usize, usize)| operand(&commands[window], 0) == operand(&commands[choice], 0);
+    let pairs: Vec<_> = windows.iter().flat_map(|&w| choices.iter().map(move |&c| (w, c))).filter(same_tank).collect();
+    let (at, choice) =
+        if pairs.is_empty() || random.chance(30) { (random.pick(&windows), random.pick(&choices)) } else { random.pick(&pairs) };
+    let [tank, from, to] = [0, 1, 2].map(|i| operand(&commands[at], i));
+    let [fed, minute] = [0, 1].map(|i| operand(&commands[choice], i));
+    let edge = random.pick(&[from.wrapping_sub(1), from, to.wrapping_sub(1), to]);
+    match random.below(15) {
+        // The choice at an end of the window, inside or just outside; or one more choice there, rising or not.
+        0 | 1 => set_operand(&mut commands[choice], 1, edge),
+        2 => {
+            let place = random.pick(&[choice, choices[choices.len() - 1]]) + 1;
+            commands.insert(place, choice_command(&Choice { tank, minute: edge }));
+        }
+        // "from" or "to" at the choice, or just after it.
+        3 => set_operand(&mut commands[at], 1 + random.below(2), minute.wrapping_add(random.below(2) as u16)),
+        // Windows that contain the choice end before it, or are left out.
+        4..=6 => {
+            for &at in windows.iter().rev() {
+                let [tank, from, to] = [0, 1, 2].map(|i| operand(&commands[at], i));
+                if tank == fed && from < minute && minute < to {
+                    set_operand(&mut commands[at], 2, minute);
+                } else if tank == fed && from == minute {
+                    commands.remove(at);
+                }
+            }
+        }
+        // One more window of the choice's tank, in its place: it ends before the choice, begins after it, or contains it.
+        7 => {
+            let next = minute.wrapping_add(1);
+            let (from, to) = random.pick(&[(0, minute), (next, MAX_TO), (minute, next)]);
+            let after = windows.iter().find(|&&at| [0, 1].map(|i| operand(&commands[at], i)) > [fed, from]);
+            let place = after.map_or(windows[windows.len() - 1] + 1, |&at| at);
+            commands.insert(place, window_command(&Window { tank: fed, from, to }));
+        }
+        // "from" not below "to".
+        8 => {
+            let (from, to) = random.pick(&[(from, from), (to, to), (to, from), (from, from.wrapping_sub(1))]);
+            set_operand(&mut commands[at], 1, from);
+            set_operand(&mut commands[at], 2, to);
+        }
+        // The same tank and "from" again.
+        9 => {
+            let to = random.pick(&[to, to.wrapping_add(1), MAX_TO, from]);
+            commands.insert(at + random.below(2), window_command(&Window { tank, from, to }));
+        }
+        // Two windows exchanged, or one put anywhere.
+        10 if random.chance(50) => commands.swap(at, random.pick(&windows)),
+        10 => {
+            let window = commands.remove(at);
+            commands.insert(random.below(commands.len() + 1), window);
+        }
+        // One number out of range, or two.
+        11 => {
+            for _ in 0..1 + random.below(2) {
+                let (i, value) = random.pick(&[(0, 0), (0, 10_000), (1, MAX_MINUTE + 1), (2, 0), (2, MAX_TO + 1)]);
+                set_operand(&mut commands[at], i, value);
+            }
+        }
+        // Windows of the greatest tank up to the limit or past it, the last of them perhaps wrong in another way too.
+        _ => {
+            let count = (MAX_WINDOWS + random.below(2)).saturating_sub(windows.len()) as u16;
+            let froms = MAX_TO - count..MAX_TO;
+            let mut more: Vec<_> = froms.map(|from| window_command(&Window { tank: 9_999, from, to: MAX_TO })).collect();
+            if let Some(last) = more.last_mut().filter(|_| random.chance(50)) {
+                set_operand(last, random.below(3), random.pick(&[0, 1, MAX_MINUTE, 10_000]));
+            }
+            let end = windows[windows.len() - 1] + 1;
+            commands.splice(end..end, more);
+        }
+    }
+}
+
+/// Operand i of a command whose operands are u16.
+fn operand(command: &[u8], i: usize) -> u16 {
+    u16::from_le_bytes([command[1 + 2 * i], command[2 + 2 * i]])
+}
+
+fn set_operand(command: &mut [u8], i: usize, value: u16) {
+    command[1 + 2 * i..3 + 2 * i].copy_from_slice(&value.to_le_bytes());
+}
+
 fn notable_operand(random: &mut Random, command: &mut [u8], n: usize, all: usize) {
     let widths = widths(command[0]);
     if widths.is_empty() {
@@ -550,7 +712,7 @@ fn notable_operand(random: &mut Random, command: &mut [u8], n: usize, all: usize
     let near = random.within(-1, 1);
     let value = match widths[which] {
         1 => random.pick(&[0, n as i64 - 1, n as i64, all as i64 - 1, all as i64, 63, 64, 255]),
-        2 => random.pick(&[0, 1, 9_999, 1_439, 10_000, -10_000, 32_767, -32_768]) + near,
+        2 => random.pick(&[0, 1, 9_999, 1_439, 1_440, 10_000, -10_000, 32_767, -32_768]) + near,
         4 => random.pick(&[0, 1, 1 << (n - 1), 1 << n, 1_000_000, -1_000_000, 1_000_000_000, -1_000_000_000, 1 << 31]) + near,
         _ => {
             let limit = random.pick(&[0, 1_000_000_000_000, 4_000_000_000_000_000, i64::MAX - 1]);

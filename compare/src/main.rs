@@ -4,7 +4,7 @@
 //!     compare [COUNT [SEED [FOLDER..]]]
 //!
 //! The folders have jobs, `*.job`, of which a part of the inputs is made. Exit status 1: a difference, or a refusal number that
-//! the scope gives a call and that no input led to.
+//! the scope gives a call or a command and that no input led to.
 
 use compare::generate::{input, seed, Input, Whole};
 use compare::random::Random;
@@ -12,16 +12,45 @@ use feedcheck::raw;
 use reference::{Answer, Refusal};
 use std::collections::BTreeMap;
 
+/// Each call, with the refusal numbers that the scope gives it.
 const CALLS: [(&str, &[u8]); 9] = [
-    ("register", &[1, 2, 3, 4, 5, 7, 12]),
-    ("scheme", &[1, 2, 3, 4, 5, 6, 7, 8, 12]),
-    ("build", &[1, 2, 3, 4, 5, 7, 10, 11, 12]),
-    ("cost", &[1, 2, 3, 4, 5, 7, 12]),
-    ("penalty", &[1, 2, 3, 4, 5, 6, 7, 8, 11, 12]),
-    ("check", &[1, 2, 3, 4, 5, 6, 7, 8, 9, 11, 12]),
-    ("plain", &[1, 2, 3, 4, 5, 6, 7, 8, 11, 12]),
-    ("job", &[1, 2, 3, 4, 5, 6, 7, 8, 9, 11, 12]),
+    ("register", &[1, 2, 3, 4, 5, 6, 7, 12, 13]),
+    ("scheme", &[1, 2, 3, 4, 5, 6, 7, 8, 12, 13]),
+    ("build", &[1, 2, 3, 4, 5, 6, 7, 10, 11, 12, 13]),
+    ("cost", &[1, 2, 3, 4, 5, 6, 7, 12, 13]),
+    ("penalty", &[1, 2, 3, 4, 5, 6, 7, 8, 11, 12, 13]),
+    ("check", &[1, 2, 3, 4, 5, 6, 7, 8, 9, 11, 12, 13]),
+    ("plain", &[1, 2, 3, 4, 5, 6, 7, 8, 11, 12, 13]),
+    ("job", &[1, 2, 3, 4, 5, 6, 7, 8, 9, 11, 12, 13]),
     ("listing", &[11]),
+];
+
+/// The numbers of an answer: 0, and the refusals 1 to 13.
+const NUMBERS: usize = 14;
+
+/// Each command, by its part and byte, with the refusal numbers that the scope gives it there; 1 where it stands out of place.
+const COMMANDS: [(u8, u8, &[u8]); 21] = [
+    (1, 0x10, &[1, 2, 4]),
+    (1, 0x11, &[1, 2, 3, 4, 7, 13]),
+    (1, 0x12, &[1, 2, 3, 4, 5, 7]),
+    (1, 0x13, &[1, 2, 3, 4, 6, 7]),
+    (1, 0x1F, &[1, 3]),
+    (2, 0x21, &[1, 2, 3, 5, 6, 8]),
+    (2, 0x22, &[2, 3, 5, 6, 8]),
+    (2, 0x2F, &[3]),
+    (3, 0x30, &[1, 2, 4]),
+    (3, 0x31, &[1, 2, 3, 4, 5]),
+    (3, 0x32, &[1, 2, 3, 4, 5, 8]),
+    (3, 0x33, &[1, 2, 3, 4, 5, 6, 8]),
+    (3, 0x34, &[1, 2, 3, 4, 5, 6, 8]),
+    (3, 0x35, &[1, 2, 3, 4, 5]),
+    (3, 0x36, &[1, 2, 3, 4, 5]),
+    (3, 0x37, &[1, 2, 3, 4, 5]),
+    (3, 0x38, &[1, 2, 3, 4, 5]),
+    (3, 0x39, &[1, 2, 3, 4, 5]),
+    (3, 0x3A, &[1, 2, 3, 4, 5]),
+    (3, 0x3F, &[1, 9]),
+    (4, 0x40, &[2, 5]),
 ];
 
 /// Numbers or bytes on either side of what is lent.
@@ -32,9 +61,9 @@ struct Comparison {
     inputs: u64,
     differences: u64,
     /// Per call, how often each number was answered.
-    numbers: BTreeMap<&'static str, [u64; 13]>,
+    numbers: BTreeMap<&'static str, [u64; NUMBERS]>,
     /// For each part and command byte, how often the check or the cost refused it with each number.
-    commands: BTreeMap<(u8, Option<u8>), [u64; 13]>,
+    commands: BTreeMap<(u8, Option<u8>), [u64; NUMBERS]>,
     /// What lent tables and buffers hold at first.
     contents: Vec<i64>,
 }
@@ -229,7 +258,7 @@ impl Comparison {
         let mut missing = 0;
         println!("{} inputs, each to every call; how often each number was answered (0: accepted)", self.inputs);
         print!("{:10}", "");
-        (0..13).for_each(|number| print!("{number:>8}"));
+        (0..NUMBERS).for_each(|number| print!("{number:>8}"));
         println!();
         for (call, expected) in CALLS {
             let numbers = &self.numbers[call];
@@ -244,11 +273,18 @@ impl Comparison {
         println!("commands refused by the check, and those of part 4 by the cost (--: no byte there, or bytes after the end)");
         for ((part, byte), numbers) in &self.commands {
             let byte = byte.map_or("--".to_string(), |byte| format!("{byte:02X}"));
-            let known = *part as usize <= 4 && numbers[2..12].iter().any(|&count| count > 0) || byte == "--";
+            let known = *part as usize <= 4 && numbers[2..].iter().any(|&count| count > 0) || byte == "--";
             if known {
                 print!("part {part} {byte:2} ");
                 numbers.iter().for_each(|count| print!("{count:>8}"));
                 println!();
+            }
+        }
+        for (part, byte, expected) in COMMANDS {
+            let numbers = self.commands.get(&(part, Some(byte))).copied().unwrap_or_default();
+            for number in expected.iter().filter(|&&number| numbers[number as usize] == 0) {
+                println!("command {byte:02X}: refusal {number} did not occur");
+                missing += 1;
             }
         }
         missing
@@ -281,6 +317,10 @@ fn register_answer(answer: Answer<reference::register::Register>) -> raw::Regist
         minutes: [0; 32],
         masks: [0; 256],
         coefficients: [0; 256],
+        windows: 0,
+        window_tanks: [0; 64],
+        window_froms: [0; 64],
+        window_tos: [0; 64],
     };
     let refusal = answer.as_ref().err().copied().unwrap_or_default();
     if let Ok(register) = answer {
@@ -294,6 +334,12 @@ fn register_answer(answer: Answer<reference::register::Register>) -> raw::Regist
         for (t, term) in register.terms.iter().enumerate() {
             record.masks[t] = term.mask;
             record.coefficients[t] = term.coefficient;
+        }
+        record.windows = register.windows.len();
+        for (w, window) in register.windows.iter().enumerate() {
+            record.window_tanks[w] = window.tank;
+            record.window_froms[w] = window.from;
+            record.window_tos[w] = window.to;
         }
     }
     raw::RegisterAnswer { number: refusal.number, part: refusal.part, position: refusal.position, register: record }
@@ -334,7 +380,7 @@ fn main() {
     println!("{} jobs as seeds", seeds.len());
     let mut random = Random(start);
     let contents = (0..5_000 + 2 * MARGIN).map(|_| random.next() as i64).collect();
-    let numbers = CALLS.map(|(call, _)| (call, [0; 13])).into();
+    let numbers = CALLS.map(|(call, _)| (call, [0; NUMBERS])).into();
     let mut comparison = Comparison { random, inputs: 0, differences: 0, numbers, commands: BTreeMap::new(), contents };
     let mut random = Random(start ^ 0x5EED);
     for _ in 0..count {

@@ -1,9 +1,29 @@
 //! Part 1, the register.
 
 use crate::wire::{Commands, Read};
+use std::ops::RangeInclusive;
 
+pub const MAX_WINDOWS: usize = 64;
 pub const MAX_CHOICES: usize = 32;
 pub const MAX_TERMS: usize = 256;
+pub const TANKS: RangeInclusive<u16> = 1..=9_999;
+pub const MAX_MINUTE: u16 = 1_439;
+/// The greatest "to"; the last minute stands before it.
+pub const MAX_TO: u16 = MAX_MINUTE + 1;
+
+/// Minutes at which a tank may be fed: `from` and those after it, before `to`.
+#[derive(Clone, Copy, Debug, PartialEq, Eq)]
+pub struct Window {
+    pub tank: u16,
+    pub from: u16,
+    pub to: u16,
+}
+
+impl Window {
+    pub fn contains(&self, minute: u16) -> bool {
+        (self.from..self.to).contains(&minute)
+    }
+}
 
 #[derive(Clone, Copy, Debug, PartialEq, Eq)]
 pub struct Choice {
@@ -22,6 +42,7 @@ pub struct Term {
 #[derive(Clone, Debug, PartialEq, Eq)]
 pub struct Register {
     pub base: i32,
+    pub windows: Vec<Window>,
     pub choices: Vec<Choice>,
     pub terms: Vec<Term>,
 }
@@ -31,6 +52,12 @@ impl Register {
     pub fn all(&self) -> u32 {
         ((1u64 << self.choices.len()) - 1) as u32
     }
+
+    /// Whether the windows let the tank be fed at this minute; a tank that has none may be fed at any.
+    pub fn may_feed(&self, tank: u16, minute: u16) -> bool {
+        let mut of_tank = self.windows.iter().filter(|window| window.tank == tank).peekable();
+        of_tank.peek().is_none() || of_tank.any(|window| window.contains(minute))
+    }
 }
 
 pub fn read(bytes: &[u8]) -> Read<Register> {
@@ -38,12 +65,14 @@ pub fn read(bytes: &[u8]) -> Read<Register> {
     let first = commands.next(|byte| (byte == 0x10).then_some(4))?;
     let base = first.i32(0);
     first.refuse(4, base.unsigned_abs() > 1_000_000_000)?;
-    let mut register = Register { base, choices: Vec::new(), terms: Vec::new() };
+    let mut register = Register { base, windows: Vec::new(), choices: Vec::new(), terms: Vec::new() };
     loop {
-        let no_term_yet = register.terms.is_empty();
+        // Where there is no choice there is no term either: a mask names choices.
+        let (no_choice_yet, no_term_yet) = (register.choices.is_empty(), register.terms.is_empty());
         let command = commands.next(|byte| match byte {
             0x11 if no_term_yet => Some(4),
             0x12 => Some(8),
+            0x13 if no_choice_yet => Some(6),
             0x1F => Some(0),
             _ => None,
         })?;
@@ -51,12 +80,9 @@ pub fn read(bytes: &[u8]) -> Read<Register> {
             0x11 => {
                 let (tank, minute) = (command.u16(0), command.u16(2));
                 command.refuse(3, register.choices.len() == MAX_CHOICES)?;
-                command.refuse(4, !(1..=9_999).contains(&tank) || minute > 1_439)?;
-                let rising = match register.choices.last() {
-                    None => true,
-                    Some(last) => (last.tank, last.minute) < (tank, minute),
-                };
-                command.refuse(7, !rising)?;
+                command.refuse(4, !TANKS.contains(&tank) || minute > MAX_MINUTE)?;
+                command.refuse(7, register.choices.last().is_some_and(|last| (last.tank, last.minute) >= (tank, minute)))?;
+                command.refuse(13, !register.may_feed(tank, minute))?;
                 register.choices.push(Choice { tank, minute });
             }
             0x12 => {
@@ -66,6 +92,14 @@ pub fn read(bytes: &[u8]) -> Read<Register> {
                 command.refuse(5, mask == 0 || mask & !register.all() != 0)?;
                 command.refuse(7, register.terms.last().is_some_and(|last| last.mask >= mask))?;
                 register.terms.push(Term { mask, coefficient, position: command.position });
+            }
+            0x13 => {
+                let (tank, from, to) = (command.u16(0), command.u16(2), command.u16(4));
+                command.refuse(3, register.windows.len() == MAX_WINDOWS)?;
+                command.refuse(4, !TANKS.contains(&tank) || from > MAX_MINUTE || !(1..=MAX_TO).contains(&to))?;
+                command.refuse(6, from >= to)?;
+                command.refuse(7, register.windows.last().is_some_and(|last| (last.tank, last.from) >= (tank, from)))?;
+                register.windows.push(Window { tank, from, to });
             }
             _ => {
                 command.refuse(3, register.choices.is_empty())?;

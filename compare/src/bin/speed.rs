@@ -132,6 +132,7 @@ fn deep_scheme() -> [Vec<u8>; 2] {
     println!("deep scheme: {total} steps of the test whether a term uses a product");
     let register = Register {
         base: 0,
+        windows: Vec::new(),
         choices: (1..33).map(|tank| Choice { tank, minute: 0 }).collect(),
         terms: splits.iter().map(|&(mask, _, _)| Term { mask, coefficient: 1_000_000, position: 0 }).collect(),
     };
