@@ -13,6 +13,7 @@ use Rattle.integers.proofs.Entries.{each-more, kept-set, column-none, column-em
 use Rattle.register.specs.declared.Register.{Register}
 use Rattle.register.specs.Limits.{maxChoices, maxTerms, maxWindows, maxBase}
 use Rattle.register.specs.Register.{tank, minute, mask, coefficient, windowTank, windowFrom, windowTo, fresh, setBase, setChoices, setTerms, setWindows, withBase, withChoice, withTerm, withWindow}
+use Rattle.register.specs.Answer.{NoFall}
 use Rattle.register.specs.Valid.{Within, Choices, Terms, Windows, MayFeed, windowAt}
 use Rattle.register.proofs.Passes.{NextChoice, NextTerm, NextWindow}
 
@@ -253,9 +254,9 @@ module _ (r : Register) (w : Within r) (k : ℕ) (e : r .windows ≡ suc k) wher
       (in-windows r w none (column-less fits (rw e at (w .window-tanks))) (column-less fits (rw e at (w .window-froms))) (column-less fits (rw e at (w .window-tos))) t, p)
 
 -- the tanks of windows do not fall
-pub windows-rise : (r : Register) → Within r → (i j : ℕ) → i ≤ j → j < r .windows → windowTank r i ≤ windowTank r j
-windows-rise r w i zero l h = let e : i ≡ 0 = omega arith in rw e (omega arith)
-windows-rise r w i (suc j) l h = go (ℕ-discrete i (suc j)) (λ k. windows-rise r w i j k (omega arith))
+pub windows-no-fall : (r : Register) → Within r → NoFall (r .windows) (r .«window_tanks»)
+windows-no-fall r w i zero l h = let e : i ≡ 0 = omega arith in rw e (omega arith)
+windows-no-fall r w i (suc j) l h = go (ℕ-discrete i (suc j)) (λ k. windows-no-fall r w i j k (omega arith))
   where
     go : Dec (i ≡ suc j) → (i ≤ j → windowTank r i ≤ windowTank r j) → windowTank r i ≤ windowTank r (suc j)
     go (yes e) before = rw e (omega arith)

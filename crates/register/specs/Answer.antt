@@ -23,14 +23,18 @@ seenOf p = let r = p .parsed in record {
   windows = r .windows;
 }
 
--- that, and the windows, whose tanks do not fall. The first `passed` of them are of tanks below the last choice's: a choice that
+-- the first n of these numbers do not fall
+abbrev pub NoFall : ℕ → List ℕ → Type 0
+NoFall n xs = (i j : ℕ) → i ≤ j → j < n → getD xs i 0 ≤ getD xs j 0
+
+-- what has been seen, and the windows, whose tanks do not fall. The first `passed` of them are of tanks below the last choice's: a choice that
 -- rises need not look at these
 pub record Given (p : Progress Register) (seen : Seen) (passed : ℕ) (tanks froms tos : List ℕ) : Type 0 where
   pub seen-is : seenOf p ≡ seen
   pub tanks-are : p .parsed .«window_tanks» ≡ tanks
   pub froms-are : p .parsed .«window_froms» ≡ froms
   pub tos-are : p .parsed .«window_tos» ≡ tos
-  pub no-fall : (i j : ℕ) → i ≤ j → j < seen .windows → getD tanks i 0 ≤ getD tanks j 0
+  pub no-fall : NoFall (seen .windows) tanks
   pub earlier : (j : ℕ) → j < passed → (1 ≤ seen .choices) × (getD tanks j 0 < seen .tank)
 
 -- for the reader of a job: a refusal's number and position, or 0, the position past the end and the register

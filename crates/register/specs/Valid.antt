@@ -62,6 +62,7 @@ pub record Inside (k : ℕ) (f : ℕ → ℕ × ℕ × ℕ) (tank minute : ℕ) 
 abbrev pub MayFeed : (k : ℕ) → (ℕ → ℕ × ℕ × ℕ) → (tank minute : ℕ) → Type 0
 MayFeed k f tank minute = ((j : ℕ) → j < k → f j .0 ≡ tank → ⊥) ⊎ Inside k f tank minute
 
+-- window j of a register
 abbrev pub windowAt : Register → ℕ → ℕ × ℕ × ℕ
 windowAt r j = (windowTank r j, windowFrom r j, windowTo r j)
 

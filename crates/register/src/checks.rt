@@ -7,8 +7,11 @@ use wire::command_refusal;
 use wire::first_of;
 ghost use mathlib.Core.Path.{_≡_};
 ghost use mathlib.Core.List.{[], _∷_};
+ghost use mathlib.Core.Bool.{not, _||_};
+ghost use lib.Dec.{eqb};
 ghost use Prim.Native.Nat.{_<_, _≤_};
 ghost use lib.ListN.{length};
+ghost use Rattle.integers.specs.Lists.{comesBefore};
 ghost use Rattle.wire.specs.Checks.{refusal};
 ghost use Rattle.wire.specs.Part.{checksAt, size};
 ghost use Rattle.wire.specs.Rows.{Progress, isAmong, rowOf};
@@ -23,13 +26,20 @@ fn base_refusal(base: i32) -> u8
     first_of(Register::MAX_BASE < wire::magnitude(base as i64), 4, 0)
 }
 
+// A tank with a second number does not come after the last of n others: by tank, then by the second number.
+fn pair_falls(n: usize, tank0: u16, second0: u16, tank: u16, second: u16) -> bool
+    ensures { λ r. ⌜ r ≡ not (eqb n 0 || comesBefore (tank0 ∷ second0 ∷ []) (tank ∷ second ∷ [])) ⌝ }
+{
+    let later = (tank0 < tank) | ((tank0 == tank) & (second0 < second));
+    !((n == 0) | later)
+}
+
 // The refusal of a choice after n others, the last of which is tank0 at minute0, or 0; `may` where its tank may be fed then.
 fn choice_refusal(n: usize, tank0: u16, minute0: u16, tank: u16, minute: u16, may: bool) -> u8
     ensures { λ r. ⌜ r ≡ refusal (choiceChecks n tank0 minute0 tank minute may) ⌝ }
 {
     let out = (tank == 0) | (Register::MAX_TANK < tank) | (Register::MAX_MINUTE < minute);
-    let later = (tank0 < tank) | ((tank0 == tank) & (minute0 < minute));
-    let falls = !((n == 0) | later);
+    let falls = pair_falls(n, tank0, minute0, tank, minute);
     first_of(
         Register::MAX_CHOICES <= n,
         3,
@@ -59,8 +69,7 @@ fn window_refusal(k: usize, tank0: u16, from0: u16, tank: u16, from: u16, to: u1
         | (Register::MAX_MINUTE < from)
         | (to == 0)
         | (Register::MAX_TO < to);
-    let later = (tank0 < tank) | ((tank0 == tank) & (from0 < from));
-    let falls = !((k == 0) | later);
+    let falls = pair_falls(k, tank0, from0, tank, from);
     let misordered = first_of(to <= from, 6, first_of(falls, 7, 0));
     first_of(Register::MAX_WINDOWS <= k, 3, first_of(out, 4, misordered))
 }

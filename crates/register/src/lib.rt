@@ -136,6 +136,7 @@ pub fn read_register(bytes: &[u8]) -> RegisterRead
     let mut register = Register::fresh();
     let mut previous: u8 = 0;
     let mut at: usize = 0;
+    // How many windows are of tanks below the last choice's.
     let mut passed: usize = 0;
     while at < bytes.len() {
         let n = register.choices;

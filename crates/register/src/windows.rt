@@ -6,6 +6,7 @@ ghost use Prim.Native.Nat.{ℕ, _<_, _≤_};
 ghost use lib.ListN.{getD};
 ghost use Rattle.register.specs.Limits.{maxWindows};
 ghost use Rattle.register.specs.Format.{mayFeed};
+ghost use Rattle.register.specs.Answer.{NoFall};
 
 // A tank may be fed at a minute, by the first n windows, whose tanks do not fall. The first `passed` of them need not be looked at
 // where they are of lower tanks.
@@ -19,7 +20,7 @@ pub fn may_feed<'a>(
     minute: u16,
 ) -> bool
     requires { ⌜ (passed ≤ n) × (n ≤ maxWindows) ⌝ }
-    ensures { λ r. ⌜ (((i j : ℕ) → i ≤ j → j < n → getD (now (tanks .entry)) i 0 ≤ getD (now (tanks .entry)) j 0) → ((j : ℕ) → j < passed → getD (now (tanks .entry)) j 0 < tank) → r ≡ mayFeed n (now (tanks .entry)) (now (froms .entry)) (now (tos .entry)) tank minute) ⌝ }
+    ensures { λ r. ⌜ (NoFall n (now (tanks .entry)) → ((j : ℕ) → j < passed → getD (now (tanks .entry)) j 0 < tank) → r ≡ mayFeed n (now (tanks .entry)) (now (froms .entry)) (now (tos .entry)) tank minute) ⌝ }
 {
     let mut none = true;
     let mut j = passed;

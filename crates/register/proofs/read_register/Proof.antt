@@ -23,7 +23,7 @@ use Rattle.register.specs.Format.{baseRow, choiceRow, termRow, windowRow
 use Rattle.register.specs.Valid.{Within, windowAt}
 use Rattle.register.specs.Answer.{Given, registerRead}
 use Rattle.register.proofs.Passes.{NextChoice, choice-iff, term-iff, window-iff}
-use Rattle.register.proofs.Entries.{termAt, windows-rise}
+use Rattle.register.proofs.Entries.{termAt, windows-no-fall}
 use Rattle.register.proofs.Passed.{Passed, passed-starts, passed-base, passed-choice, passed-term, passed-window}
 use Rattle.register.proofs.Laws.{Good, laws}
 use Rattle.register.proofs.read_register.Statement.{statement}
@@ -39,7 +39,7 @@ abbrev μ-loop : tie.MeasureT-loop
 given-is : (previous : ℕ) (r : Register) {i t passed : ℕ} → Within r → Passed r passed → i ≡ r .choices - 1 → t ≡ r .terms - 1 → Given (reached previous r)
     (record { previous = previous; choices = r .choices; terms = r .terms; tank = tank r i; minute = minute r i; mask = mask r t; windows = r .windows })
     passed (r .«window_tanks») (r .«window_froms») (r .«window_tos»)
-given-is previous r w p d e = record { seen-is = rw (d, e); tanks-are = refl; froms-are = refl; tos-are = refl; no-fall = windows-rise r w; earlier = λ k l. rw d (p .earlier k l) }
+given-is previous r w p d e = record { seen-is = rw (d, e); tanks-are = refl; froms-are = refl; tos-are = refl; no-fall = windows-no-fall r w; earlier = λ k l. rw d (p .earlier k l) }
 
 -- the loop's turn, once its command is judged
 module _ (c : tie.After-refusal-at Inv-loop μ-loop) where
