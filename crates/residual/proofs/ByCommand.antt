@@ -28,7 +28,7 @@ use Rattle.residual.proofs.Table.{signedForm, signedForm-below, entry-B
 use Rattle.residual.proofs.Bounds.{Small}
 use Rattle.residual.specs.Limits.{maxR}
 use Rattle.residual.proofs.RowBounds.{R-small}
-use Rattle.residual.proofs.Squares.{less-all}
+use Rattle.residual.proofs.Subtracted.{less-all}
 
 -- one term more
 sumOver-more : {A : Type 0} (l : List A) (x : A) (f : A → ℤ) → sumOver (l ++ (x ∷ [])) f ≡ sumOver l f +ℤ f x
@@ -76,9 +76,9 @@ module _ (c : ℕ → ℤ) (r : Register) (s : Scheme) where
         addForm-withTable (signedForm-below r s products t ok) (R c r s k) lent room
         ∙ withTable-cong (side n s) _ (R c r s (withMultiplier k t)) lent (λ i j _ _. sym (R-multiplier k t i j))
 
-    pub table-square : (q : Square) → lessWhere (side n s) q (λ i j. true) (holdsR k lent) ≡ holdsR (withSquare k q) lent
+    pub table-square : (q : Square) → lessWhere (side n s) (squareAt q) (λ i j. true) (holdsR k lent) ≡ holdsR (withSquare k q) lent
     table-square q =
-        less-all (side n s) q (R c r s k) lent room ∙ withTable-cong (side n s) _ (R c r s (withSquare k q)) lent (λ i j _ _. sym (R-square k q i j))
+        less-all (side n s) (squareAt q) (R c r s k) lent room ∙ withTable-cong (side n s) _ (R c r s (withSquare k q)) lent (λ i j _ _. sym (R-square k q i j))
 
     pub bounded-R : Small c r → r .choices ≤ maxChoices → S.Within r s → Within r s k → Bounded (side n s) maxR (holdsR k lent)
     bounded-R low choices scheme within = bounded-withTable (side n s) maxR (R c r s k) lent room (R-small c r s k low choices scheme within)

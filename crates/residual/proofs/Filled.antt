@@ -25,6 +25,7 @@ use Rattle.certificate.specs.Limits.{squareEntries}
 use Rattle.certificate.specs.Certificate.{Certificate}
 use Rattle.certificate.specs.Format.{commandSize, commandsInJob}
 use Rattle.certificate.specs.Answer.{namedOf, multiplierAt, squareRead}
+use Rattle.residual.specs.Residual.{squareAt}
 use Rattle.residual.specs.Built.{withScaleIn, Reads, added, lessWhere}
 use Rattle.residual.proofs.Bounds.{small}
 use Rattle.residual.proofs.Adds.{added-signed}
@@ -101,7 +102,7 @@ module _ {reg : Register} {sch : Scheme} {s : List ℕ} (h : Ready reg sch s) wh
             (table-multiplier (coefficient reg) reg sch (f .certificate) lent fits (h .scheme .within .products) (multiplierAt s at) (multiplier-allowed reg sch s (h .reads) (f .midway) x y));
       }
 
-      pub square-filled : getD s at 0 ≡ 0x3A → (u : List ℤ) → u ≡ lessWhere (sideIn reg sch) (squareRead s at) (λ i j. true) t → Filled reg sch s lent u (at + commandSize (getD s at 0))
+      pub square-filled : getD s at 0 ≡ 0x3A → (u : List ℤ) → u ≡ lessWhere (sideIn reg sch) (squareAt (squareRead s at)) (λ i j. true) t → Filled reg sch s lent u (at + commandSize (getD s at 0))
       square-filled c u e = record {
         certificate = _;
         midway = square-on reg sch s (h .reads) (f .midway) c;

@@ -1,9 +1,9 @@
--- What the code stores on the way to R: multiplier commands' forms, and squares subtracted at some places of a table.
+-- What the code stores on the way to R: multiplier commands' forms, and numbers subtracted at some places of a table.
 use Prim.Native.Nat.{ℕ, _+_, _*_, _≤_, _<_}
 use mathlib.Core.Path.{_≡_}
 use mathlib.Core.Bool.{Bool, cond}
 use mathlib.Core.List.{List, []}
-use lib.IntN.{ℤ, pos, negℤ, natAbs, _-ℤ_}
+use lib.IntN.{ℤ, pos, negℤ, natAbs, _-ℤ_, _*ℤ_}
 use lib.Dec.{T}
 use lib.ListN.{getD}
 use Rattle.forms.specs.Form.{Form, times}
@@ -20,7 +20,6 @@ use Rattle.certificate.specs.Answer.{ruleAsked}
 use Rattle.certificate.specs.Limits.{maxMultiplier, maxWeight, squareEntries, maxEntry}
 use Rattle.certificate.specs.Certificate.{Square, Certificate}
 use Rattle.certificate.specs.Rules.{Rule}
-use Rattle.residual.specs.Residual.{squareAt}
 
 -- the commands at the front of a run of bytes are accepted
 pub record Reads (reg : Register) (sch : Scheme) (s : List ℕ) : Type 0 where
@@ -53,15 +52,27 @@ pub record Addable (n : ℕ) (s : Scheme) (t : Named) : Type 0 where
 abbrev pub added : Register → Scheme → Named → Form
 added reg s t = signedOf (ruleAsked reg s t) (t .m)
 
+-- the entries of a square are within their range
+abbrev pub EntriesWithin : List ℤ → Type 0
+EntriesWithin v = (i : ℕ) → i < squareEntries → natAbs (getD v i (pos 0)) ≤ maxEntry
+
 -- a square's weight and entries are within their ranges
 pub record SquareRange (q : Square) : Type 0 where
   pub w-within : q .w ≤ maxWeight
-  pub entries-within : (i : ℕ) → i < squareEntries → natAbs (getD (q .v) i (pos 0)) ≤ maxEntry
+  pub entries-within : EntriesWithin (q .v)
+
+-- w·v_i, the factor of row i
+abbrev pub rowFactor : Square → ℕ → ℤ
+rowFactor q i = pos (q .w) *ℤ getD (q .v) i (pos 0)
+
+-- a factor times the entry of column j, whatever the row
+abbrev pub timesEntries : ℤ → List ℤ → ℕ → ℕ → ℤ
+timesEntries f v i j = f *ℤ getD v j (pos 0)
 
 -- the number at row i and column j of a table of side n, at the front of a run
 abbrev pub cells : ℕ → List ℤ → ℕ → ℕ → ℤ
 cells n t i j = getD t (i * n + j) (pos 0)
 
--- w·v_i·v_j subtracted at each (i, j) of a table of side n where a test passes
-unfoldable pub lessWhere : ℕ → Square → (ℕ → ℕ → Bool) → List ℤ → List ℤ
-lessWhere n q P t = withTable n (λ i j. cond (P i j) (cells n t i j -ℤ squareAt q i j) (cells n t i j)) t
+-- y i j subtracted at each (i, j) of a table of side n where a test passes
+unfoldable pub lessWhere : ℕ → (ℕ → ℕ → ℤ) → (ℕ → ℕ → Bool) → List ℤ → List ℤ
+lessWhere n y P t = withTable n (λ i j. cond (P i j) (cells n t i j -ℤ y i j) (cells n t i j)) t

@@ -29,9 +29,10 @@ ghost use Rattle.certificate.specs.Certificate.{Certificate};
 ghost use Rattle.certificate.specs.Format.{commandsInJob};
 ghost use Rattle.certificate.specs.Limits.{maxMultiplier, maxWeight, squareEntries, maxEntry};
 ghost use Rattle.certificate.specs.Rules.{minus1};
-ghost use Rattle.residual.specs.Residual.{R};
+ghost use Rattle.residual.specs.Limits.{maxRowFactor};
+ghost use Rattle.residual.specs.Residual.{R, squareAt};
 ghost use Rattle.certificate.specs.Answer.{squareIn};
-ghost use Rattle.residual.specs.Built.{withScaleIn, Reads, Addable, added, SquareRange, lessWhere};
+ghost use Rattle.residual.specs.Built.{withScaleIn, Reads, Addable, added, EntriesWithin, SquareRange, rowFactor, timesEntries, lessWhere};
 
 // Adds k times the product of places p and q, less k times that of places p2 and q2.
 fn add_difference(table: &mut [i64], side: usize, p: usize, q: usize, p2: usize, q2: usize, k: i64)
@@ -111,49 +112,62 @@ pub fn add_multiplier(table: &mut [i64], side: usize, scheme: Scheme, n: usize, 
     }
 }
 
-// w·v_i·v_j.
-fn square_product(w: u32, u: i16, v: i16) -> i64
-    requires { ⌜ w ≤ maxWeight ⌝ }
-    requires { ⌜ (natAbs u ≤ maxEntry) × (natAbs v ≤ maxEntry) ⌝ }
-    ensures { λ r. ⌜ r ≡ pos w *ℤ u *ℤ v ⌝ }
+// A number times an entry of a square: the weight, or the factor of a row.
+fn times_entry(factor: i64, entry: i16) -> i64
+    requires { ⌜ natAbs factor ≤ maxRowFactor ⌝ }
+    requires { ⌜ natAbs entry ≤ maxEntry ⌝ }
+    ensures { λ r. ⌜ r ≡ factor *ℤ entry ⌝ }
 {
-    (w as i64) * (u as i64) * (v as i64)
+    factor * (entry as i64)
 }
 
-// Subtracts a square, by its weight and its entries, at each column of a row.
+// w·v_i, the factor of a row, by the weight and the entries of a square.
+fn row_factor(weight: u32, entries: &[i16; Square::ENTRIES], row: usize) -> i64
+    requires { ⌜ weight ≤ maxWeight ⌝ }
+    requires { ⌜ EntriesWithin (now entries) ⌝ }
+    requires { ⌜ row < squareEntries ⌝ }
+    ensures { λ r. ⌜ r ≡ rowFactor (record { w = weight; v = now (entries .entry) }) row ⌝ }
+{
+    times_entry(weight as i64, entries[row])
+}
+
+// Along a row, subtracts a factor times the entry of each column.
 fn subtract_row(
     table: &mut [i64],
     side: usize,
-    weight: u32,
-    entries: &[i16; Square::ENTRIES],
     row: usize,
+    factor: i64,
+    entries: &[i16; Square::ENTRIES],
 )
-    requires { ⌜ SquareRange (record { w = weight; v = now entries }) ⌝ }
     requires { ⌜ (row < side) × (side ≤ squareEntries) ⌝ }
+    requires { ⌜ natAbs factor ≤ maxRowFactor ⌝ }
+    requires { ⌜ EntriesWithin (now entries) ⌝ }
     requires { ⌜ Bounded side maxBeforeMonomial (now table) ⌝ }
     ensures { λ _. ⌜ now (table .exit) ≡
-        lessWhere side (record { w = weight; v = now (entries .entry) }) (λ i j. eqb i row) (now (table .entry)) ⌝ }
+        lessWhere side (timesEntries factor (now (entries .entry))) (λ i j. eqb i row) (now (table .entry)) ⌝ }
 {
+    let row_start = row * side;
     let mut j = 0;
     while j < side {
-        let at = row * side + j;
+        let at = row_start + j;
         let x = table[at];
-        table[at] = x - square_product(weight, entries[row], entries[j]);
+        table[at] = x - times_entry(factor, entries[j]);
         j += 1;
     }
 }
 
-// Subtracts a square at each row and column.
+// Subtracts a square at each row and column. The factor w·v_i is the same along row i and is formed once for it.
 pub fn subtract_square(table: &mut [i64], side: usize, square: Square)
     requires { ⌜ SquareRange (squareIn square) ⌝ }
     requires { ⌜ side ≤ squareEntries ⌝ }
     requires { ⌜ Bounded side maxBeforeForm (now table) ⌝ }
-    ensures { λ _. ⌜ now (table .exit) ≡ lessWhere side (squareIn square) (λ i j. true) (now (table .entry)) ⌝ }
+    ensures { λ _. ⌜ now (table .exit) ≡ lessWhere side (squareAt (squareIn square)) (λ i j. true) (now (table .entry)) ⌝ }
 {
     let weight = square.weight;
     let mut row = 0;
     while row < side {
-        subtract_row(table, side, weight, &square.entries, row);
+        let factor = row_factor(weight, &square.entries, row);
+        subtract_row(table, side, row, factor, &square.entries);
         row += 1;
     }
 }

@@ -19,6 +19,7 @@ use Rattle.scheme.specs.Scheme.{side}
 use Rattle.certificate.specs.Certificate.{Certificate}
 use Rattle.certificate.specs.Format.{commandSize, commandsInJob}
 use Rattle.certificate.specs.Answer.{multiplierAt, squareIn}
+use Rattle.residual.specs.Residual.{squareAt}
 use Rattle.residual.specs.Built.{Reads, withScaleIn, added, lessWhere}
 use Rattle.certificate.proofs.Sizes.{size-above}
 use Rattle.residual.proofs.Squares.{range-of}
@@ -154,7 +155,7 @@ loop-again c =
     let a = b .before .before .before .before .before .before .before in
     rw (c .command-size2 .ensures)
     (square-filled (ready (k a)) (first (k a)) (long (k a)) (a .loop .inv) (b .before .before .before .before .match .keys1) _
-    (b .before .subtract-square .ensures ∙ ap (λ q. lessWhere (n a) (squareIn q) (λ i j. true) (a .loop .table)) (b .before .before .before .square-at .ensures)))
+    (b .before .subtract-square .ensures ∙ ap (λ q. lessWhere (n a) (squareAt (squareIn q)) (λ i j. true) (a .loop .table)) (b .before .before .before .square-at .ensures)))
 
 -- a multiplier command
 
