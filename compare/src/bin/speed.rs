@@ -1,33 +1,16 @@
-//! Times the proved library and the reference on the same bytes: the check of full certificates, and the penalty form of a scheme
-//! that makes the test whether a term uses a product as long as we could.
+//! Times the proved library and the reference on the same bytes: the check of full certificates and of 64 full squares, and the
+//! penalty form of a scheme that makes the test whether a term uses a product as long as we could.
 //!
 //!     speed [RUNS]
 
+use compare::full_squares;
 use compare::generate::{self, Size};
 use compare::random::Random;
-use reference::certificate::{Certificate, MAX_MULTIPLIERS, MAX_SQUARES};
-use reference::register::{Choice, Register, Term};
-use reference::scheme::Scheme;
-use std::hint::black_box;
-
-/// Seconds of processor time that this thread has taken, which other programs on the machine disturb less than the hour.
-fn processor_seconds() -> f64 {
-    #[repr(C)]
-    struct Time {
-        seconds: i64,
-        nanoseconds: i64,
-    }
-    extern "C" {
-        fn clock_gettime(clock: i32, time: *mut Time) -> i32;
-    }
-    const THREAD: i32 = 3;
-    let mut time = Time { seconds: 0, nanoseconds: 0 };
-    assert_eq!(unsafe { clock_gettime(THREAD, &mut time) }, 0);
-    time.seconds as f64 + time.nanoseconds as f64 / 1e9
-}
-
-/// An input of the check: parts 1, 2 and 3.
-type Parts = [Vec<u8>; 3];
+use compare::timing::{self, spread, Parts};
+use reference::certificate::{self, Certificate, MAX_MULTIPLIERS, MAX_SQUARES};
+use reference::register::{self, Choice, Register, Term};
+use reference::scheme::{self, Scheme};
+use reference::table::NUMBERS;
 
 /// Accepted certificates of 64 variables, 256 terms, 1,024 multipliers of all kinds and 64 squares.
 fn full_certificates(count: usize) -> Vec<Parts> {
@@ -43,7 +26,7 @@ fn full_certificates(count: usize) -> Vec<Parts> {
                 generate::scheme_commands(&scheme).concat(),
                 generate::certificate_commands(&mut random, &certificate).concat(),
             ];
-            if reference::check(&parts[0], &parts[1], &parts[2], &mut [0; 4_225]).is_ok() {
+            if reference::check(&parts[0], &parts[1], &parts[2], &mut [0; NUMBERS]).is_ok() {
                 found.push(parts);
             }
         }
@@ -56,52 +39,51 @@ fn full(register: &Register, scheme: &Scheme, certificate: &Certificate) -> bool
     register.terms.len() == 256 && scheme.variables() == 64 && counts == (MAX_MULTIPLIERS, MAX_SQUARES)
 }
 
-/// Microseconds of processor time of a call, from `rounds` rounds over all inputs.
-fn time<T, A>(inputs: &[T], rounds: usize, mut call: impl FnMut(&T) -> A) -> f64 {
-    let start = processor_seconds();
-    for _ in 0..rounds {
-        for input in inputs {
-            black_box(call(input));
-        }
-    }
-    (processor_seconds() - start) * 1e6 / (rounds * inputs.len()) as f64
+/// The same inputs without their squares. Not all of them are accepted then.
+fn without_squares(inputs: &[Parts]) -> Vec<Parts> {
+    let bare = |parts: &Parts| {
+        let (register, _) = register::read(&parts[0]).expect("a register");
+        let (scheme, _) = scheme::read(&register, &parts[1]).expect("a scheme");
+        let (mut certificate, _) = certificate::read(&scheme, &parts[2]).expect("a certificate");
+        certificate.squares.clear();
+        [parts[0].clone(), parts[1].clone(), certificate.bytes()]
+    };
+    inputs.iter().map(bare).collect()
 }
 
-fn spread(mut figures: Vec<f64>) -> String {
-    figures.sort_by(f64::total_cmp);
-    let middle = (figures[(figures.len() - 1) / 2] + figures[figures.len() / 2]) / 2.0;
-    format!("median {:.2}, from {:.2} to {:.2}", middle, figures[0], figures[figures.len() - 1])
+/// Runs both by turns, and prints the times and the ratios.
+fn race<T, A, B>(what: &str, runs: usize, inputs: &[T], mut library: impl FnMut(&T) -> A, mut reference: impl FnMut(&T) -> B) {
+    let figures: Vec<[f64; 2]> = (0..runs).map(|_| timing::run(inputs, &mut library, &mut reference)).collect();
+    println!("{what}, each input's fastest time, {runs} runs");
+    println!("  library, microseconds a call:   {}", spread(figures.iter().map(|[a, _]| *a)));
+    println!("  reference, microseconds a call: {}", spread(figures.iter().map(|[_, b]| *b)));
+    println!("  library / reference:            {}", spread(figures.iter().map(|[a, b]| a / b)));
 }
 
-/// Runs both by turns, and prints the times and the ratios. `rounds` of the library, and of the reference.
-fn race<T, A, B>(
-    what: &str,
-    runs: usize,
-    inputs: &[T],
-    rounds: [usize; 2],
-    mut library: impl FnMut(&T) -> A,
-    mut reference: impl FnMut(&T) -> B,
-) {
-    let (mut ours, mut theirs, mut ratios) = (Vec::new(), Vec::new(), Vec::new());
-    time(inputs, 1, &mut library);
-    time(inputs, 1, &mut reference);
-    for run in 0..runs {
-        let (a, b);
-        if run % 2 == 0 {
-            a = time(inputs, rounds[0], &mut library);
-            b = time(inputs, rounds[1], &mut reference);
-        } else {
-            b = time(inputs, rounds[1], &mut reference);
-            a = time(inputs, rounds[0], &mut library);
-        }
-        ours.push(a);
-        theirs.push(b);
-        ratios.push(a / b);
-    }
-    println!("{what}, {runs} runs");
-    println!("  library, microseconds a call:   {}", spread(ours));
-    println!("  reference, microseconds a call: {}", spread(theirs));
-    println!("  library / reference:            {}", spread(ratios));
+/// Races the check, the table not cleared before a call, then cleared.
+fn race_check(what: &str, runs: usize, inputs: &[Parts]) {
+    let mut table = vec![0i64; NUMBERS];
+    let mut other = vec![0i64; NUMBERS];
+    race(
+        &format!("{what}, the table not cleared before a call"),
+        runs,
+        inputs,
+        |parts| feedcheck::check(&parts[0], &parts[1], &parts[2], &mut table),
+        |parts| reference::check(&parts[0], &parts[1], &parts[2], &mut other),
+    );
+    race(
+        &format!("{what}, the table cleared before each call"),
+        runs,
+        inputs,
+        |parts| {
+            table.fill(0);
+            feedcheck::check(&parts[0], &parts[1], &parts[2], &mut table)
+        },
+        |parts| {
+            other.fill(0);
+            reference::check(&parts[0], &parts[1], &parts[2], &mut other)
+        },
+    );
 }
 
 /// A scheme of 32 choices, 32 products and 256 terms in which most products are reached from a term's split on many ways, found
@@ -167,15 +149,9 @@ const DEEP: [(usize, usize); 32] = [
 
 fn main() {
     let runs = std::env::args().nth(1).map_or(10, |word| word.parse().expect("a number"));
-    let mut table = vec![0i64; 4_225];
-    let mut other = vec![0i64; 4_225];
 
     let inputs = full_certificates(16);
-    for parts in &inputs {
-        let ours = feedcheck::check(&parts[0], &parts[1], &parts[2], &mut table);
-        let theirs = reference::check(&parts[0], &parts[1], &parts[2], &mut other);
-        assert!(ours.is_ok() && ours.ok() == theirs.ok() && table == other);
-    }
+    timing::assert_alike(&inputs);
     let lengths: Vec<usize> = inputs.iter().map(|parts| parts[2].len()).collect();
     println!(
         "{} full certificates of {} to {} bytes",
@@ -183,29 +159,16 @@ fn main() {
         lengths.iter().min().unwrap(),
         lengths.iter().max().unwrap()
     );
-    race(
-        "check, the table not cleared before a call",
-        runs,
-        &inputs,
-        [10, 40],
-        |parts| feedcheck::check(&parts[0], &parts[1], &parts[2], &mut table),
-        |parts| reference::check(&parts[0], &parts[1], &parts[2], &mut other),
-    );
-    race(
-        "check, the table cleared before each call",
-        runs,
-        &inputs,
-        [10, 40],
-        |parts| {
-            table.fill(0);
-            feedcheck::check(&parts[0], &parts[1], &parts[2], &mut table)
-        },
-        |parts| {
-            other.fill(0);
-            reference::check(&parts[0], &parts[1], &parts[2], &mut other)
-        },
-    );
+    race_check("check of full certificates", runs, &inputs);
+    race_check("check of full certificates without their squares", runs, &without_squares(&inputs));
 
+    let squares = full_squares::inputs();
+    println!("{} certificates of 64 full squares, {} bytes each", squares.len(), squares[0][2].len());
+    race_check(full_squares::TITLE, runs, &squares);
+    race_check(&format!("{} without the squares", full_squares::TITLE), runs, &without_squares(&squares));
+
+    let mut table = vec![0i64; NUMBERS];
+    let mut other = vec![0i64; NUMBERS];
     let deep = [deep_scheme()];
     assert!(feedcheck::penalty(&deep[0][0], &deep[0][1], &mut table).is_ok());
     assert!(reference::penalty(&deep[0][0], &deep[0][1], &mut other).is_ok());
@@ -214,7 +177,6 @@ fn main() {
         "penalty form of the deep scheme, the table not cleared before a call",
         runs,
         &deep,
-        [20, 2_000],
         |parts| feedcheck::penalty(&parts[0], &parts[1], &mut table),
         |parts| reference::penalty(&parts[0], &parts[1], &mut other),
     );
@@ -223,7 +185,6 @@ fn main() {
         "penalty form of the schemes of the full certificates, the same way",
         runs,
         &usual,
-        [20, 200],
         |parts| feedcheck::penalty(&parts[0], &parts[1], &mut table),
         |parts| reference::penalty(&parts[0], &parts[1], &mut other),
     );
