@@ -33,14 +33,19 @@ addAt-at t k j c l = go (ℕ-discrete j k)
     go (yes e) = rw (e, eq-eqb k k refl) (getD-set-same t k _ (pos 0) l)
     go (no d) = rw (ne-eqb j k d) (addAt-other t k j c d ∙ sym (+ℤ-idr _))
 
--- two places of a table are one when their rows and columns are
+-- two places of a table are one only where their rows and columns are
+
+pub same-place : (n i j p q : ℕ) → j < n → q < n → i * n + j ≡ p * n + q → (i ≡ p) × (j ≡ q)
+same-place n i j p q l m e =
+    (sym (digits-div i l) ∙ ap (λ k. k / n) e ∙ digits-div p m, sym (digits-mod i l) ∙ ap (λ k. k % n) e ∙ digits-mod p m)
+
 place-eqb : (n i j p q : ℕ) → j < n → q < n → eqb (i * n + j) (p * n + q) ≡ (eqb i p && eqb j q)
 place-eqb n i j p q l m = go (ℕ-discrete i p) (ℕ-discrete j q)
   where
     go : Dec (i ≡ p) → Dec (j ≡ q) → eqb (i * n + j) (p * n + q) ≡ (eqb i p && eqb j q)
     go (yes e) (yes f) = rw (e, f, eq-eqb p p refl, eq-eqb q q refl) (eq-eqb (p * n + q) (p * n + q) refl)
-    go (yes e) (no f) = rw (ne-eqb j q f) (ne-eqb (i * n + j) (p * n + q) (λ x. f (sym (digits-mod i l) ∙ ap (λ k. k % n) x ∙ digits-mod p m)) ∙ sym (and-false (eqb i p)))
-    go (no e) f = rw (ne-eqb i p e) (ne-eqb (i * n + j) (p * n + q) (λ x. e (sym (digits-div i l) ∙ ap (λ k. k / n) x ∙ digits-div p m)))
+    go (yes e) (no f) = rw (ne-eqb j q f) (ne-eqb (i * n + j) (p * n + q) (λ x. f (same-place n i j p q l m x .1)) ∙ sym (and-false (eqb i p)))
+    go (no e) f = rw (ne-eqb i p e) (ne-eqb (i * n + j) (p * n + q) (λ x. e (same-place n i j p q l m x .0)))
 
 -- a place of a table is one of its n² numbers
 pub place-inside : (n i j : ℕ) → i < n → j < n → i * n + j < n * n

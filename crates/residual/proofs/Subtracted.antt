@@ -1,12 +1,11 @@
--- Numbers subtracted at some places of a table: place by place, where two tests pass one after the other, and how large the
--- numbers become.
-use Prim.Native.Nat.{ℕ, _+_, _*_, _/_, _%_, _≤_, _<_}
-use mathlib.Core.Path.{_≡_, refl, sym, _∙_, ap}
+-- Numbers subtracted at the places of a table where a test passes: place by place, by one test and then by another, and how
+-- large the numbers become.
+use Prim.Native.Nat.{ℕ, _+_, _*_, _≤_, _<_}
+use mathlib.Core.Path.{_≡_, refl, _∙_, ap}
 use mathlib.Core.Bool.{Bool, true, false, cond, _&&_, _||_, and-false, true≢false}
 use mathlib.Core.List.{List}
 use native.Mathlib.Omega.{arith}
 use native.Mathlib.Decide.{ℕ-discrete, decLt}
-use lib.Arith.{digits-div, digits-mod}
 use lib.Dec.{eqb, ltb}
 use lib.IntN.{ℤ, pos, natAbs, _-ℤ_}
 use lib.ListN.{length, getD, set, length-set}
@@ -15,7 +14,7 @@ use borrow.Author.Tests.{eq-eqb, ne-eqb, lt-ltb, le-ltb}
 use Rattle.integers.proofs.Order.{natAbs-sub}
 use Rattle.forms.specs.Table.{withTable}
 use Rattle.forms.specs.Store.{Bounded}
-use Rattle.forms.proofs.Store.{place-inside, bounded-withTable}
+use Rattle.forms.proofs.Store.{same-place, place-inside, bounded-withTable}
 use Rattle.forms.proofs.Table.{withTable-at, withTable-past, withTable-length, withTable-cong, is-withTable}
 use Rattle.residual.specs.Built.{cells, lessWhere}
 
@@ -78,11 +77,8 @@ module _ (n : ℕ) (y : ℕ → ℕ → ℤ) where
 
       at : (k h : ℕ) → h < n → Dec (k ≡ i) → Dec (h ≡ j) → getD (set t (i * n + j) (cells n t i j -ℤ y i j)) (k * n + h) (pos 0) ≡ left t (λ k l. eqb k i && eqb l j) k h
       at k h v (yes e) (yes f) = rw (e, f, eq-eqb i i refl, eq-eqb j j refl) (getD-set-same t (i * n + j) _ (pos 0) inside)
-      at k h v (yes e) (no f) =
-          rw (ne-eqb h j f, and-false)
-          (getD-set-other t (i * n + j) (k * n + h) _ (pos 0) (λ x. f (sym (digits-mod k v) ∙ ap (λ z. z % n) x ∙ digits-mod i m)))
-      at k h v (no e) f =
-          rw (ne-eqb k i e) (getD-set-other t (i * n + j) (k * n + h) _ (pos 0) (λ x. e (sym (digits-div k v) ∙ ap (λ z. z / n) x ∙ digits-div i m)))
+      at k h v (yes e) (no f) = rw (ne-eqb h j f, and-false) (getD-set-other t (i * n + j) (k * n + h) _ (pos 0) (λ x. f (same-place n k h i j v m x .1)))
+      at k h v (no e) f = rw (ne-eqb k i e) (getD-set-other t (i * n + j) (k * n + h) _ (pos 0) (λ x. e (same-place n k h i j v m x .0)))
 
   -- where one test passes, then where another does
   pub less-then : {P Q S : ℕ → ℕ → Bool} → ((i j : ℕ) → i < n → j < n → Joins (P i j) (Q i j) (S i j)) → (t : List ℤ) → n * n ≤ length t →
