@@ -113,7 +113,7 @@ fn read_whole(bytes: &[u8], register: register::Register) -> PlanRead
 }
 
 // A number of 32 bits as one of 64.
-fn wide(x: i32) -> i64
+pub fn wide(x: i32) -> i64
     ensures { λ r. ⌜ r ≡ x ⌝ }
 {
     x as i64
