@@ -30,9 +30,9 @@ pub struct Change {
 }
 
 // For each choice a list of terms.
-pub struct Lists;
+pub struct TermLists;
 
-impl Lists {
+impl TermLists {
     // As many places for each choice as there can be terms.
     pub const PLACES: usize = Register::MAX_CHOICES * Register::MAX_TERMS;
 }
@@ -113,7 +113,7 @@ impl Best {
 fn walk<'a>(
     masks: &'a [u32; Register::MAX_TERMS],
     coefficients: &'a [i32; Register::MAX_TERMS],
-    index: &'a [u8; Lists::PLACES],
+    index: &'a [u8; TermLists::PLACES],
     counts: &'a [usize; Register::MAX_CHOICES],
     limit: u64,
     undecided: usize,
@@ -189,7 +189,7 @@ fn search_from<'a>(
     requires { ⌜ n ≤ maxChoices ⌝ }
     ensures { λ r. ⌜ UpTo limit (walk (lentSum base terms (now (masks .entry)) (now (coefficients .entry))) n 0 start) r ⌝ }
 {
-    let mut index = [0u8; Lists::PLACES];
+    let mut index = [0u8; TermLists::PLACES];
     let counts = list_all(masks, coefficients, terms, n, &mut index);
     let possible = ((1u64 << n) - 1) as u32;
     let sum = sum_at(masks, coefficients, base, terms, 0, possible);

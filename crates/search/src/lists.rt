@@ -1,6 +1,6 @@
 // For each choice the terms whose part of the sum may change when it is decided, listed once, and what they then lose and win.
 use super::Change;
-use super::Lists;
+use super::TermLists;
 use super::terms::lost_by;
 use super::terms::won_by;
 use register::Register;
@@ -83,7 +83,7 @@ pub fn list_all<'a>(
 pub fn change_of<'a>(
     masks: &'a [u32; Register::MAX_TERMS],
     coefficients: &'a [i32; Register::MAX_TERMS],
-    index: &'a [u8; Lists::PLACES],
+    index: &'a [u8; TermLists::PLACES],
     from: usize,
     count: usize,
     possible: u32,

@@ -1,0 +1,100 @@
+-- The sum at a partial plan: no full plan under it costs less, and at a full plan it is the cost.
+use mathlib.Core.Path.{_≡_, refl, sym, _∙_, ap, subst}
+use mathlib.Core.Logic.{_↔_, _⊎_, inl, inr, ⊎-elim}
+use mathlib.Core.Bool.{Bool, true, false, cond}
+use Prim.Native.Nat.{ℕ, _+_, _*_, _-_, _^_, _≤_, _<_}
+use native.Mathlib.Nat.{add-zero, mod-eq-of-lt}
+use native.Mathlib.Omega.{arith}
+use native.Mathlib.Decide.{decLt}
+use lib.Dec.{T}
+use lib.Pow.{pow-pos, pow-lt}
+use lib.Bits.{bitAnd, bitOr, and-block, and-self, and-zero-r, and-comm, and-mask, and-shifted, or-shifted}
+use lib.IntN.{ℤ, pos, _+ℤ_}
+use lib.Signed.{_≤ℤ_, ≤ℤ-refl}
+use Rattle.integers.proofs.Sum.{sumBelow-cong, sumBelow-mono}
+use Rattle.integers.proofs.Order.{+ℤ-mono}
+use Rattle.integers.proofs.Lists.{T-or}
+use Rattle.sets.specs.Sets.{isMember, isSubset}
+use Rattle.sets.proofs.Sets.{member-or, member-below, subset-is, subset-members, subset-one}
+use Rattle.register.specs.declared.Register.{Register}
+use Rattle.register.specs.Register.{mask}
+use Rattle.plan.specs.Plan.{cost}
+use Rattle.search.specs.Sum.{possible, negative, termSum, sum}
+use Rattle.search.proofs.Sums.{negative-≤}
+
+pub subset-trans : (a b c : ℕ) → T (isSubset a b) → T (isSubset b c) → T (isSubset a c)
+subset-trans a b c t u = subset-members a c .1 (λ i h. subset-members b c .0 u i (subset-members a b .0 t i h))
+
+-- a full plan under the partial plan with d choices undecided and q * 2 ^ d fed feeds the same decided choices
+module _ (d q x : ℕ) (l : x < 2 ^ d) where
+  pub under-fed : T (isSubset (q * 2 ^ d) (q * 2 ^ d + x))
+  under-fed = subset-is (q * 2 ^ d) (q * 2 ^ d + x) .1 (ap (bitAnd (q * 2 ^ d + x)) (sym (add-zero (q * 2 ^ d))) ∙ and-block d q q x 0 l (pow-pos d) ∙ rw (and-self, and-zero-r, add-zero))
+
+  pub under-possible : T (isSubset (q * 2 ^ d + x) (possible d (q * 2 ^ d)))
+  under-possible = subset-is _ _ .1 (and-block d q q (2 ^ d - 1) x (omega (arith, pow-pos d)) l ∙ rw (and-self, and-comm (2 ^ d - 1) x, and-mask, mod-eq-of-lt l))
+
+  pub term-bound : (c : ℤ) (m : ℕ) → termSum c m (q * 2 ^ d) (possible d (q * 2 ^ d)) ≤ℤ cond (isSubset m (q * 2 ^ d + x)) c (pos 0)
+  term-bound c m = by (isSubset m (q * 2 ^ d)) (isSubset m (possible d (q * 2 ^ d))) (isSubset m (q * 2 ^ d + x))
+      (λ t. subset-trans m _ _ t under-fed) (λ t. subset-trans m _ _ t under-possible)
+    where
+      by : (f p g : Bool) → (T f → T g) → (T g → T p) → cond f c (cond p (negative c) (pos 0)) ≤ℤ cond g c (pos 0)
+      by true p true h k = ≤ℤ-refl c
+      by true p false h k = absurd (h tt)
+      by false true true h k = negative-≤ c .0
+      by false true false h k = negative-≤ c .1
+      by false false true h k = absurd (k tt)
+      by false false false h k = ≤ℤ-refl (pos 0)
+
+  pub sum-bound : (c : ℕ → ℤ) (r : Register) → sum c r d (q * 2 ^ d) ≤ℤ cost c r (q * 2 ^ d + x)
+  unfolding sum cost
+  sum-bound c r = +ℤ-mono (r .base) (r .base) _ _ (≤ℤ-refl (r .base)) (sumBelow-mono (r .terms) _ _ (λ t k. term-bound (c t) (mask r t)))
+
+-- at a full plan it is the cost
+pub sum-full : (c : ℕ → ℤ) (r : Register) (plan : ℕ) → sum c r 0 plan ≡ cost c r plan
+unfolding sum cost
+sum-full c r plan = rw add-zero (ap (λ s. r .base +ℤ s) (sumBelow-cong (r .terms) _ _ (λ t l. by (isSubset (mask r t) plan) (c t))))
+  where
+    by : (b : Bool) (c : ℤ) → cond b c (cond b (negative c) (pos 0)) ≡ cond b c (pos 0)
+    by true c = refl
+    by false c = refl
+
+-- ---- the sets of the definition, by their members: of a term with an undecided choice, the choices that are decided are fed
+-- exactly where it is within those not decided unfed
+
+module _ (d q : ℕ) where
+  -- fed choices are decided
+  fed-decided : (i : ℕ) → T (isMember i (q * 2 ^ d)) → d ≤ i
+  fed-decided i t = go (decLt i d)
+    where
+      go : Dec (i < d) → d ≤ i
+      go (yes l) =
+          let e = subset-is (2 ^ i) (q * 2 ^ d) .0 (subst T (sym (subset-one i (q * 2 ^ d))) t) in
+          absurd (omega (arith, and-shifted q d (2 ^ i) (pow-lt l), pow-pos i))
+      go (no l) = omega arith
+
+  undecided-possible : (i : ℕ) → i < d → T (isMember i (2 ^ d - 1))
+  undecided-possible i l = subst T (subset-one i (2 ^ d - 1)) (subset-is (2 ^ i) (2 ^ d - 1) .1 (and-comm (2 ^ d - 1) (2 ^ i) ∙ and-mask (2 ^ i) d ∙ mod-eq-of-lt (pow-lt l)))
+
+  possible-or : bitOr (q * 2 ^ d) (2 ^ d - 1) ≡ possible d (q * 2 ^ d)
+  possible-or = or-shifted q d (2 ^ d - 1) (omega (arith, pow-pos d))
+
+  -- none of its choices is decided unfed
+  pub possible-is : (m : ℕ) → T (isSubset m (possible d (q * 2 ^ d))) ↔ ((i : ℕ) → d ≤ i → T (isMember i m) → T (isMember i (q * 2 ^ d)))
+  possible-is m = (
+    (λ t i l h. ⊎-elim (λ u. u) (λ u. absurd (omega (arith, member-below d i (2 ^ d - 1) (omega (arith, pow-pos d)) u)))
+        (T-or (isMember i (q * 2 ^ d)) (isMember i (2 ^ d - 1)) .0 (subst T (ap (isMember i) (sym possible-or) ∙ member-or i (q * 2 ^ d) (2 ^ d - 1)) (subset-members m _ .0 t i h)))),
+    (λ f. subset-members m _ .1 (λ i h. subst T (sym (ap (isMember i) (sym possible-or) ∙ member-or i (q * 2 ^ d) (2 ^ d - 1)))
+        (T-or (isMember i (q * 2 ^ d)) (isMember i (2 ^ d - 1)) .1 (go i (decLt i d) (λ l. f i l h))))),
+  )
+    where
+      go : (i : ℕ) → Dec (i < d) → (d ≤ i → T (isMember i (q * 2 ^ d))) → T (isMember i (q * 2 ^ d)) ⊎ T (isMember i (2 ^ d - 1))
+      go i (yes l) f = inr (undecided-possible i l)
+      go i (no l) f = inl (f (omega arith))
+
+  -- with an undecided choice it is not wholly decided fed; without one, and none decided unfed, it is
+
+  pub undecided-one : (m i : ℕ) → i < d → T (isMember i m) → T (isSubset m (q * 2 ^ d)) → ⊥
+  undecided-one m i l h t = omega (arith, fed-decided i (subset-members m (q * 2 ^ d) .0 t i h))
+
+  pub undecided-none : (m : ℕ) → ((i : ℕ) → T (isMember i m) → d ≤ i) → T (isSubset m (possible d (q * 2 ^ d))) → T (isSubset m (q * 2 ^ d))
+  undecided-none m f t = subset-members m (q * 2 ^ d) .1 (λ i h. possible-is m .0 t i (f i h) h)
