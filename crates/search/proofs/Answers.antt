@@ -4,7 +4,8 @@ use mathlib.Core.List.{List}
 use Prim.Native.Nat.{ℕ, _<_, _≤_}
 use native.Mathlib.Omega.{arith}
 use native.Mathlib.Decide.{decLe, decLt}
-use lib.IntN.{natAbs}
+use mathlib.Core.Bool.{true}
+use lib.IntN.{ℤ, natAbs}
 use borrow.Author.Tests.{lt-ltb, le-ltb}
 use Rattle.wire.specs.Outcome.{given, andThen, answerBy}
 use Rattle.register.specs.declared.Register.{Register}
@@ -15,12 +16,11 @@ use Rattle.register.specs.Format.{registerByItself}
 use Rattle.register.specs.Answer.{registerAnswer}
 use Rattle.register.specs.Valid.{Within}
 use Rattle.register.proofs.Opened.{opened-refused, opened}
-use Rattle.search.specs.declared.Best.{Best}
 use Rattle.search.specs.declared.SearchAnswer.{SearchAnswer}
 use Rattle.search.specs.Sum.{sum}
-use Rattle.search.specs.Walk.{start, walk}
+use Rattle.search.specs.Walk.{Best, start, walk}
 use Rattle.search.specs.Answer.{search, withinLimit, refusedSearch, acceptedSearch, searchAnswer}
-use Rattle.search.specs.Lent.{Small, sumTo, lentSum, UpTo}
+use Rattle.search.specs.Lent.{Terms, termsOf, Small, sumTo, lentSum, UpTo}
 
 -- what is answered of a walk
 abbrev pub limited : ℕ → Best → SearchAnswer
@@ -39,29 +39,32 @@ module _ (s : List ℕ) (first : RegisterAnswer) (e : first ≡ registerAnswer (
 
 -- Then the walk.
 
-pub within-small : (r : Register) → Within r → Small (r .base) (r .terms) (r .coefficients)
-within-small r w = record { base-within = w .base; terms-within = w .terms .few; coefficients-within = λ t. go t (decLt t (r .terms)) }
+abbrev pub termsIn : Register → Terms
+termsIn r = termsOf (r .terms) (r .masks) (r .coefficients)
+
+pub within-small : (r : Register) → Within r → Small (termsIn r)
+within-small r w = record { count-within = w .terms .few; coefficients-within = λ t. go t (decLt t (r .terms)) }
   where
     go : (t : ℕ) → Dec (t < r .terms) → natAbs (coefficient r t) ≤ maxCoefficient
     go t (yes l) = w .terms .each t l .coefficient-within
     go t (no l) = rw (w .coefficients .rest t (omega arith)) (omega arith)
 
-pub search-lent : (r : Register) → walk (lentSum (r .base) (r .terms) (r .masks) (r .coefficients)) (r .choices) 0 start ≡ search (coefficient r) r
+pub search-lent : (r : Register) → walk (lentSum (r .base) (termsIn r)) (r .choices) 0 start ≡ search (coefficient r) r
 unfolding search sum sumTo
 search-lent r = refl
 
--- w is the walk of the rule, and w′ what the code's walk has come to
-module _ (limit : ℕ) (w w′ : Best) (h : UpTo limit w w′) where
-  pub passes : limit < w′ .visits → refusedSearch 14 0 0 ≡ limited limit w
+-- w is the walk of the rule, and what the code has come to
+module _ (limit : ℕ) (w : Best) (met : w .met ≡ true) (plan : ℕ) (cost : ℤ) (visits : ℕ) (h : UpTo limit w plan cost visits) where
+  pub passes : limit < visits → refusedSearch 14 0 0 ≡ limited limit w
   passes l = rw (lt-ltb limit (w .visits) (go (decLe (w .visits) limit)))
     where
       go : Dec (w .visits ≤ limit) → limit < w .visits
-      go (yes m) = absurd (omega (arith, ap (λ (b : Best). b .visits) (h .same m)))
+      go (yes m) = absurd (omega (arith, h .same m .1))
       go (no m) = omega arith
 
-  pub found : w′ .visits ≤ limit → acceptedSearch w′ ≡ limited limit w
+  pub found : visits ≤ limit → record { number = 0; part = 0; position = 0; plan = plan; cost = cost; visits = visits } ≡ limited limit w
   found l = go (decLe (w .visits) limit)
     where
-      go : Dec (w .visits ≤ limit) → acceptedSearch w′ ≡ limited limit w
-      go (yes m) = rw (h .same m, le-ltb limit (w .visits) m)
+      go : Dec (w .visits ≤ limit) → record { number = 0; part = 0; position = 0; plan = plan; cost = cost; visits = visits } ≡ limited limit w
+      go (yes m) = let (held, seen) = h .same m in let (p, c) = held .some met in rw (p, c, seen, le-ltb limit (w .visits) m)
       go (no m) = absurd (omega (arith, h .passed (omega arith)))

@@ -2,7 +2,6 @@
 use mathlib.Core.Path.{_≡_, refl, sym, _∙_, ap, subst}
 use mathlib.Core.Logic.{⊎-elim}
 use mathlib.Core.Bool.{Bool, true, false, cond, _&&_, _||_}
-use mathlib.Core.List.{List}
 use Prim.Native.Nat.{ℕ, zero, suc, _+_, _*_, _-_, _/_, _%_, _^_, _<_}
 use native.Mathlib.Nat.{pow-suc, add-zero}
 use native.Mathlib.Omega.{arith}
@@ -10,7 +9,6 @@ use lib.Arith.{digits-div, digits-mod}
 use lib.Dec.{T, eqb}
 use lib.Pow.{pow-pos}
 use lib.Bits.{bitAnd, bitOr, and-mod, and-zero-l, or-shifted, or-shifted-r, or-block, or-zero-r}
-use lib.ListN.{getD}
 use lib.IntN.{ℤ, pos, negsuc, _+ℤ_, +ℤ-assoc, +ℤ-idr, +ℤ-idl}
 use lib.Signed.{ltZ}
 use borrow.Author.Tests.{eq-eqb}
@@ -20,7 +18,7 @@ use Rattle.integers.proofs.Lists.{T-or, T-ext, T-true, flag}
 use Rattle.sets.specs.Sets.{isMember, isSubset}
 use Rattle.sets.proofs.Sets.{member-zero, member-suc, member-empty, member-or, subset-is, subset-members}
 use Rattle.search.specs.Sum.{possible, negative, termSum}
-use Rattle.search.specs.Lent.{sumTo, lentSum, isListed, positive, termLost, termWon}
+use Rattle.search.specs.Lent.{Terms, maskOf, coefficientOf, sumTo, lentSum, isListed, positive, termLost, termGained}
 use Rattle.search.proofs.Bound.{subset-trans, under-fed}
 
 -- ---- one choice more in a set
@@ -91,14 +89,14 @@ module _ (k q : ℕ) where
       rw (z, or-zero-r, h) at (or-block (suc k) q 0 (2 ^ k - 1) (2 ^ k) (omega (arith, pow-suc 2 k, pow-pos k)) (omega (arith, pow-suc 2 k, pow-pos k)))
       ∙ omega (arith, pow-suc 2 k, pow-pos k)
 
-  -- what a term with choice k loses by choice k unfed, and wins by it fed
+  -- what a term with choice k loses by choice k unfed, and gains by it fed
 
   unfed-term : (c : ℤ) (m : ℕ) → termSum c m F (possible k F) +ℤ cond (isMember k m) (termLost c m (possible (suc k) F)) (pos 0) ≡ termSum c m F (possible (suc k) F)
   unfed-term c m = flag (isMember k m)
       (λ e. rw (e, subset-without m F k e without-fed, subset-without m (possible k F) k e (without (2 ^ k - 1) (omega (arith, pow-pos k)))) (+ℤ-idl _))
       (λ e. rw (e, ← with-possible, subset-more m (possible k F) k e) (+ℤ-idr _))
 
-  fed-term : (c : ℤ) (m : ℕ) → termSum c m F (possible (suc k) F) +ℤ cond (isMember k m) (termWon c m (F + 2 ^ k)) (pos 0) ≡ termSum c m (F + 2 ^ k) (possible k (F + 2 ^ k))
+  fed-term : (c : ℤ) (m : ℕ) → termSum c m F (possible (suc k) F) +ℤ cond (isMember k m) (termGained c m (F + 2 ^ k)) (pos 0) ≡ termSum c m (F + 2 ^ k) (possible k (F + 2 ^ k))
   fed-term c m =
       rw same (flag (isMember k m)
       (λ e. rw (e, subset-without m F k e without-fed) (by (isSubset m (F + 2 ^ k)) (isSubset m (possible (suc k) F)) c (λ t. subset-trans m _ _ t inside)))
@@ -119,7 +117,7 @@ module _ (k q : ℕ) where
       by true false c h = absurd (h tt)
       by false p c h = +ℤ-idr _
 
-  -- a term that is not listed under k has nothing to lose or to win there
+  -- a term that is not listed under k has nothing to lose or to gain there
 
   none : (b s : Bool) → cond b (cond s (pos 0) (pos 0)) (pos 0) ≡ pos 0
   none true true = refl
@@ -135,11 +133,11 @@ module _ (k q : ℕ) where
       by true = refl
       by false = refl
 
-  listed-won : (c : ℤ) (m : ℕ) → cond (isListed k m c) (termWon c m (F + 2 ^ k)) (pos 0) ≡ cond (isMember k m) (termWon c m (F + 2 ^ k)) (pos 0)
+  listed-gained : (c : ℤ) (m : ℕ) → cond (isListed k m c) (termGained c m (F + 2 ^ k)) (pos 0) ≡ cond (isMember k m) (termGained c m (F + 2 ^ k)) (pos 0)
   unfolding isListed
-  listed-won (negsuc n) m = none (isListed k m (negsuc n)) (isSubset m (F + 2 ^ k)) ∙ sym (none (isMember k m) (isSubset m (F + 2 ^ k)))
-  listed-won (pos n) m = flag (isSubset m (F + 2 ^ k))
-      (λ e. rw (eq-eqb _ _ (lowest (T-true _ .1 e))) (by (isMember k m) (ltZ (pos n) (pos 0)) (termWon (pos n) m (F + 2 ^ k))))
+  listed-gained (negsuc n) m = none (isListed k m (negsuc n)) (isSubset m (F + 2 ^ k)) ∙ sym (none (isMember k m) (isSubset m (F + 2 ^ k)))
+  listed-gained (pos n) m = flag (isSubset m (F + 2 ^ k))
+      (λ e. rw (eq-eqb _ _ (lowest (T-true _ .1 e))) (by (isMember k m) (ltZ (pos n) (pos 0)) (termGained (pos n) m (F + 2 ^ k))))
       (λ e. rw e (none (isListed k m (pos n)) false ∙ sym (none (isMember k m) false)))
     where
       lowest : T (isSubset m (F + 2 ^ k)) → m % 2 ^ k ≡ 0
@@ -152,15 +150,19 @@ module _ (k q : ℕ) where
 
   -- and so the sum
 
-  module _ (base : ℤ) (terms : ℕ) (masks : List ℕ) (coefficients : List ℤ) where
+  module _ (base : ℤ) (r : Terms) where
     -- what the listed terms add to the change
     abbrev pub listedSum : (ℤ → ℕ → ℕ → ℤ) → ℕ → ℤ
-    listedSum adds set = sumBelow terms (λ t. cond (isListed k (getD masks t 0) (getD coefficients t (pos 0))) (adds (getD coefficients t (pos 0)) (getD masks t 0) set) (pos 0))
+    listedSum adds set = sumBelow (r .count) (λ t. cond (isListed k (maskOf r t) (coefficientOf r t)) (adds (coefficientOf r t) (maskOf r t) set) (pos 0))
 
-    pub unfed-sum : lentSum base terms masks coefficients k F +ℤ listedSum termLost (possible (suc k) F) ≡ lentSum base terms masks coefficients (suc k) F
+    pub unfed-sum : lentSum base r k F +ℤ listedSum termLost (possible (suc k) F) ≡ lentSum base r (suc k) F
     unfolding sumTo
-    unfed-sum = +ℤ-assoc base _ _ ∙ ap (λ x. base +ℤ x) (sym (sumBelow-+ terms _ _) ∙ sumBelow-cong terms _ _ (λ t l. rw (listed-lost (getD coefficients t (pos 0)) (getD masks t 0)) (unfed-term (getD coefficients t (pos 0)) (getD masks t 0))))
+    unfed-sum =
+        +ℤ-assoc base _ _
+        ∙ ap (λ x. base +ℤ x) (sym (sumBelow-+ (r .count) _ _) ∙ sumBelow-cong (r .count) _ _ (λ t l. rw (listed-lost (coefficientOf r t) (maskOf r t)) (unfed-term (coefficientOf r t) (maskOf r t))))
 
-    pub fed-sum : lentSum base terms masks coefficients (suc k) F +ℤ listedSum termWon (F + 2 ^ k) ≡ lentSum base terms masks coefficients k (F + 2 ^ k)
+    pub fed-sum : lentSum base r (suc k) F +ℤ listedSum termGained (F + 2 ^ k) ≡ lentSum base r k (F + 2 ^ k)
     unfolding sumTo
-    fed-sum = +ℤ-assoc base _ _ ∙ ap (λ x. base +ℤ x) (sym (sumBelow-+ terms _ _) ∙ sumBelow-cong terms _ _ (λ t l. rw (listed-won (getD coefficients t (pos 0)) (getD masks t 0)) (fed-term (getD coefficients t (pos 0)) (getD masks t 0))))
+    fed-sum =
+        +ℤ-assoc base _ _
+        ∙ ap (λ x. base +ℤ x) (sym (sumBelow-+ (r .count) _ _) ∙ sumBelow-cong (r .count) _ _ (λ t l. rw (listed-gained (coefficientOf r t) (maskOf r t)) (fed-term (coefficientOf r t) (maskOf r t))))

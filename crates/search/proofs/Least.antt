@@ -15,8 +15,7 @@ use Rattle.integers.proofs.Parts.{orders}
 use Rattle.integers.proofs.Order.{≤ℤ-trans, ≤ℤ-or->}
 use Rattle.integers.proofs.Lists.{flag, and-both}
 use Rattle.integers.proofs.Entries.{below-or-last}
-use Rattle.search.specs.declared.Best.{Best}
-use Rattle.search.specs.Walk.{start, visited, better, isLeft, walk}
+use Rattle.search.specs.Walk.{Best, start, visited, better, isLeft, walk}
 use Rattle.search.proofs.Walks.{walk-left, walk-full, walk-on}
 
 -- a comparison that held, and one that did not
@@ -104,10 +103,16 @@ module _ (sum : ℕ → ℕ → ℤ) (cost : ℕ → ℤ)
       let second = rw b at (walk-least d (2 * q + 1) (walk sum d (q * 2 ^ suc d) (visited w)) (rw b first)) in
       rw (walk-on sum d (q * 2 ^ suc d) w e, ← c) second)
 
-  -- from the empty partial plan
-  pub search-least : (n : ℕ) → Least cost (2 ^ n) (walk sum n 0 start)
-  search-least n =
+  -- from the empty partial plan: a full plan is met, and it is the best of all
+
+  search-sofar : (n : ℕ) → Sofar cost (2 ^ n) (walk sum n 0 start)
+  search-sofar n =
       let z : 0 * 2 ^ n ≡ 0 = omega arith in
       let f : 0 * 2 ^ n + 2 ^ n ≡ 2 ^ n = omega arith in
-      let s = rw (f, z) at (walk-least n 0 start (record { none = λ e. z; some = λ e. absurd (true≢false (sym e)) })) in
-      flag (walk sum n 0 start .met) (s .some) (λ e. absurd (omega (arith, s .none e, pow-pos n)))
+      rw (f, z) at (walk-least n 0 start (record { none = λ e. z; some = λ e. absurd (true≢false (sym e)) }))
+
+  pub search-met : (n : ℕ) → walk sum n 0 start .met ≡ true
+  search-met n = flag (walk sum n 0 start .met) (λ e. e) (λ e. absurd (omega (arith, search-sofar n .none e, pow-pos n)))
+
+  pub search-least : (n : ℕ) → Least cost (2 ^ n) (walk sum n 0 start)
+  search-least n = search-sofar n .some (search-met n)

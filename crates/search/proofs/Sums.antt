@@ -2,7 +2,7 @@
 use mathlib.Core.Path.{_≡_, refl, sym}
 use mathlib.Core.Bool.{Bool, true, false, cond, true≢false}
 use mathlib.Core.List.{List}
-use Prim.Native.Nat.{ℕ, suc, _+_, _*_, _≤_}
+use Prim.Native.Nat.{ℕ, suc, _+_, _*_, _≤_, _<_}
 use native.Mathlib.Omega.{arith}
 use lib.ListN.{getD}
 use lib.IntN.{ℤ, pos, negsuc, natAbs, _+ℤ_, +ℤ-assoc, +ℤ-idr}
@@ -15,7 +15,7 @@ use Rattle.integers.proofs.Machine.{ltZ-true}
 use Rattle.sets.specs.Sets.{isSubset}
 use Rattle.register.specs.Limits.{maxBase, maxTerms, maxCoefficient}
 use Rattle.search.specs.Sum.{negative, termSum}
-use Rattle.search.specs.Lent.{Small, sumTo, positive, termLost, termWon, changeTo}
+use Rattle.search.specs.Lent.{Terms, maskOf, coefficientOf, Small, sumTo, positive, termLost, termGained, changeTo}
 
 -- ---- a coefficient by its sign
 
@@ -47,7 +47,7 @@ pub negative-≤ : (c : ℤ) → (negative c ≤ℤ c) × (negative c ≤ℤ pos
 negative-≤ (pos c) = (omega (arith, orders), omega (arith, orders))
 negative-≤ (negsuc c) = (≤ℤ-refl (negsuc c), omega (arith, orders))
 
--- ---- what one term adds, loses or wins is no more than its coefficient
+-- ---- what one term adds, loses or gains is no more than its coefficient
 
 chosen-small : (b : Bool) (x c : ℤ) → natAbs x ≤ natAbs c → natAbs (cond b x (pos 0)) ≤ natAbs c
 chosen-small true x c h = h
@@ -56,8 +56,8 @@ chosen-small false x c h = omega arith
 pub lost-small : (c : ℤ) (m possible : ℕ) → natAbs (termLost c m possible) ≤ natAbs c
 lost-small c m possible = chosen-small (isSubset m possible) (negative c) c (negative-small c)
 
-pub won-small : (c : ℤ) (m fed : ℕ) → natAbs (termWon c m fed) ≤ natAbs c
-won-small c m fed = chosen-small (isSubset m fed) (positive c) c (positive-small c)
+pub gained-small : (c : ℤ) (m fed : ℕ) → natAbs (termGained c m fed) ≤ natAbs c
+gained-small c m fed = chosen-small (isSubset m fed) (positive c) c (positive-small c)
 
 term-small : (c : ℤ) (m fed possible : ℕ) → natAbs (termSum c m fed possible) ≤ natAbs c
 term-small c m fed possible = by (isSubset m fed)
@@ -68,45 +68,39 @@ term-small c m fed possible = by (isSubset m fed)
 
 -- ---- the sum
 
-module _ (base : ℤ) (masks : List ℕ) (coefficients : List ℤ) (fed possible : ℕ) where
-  pub sumTo-zero : sumTo base 0 masks coefficients fed possible ≡ base
+module _ (base : ℤ) (r : Terms) (fed possible : ℕ) where
+  pub sumTo-zero : sumTo base r 0 fed possible ≡ base
   unfolding sumTo
   sumTo-zero = rw sumBelow-zero (+ℤ-idr base)
 
-  pub sumTo-suc : (i : ℕ) → sumTo base (suc i) masks coefficients fed possible
-      ≡ sumTo base i masks coefficients fed possible +ℤ termSum (getD coefficients i (pos 0)) (getD masks i 0) fed possible
+  pub sumTo-suc : (i : ℕ) → sumTo base r (suc i) fed possible ≡ sumTo base r i fed possible +ℤ termSum (coefficientOf r i) (maskOf r i) fed possible
   unfolding sumTo
   sumTo-suc i = rw sumBelow-suc (sym (+ℤ-assoc base _ _))
 
-  pub sumTo-small : (terms : ℕ) → Small base terms coefficients → (i : ℕ) → i ≤ terms → natAbs (sumTo base i masks coefficients fed possible) ≤ maxBase + maxTerms * maxCoefficient
+  pub sumTo-small : natAbs base ≤ maxBase → Small r → (i : ℕ) → i ≤ r .count → natAbs (sumTo base r i fed possible) ≤ maxBase + maxTerms * maxCoefficient
   unfolding sumTo
-  sumTo-small terms w i l =
-      omega (arith, natAbs-+ base (sumBelow i f), natAbs-sum i maxCoefficient f (λ t m. each t), w .base-within, w .terms-within)
+  sumTo-small b w i l = omega (arith, natAbs-+ base (sumBelow i f), natAbs-sum i maxCoefficient f (λ t m. each t), w .count-within)
     where
       f : ℕ → ℤ
-      f t = termSum (getD coefficients t (pos 0)) (getD masks t 0) fed possible
+      f t = termSum (coefficientOf r t) (maskOf r t) fed possible
 
       each : (t : ℕ) → natAbs (f t) ≤ maxCoefficient
-      each t = omega (arith, term-small (getD coefficients t (pos 0)) (getD masks t 0) fed possible, w .coefficients-within t)
+      each t = omega (arith, term-small (coefficientOf r t) (maskOf r t) fed possible, w .coefficients-within t)
 
 -- ---- a change, place by place
 
-module _ (adds : ℤ → ℕ → ℕ → ℤ) (masks : List ℕ) (coefficients : List ℤ) (index : List ℕ) (from set : ℕ) where
-  -- the term in a place
-  abbrev place : ℕ → ℕ
-  place i = getD index (from + i) 0
-
-  pub changeTo-zero : changeTo adds masks coefficients index from set 0 ≡ pos 0
+module _ (adds : ℤ → ℕ → ℕ → ℤ) (masks : List ℕ) (coefficients : List ℤ) (from set : ℕ) where
+  pub changeTo-zero : changeTo adds masks coefficients from set 0 ≡ pos 0
   unfolding changeTo
   changeTo-zero = sumBelow-zero _
 
-  pub changeTo-suc : (i : ℕ) → changeTo adds masks coefficients index from set (suc i)
-      ≡ changeTo adds masks coefficients index from set i +ℤ adds (getD coefficients (place i) (pos 0)) (getD masks (place i) 0) set
+  pub changeTo-suc : (i : ℕ) → changeTo adds masks coefficients from set (suc i)
+      ≡ changeTo adds masks coefficients from set i +ℤ adds (getD coefficients (from + i) (pos 0)) (getD masks (from + i) 0) set
   unfolding changeTo
   changeTo-suc i = sumBelow-suc i _
 
-  pub changeTo-small : ((c : ℤ) (m s : ℕ) → natAbs (adds c m s) ≤ natAbs c) → ((t : ℕ) → natAbs (getD coefficients t (pos 0)) ≤ maxCoefficient) →
-      (i : ℕ) → natAbs (changeTo adds masks coefficients index from set i) ≤ maxCoefficient * i
+  pub changeTo-small : ((c : ℤ) (m s : ℕ) → natAbs (adds c m s) ≤ natAbs c) → (count : ℕ) → ((j : ℕ) → j < count → natAbs (getD coefficients (from + j) (pos 0)) ≤ maxCoefficient) →
+      (i : ℕ) → i ≤ count → natAbs (changeTo adds masks coefficients from set i) ≤ maxCoefficient * i
   unfolding changeTo
-  changeTo-small small h i =
-      natAbs-sum i maxCoefficient _ (λ j l. omega (arith, small (getD coefficients (place j) (pos 0)) (getD masks (place j) 0) set, h (place j)))
+  changeTo-small small count h i m =
+      natAbs-sum i maxCoefficient _ (λ j l. omega (arith, small (getD coefficients (from + j) (pos 0)) (getD masks (from + j) 0) set, h j (omega arith)))

@@ -1,16 +1,17 @@
 -- The walk: where it goes on, how many partial plans it visits, and where the code's walk stops.
-use mathlib.Core.Path.{_≡_, refl, ap}
-use mathlib.Core.Bool.{true, false}
+use mathlib.Core.Path.{_≡_, refl, sym}
+use mathlib.Core.Bool.{true, false, true≢false}
 use Prim.Native.Nat.{ℕ, zero, suc, _+_, _^_, _≤_, _<_}
 use native.Mathlib.Nat.{pow-suc}
 use native.Mathlib.Omega.{arith}
 use lib.Pow.{pow-pos}
 use native.Mathlib.Decide.{decLe}
-use lib.IntN.{ℤ}
+use lib.IntN.{ℤ, pos, negsuc, natAbs}
+use lib.Signed.{leZ}
+use borrow.Author.Tests.{lt-leb}
 use Rattle.integers.proofs.Lists.{flag}
-use Rattle.search.specs.declared.Best.{Best}
-use Rattle.search.specs.Walk.{visited, better, isLeft, walk}
-use Rattle.search.specs.Lent.{UpTo}
+use Rattle.search.specs.Walk.{Best, start, visited, better, isLeft, walk}
+use Rattle.search.specs.Lent.{noCost, Holds, UpTo}
 
 module _ (sum : ℕ → ℕ → ℤ) where
   -- by the test for leaving
@@ -41,35 +42,54 @@ module _ (sum : ℕ → ℕ → ℤ) where
       let b = walk-visits d (fed + 2 ^ d) u in
       rw (walk-on d fed w e) (omega arith, omega (arith, pow-suc 2 (suc d))))
 
-  -- ---- where the code's walk stops
+  -- ---- where the code stops, with the plan, the cost and the visits that it keeps
 
   module _ (limit : ℕ) where
-    pub upTo-refl : (w : Best) → w .visits ≤ limit + 1 → UpTo limit w w
-    upTo-refl w m = record { same = λ l. refl; passed = λ l. l; stops = m }
-
     -- the first visit passes the limit
-    pub upTo-first : (d fed : ℕ) (w : Best) → w .visits ≤ limit → limit < w .visits + 1 → UpTo limit (walk sum d fed w) (visited w)
-    upTo-first d fed w k l = record { same = λ m. absurd (omega (arith, walk-visits d fed w)); passed = λ m. l; stops = omega arith }
+    pub upTo-first : (d fed : ℕ) (w : Best) (plan : ℕ) (cost : ℤ) → w .visits ≤ limit → Holds w plan cost → limit < w .visits + 1 → UpTo limit (walk sum d fed w) plan cost (w .visits + 1)
+    upTo-first d fed w plan cost k h l = record { same = λ m. absurd (omega (arith, walk-visits d fed w)); passed = λ m. l; stops = omega arith; within = h .within }
 
-    pub upTo-left : (d fed : ℕ) (w : Best) → w .visits ≤ limit → isLeft (sum d fed) w ≡ true → UpTo limit (walk sum d fed w) (visited w)
-    upTo-left d fed w l e = rw (walk-left d fed w e) (upTo-refl (visited w) (omega arith))
+    pub upTo-left : (d fed : ℕ) (w : Best) (plan : ℕ) (cost : ℤ) → w .visits ≤ limit → Holds w plan cost → isLeft (sum d fed) w ≡ true → UpTo limit (walk sum d fed w) plan cost (w .visits + 1)
+    upTo-left d fed w plan cost l h e = rw (walk-left d fed w e) (record { same = λ m. (record { some = h .some; none = h .none; within = h .within }, refl); passed = λ m. m; stops = omega arith; within = h .within })
 
-    pub upTo-full : (fed : ℕ) (w : Best) → w .visits ≤ limit → isLeft (sum 0 fed) w ≡ false → UpTo limit (walk sum 0 fed w) (better fed (sum 0 fed) (visited w))
-    upTo-full fed w l e = rw (walk-full fed w e) (upTo-refl (better fed (sum 0 fed) (visited w)) (omega arith))
+    pub upTo-full : (fed : ℕ) (w : Best) → w .visits ≤ limit → natAbs (sum 0 fed) ≤ noCost → isLeft (sum 0 fed) w ≡ false → UpTo limit (walk sum 0 fed w) fed (sum 0 fed) (w .visits + 1)
+    upTo-full fed w l b e =
+        rw (walk-full fed w e) (record { same = λ m. (record { some = λ i. (refl, refl); none = λ i. absurd (true≢false i); within = b }, refl); passed = λ m. m; stops = omega arith; within = b })
 
-    -- u is what the walk below the unfed choice has come to
-    module _ (d fed : ℕ) (w u : Best) (e : isLeft (sum (suc d) fed) w ≡ false) (h : UpTo limit (walk sum d fed (visited w)) u) where
-      pub upTo-unfed : limit < u .visits → UpTo limit (walk sum (suc d) fed w) u
+    -- below the unfed choice the code has come to this
+    module _ (d fed : ℕ) (w : Best) (plan : ℕ) (cost : ℤ) (visits : ℕ) (e : isLeft (sum (suc d) fed) w ≡ false) (h : UpTo limit (walk sum d fed (visited w)) plan cost visits) where
+      abbrev pub u : Best
+      u = walk sum d fed (visited w)
+
+      pub upTo-unfed : limit < visits → UpTo limit (walk sum (suc d) fed w) plan cost visits
       upTo-unfed l = rw (walk-on d fed w e) (record {
-        same = λ m. let k = walk-visits d (fed + 2 ^ d) (walk sum d fed (visited w)) in
-            absurd (omega (arith, ap (λ (b : Best). b .visits) (h .same (omega arith))));
+        same = λ m. let k = walk-visits d (fed + 2 ^ d) u in absurd (omega (arith, h .same (omega arith) .1));
         passed = λ m. l;
         stops = h .stops;
+        within = h .within;
       })
 
-      pub upTo-fed : (v : Best) → u .visits ≤ limit → UpTo limit (walk sum d (fed + 2 ^ d) u) v → UpTo limit (walk sum (suc d) fed w) v
-      upTo-fed v l k = rw (walk-on d fed w e, ← (is-u (decLe (walk sum d fed (visited w) .visits) limit))) k
+      -- it goes on from there
+      pub upTo-same : visits ≤ limit → Holds u plan cost × (u .visits ≡ visits)
+      upTo-same l = go (decLe (u .visits) limit)
         where
-          is-u : Dec (walk sum d fed (visited w) .visits ≤ limit) → u ≡ walk sum d fed (visited w)
-          is-u (yes m) = h .same m
-          is-u (no m) = absurd (omega (arith, h .passed (omega arith)))
+          go : Dec (u .visits ≤ limit) → Holds u plan cost × (u .visits ≡ visits)
+          go (yes m) = let (held, same) = h .same m in (held, sym same)
+          go (no m) = absurd (omega (arith, h .passed (omega arith)))
+
+      pub upTo-fed : (plan′ : ℕ) (cost′ : ℤ) (visits′ : ℕ) → UpTo limit (walk sum d (fed + 2 ^ d) u) plan′ cost′ visits′ → UpTo limit (walk sum (suc d) fed w) plan′ cost′ visits′
+      upTo-fed plan′ cost′ visits′ k = rw (walk-on d fed w e) k
+
+-- the test for leaving, by the cost that the code keeps
+pub left-held : (w : Best) (plan : ℕ) (cost s : ℤ) → Holds w plan cost → natAbs s < noCost → leZ cost s ≡ isLeft s w
+left-held w plan cost s h l = flag (w .met)
+    (λ e. rw (e, h .some e .1))
+    (λ e. rw (e, h .none e) (above s l))
+  where
+    above : (s : ℤ) → natAbs s < noCost → leZ (pos noCost) s ≡ false
+    above (pos n) l = lt-leb _ _ l
+    above (negsuc n) l = refl
+
+-- nothing met yet
+pub held-start : (plan : ℕ) → Holds start plan (pos noCost)
+held-start plan = record { some = λ e. absurd (true≢false (sym e)); none = λ e. refl; within = omega arith }

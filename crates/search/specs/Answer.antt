@@ -8,10 +8,9 @@ use Rattle.wire.specs.Outcome.{Outcome, refuses, accepts, andThen, answerBy}
 use Rattle.register.specs.declared.Register.{Register}
 use Rattle.register.specs.Register.{coefficient}
 use Rattle.register.specs.Opening.{openRegister}
-use Rattle.search.specs.declared.Best.{Best}
 use Rattle.search.specs.declared.SearchAnswer.{SearchAnswer}
 use Rattle.search.specs.Sum.{sum}
-use Rattle.search.specs.Walk.{start, walk}
+use Rattle.search.specs.Walk.{Best, start, walk}
 
 -- the walk from the empty partial plan on, all choices undecided; c t is the coefficient of term t
 unfoldable pub search : (ℕ → ℤ) → Register → Best

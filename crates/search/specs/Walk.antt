@@ -1,10 +1,16 @@
--- The walk over partial plans: choices from the highest number down, unfed first. The record Best is what it has come to: whether
--- a full plan has been met, the best plan with its cost, and the number of partial plans visited, which no width limits.
+-- The walk over partial plans: choices from the highest number down, unfed first.
 use Prim.Native.Nat.{ℕ, zero, suc, _+_, _^_}
 use mathlib.Core.Bool.{Bool, true, false, cond, _&&_}
 use lib.IntN.{ℤ, pos}
 use lib.Signed.{leZ}
-use Rattle.search.specs.declared.Best.{Best}
+
+-- what it has come to: whether a full plan has been met, the best plan with its cost, and the number of partial plans visited,
+-- which may pass 32 bits
+pub record Best : Type 0 where
+  pub met : Bool
+  pub plan : ℕ
+  pub cost : ℤ
+  pub visits : ℕ
 
 -- nothing met, nothing visited
 abbrev pub start : Best
@@ -20,7 +26,7 @@ better plan cost w = record { met = true; plan = plan; cost = cost; visits = w .
 
 -- a full plan has been met, and the sum is at least the best cost so far
 abbrev pub isLeft : ℤ → Best → Bool
-isLeft sum w = w .met && leZ (w .cost) sum
+isLeft s w = w .met && leZ (w .cost) s
 
 -- from the partial plan with d choices undecided and `fed` fed, by the sum at each. It is visited; where it is not left, a full
 -- plan becomes the best, and of another choice d − 1 is decided, unfed and then fed

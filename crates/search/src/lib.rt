@@ -9,27 +9,31 @@ use register::Register;
 use terms::sum_at;
 ghost use mathlib.Core.Path.{_≡_};
 ghost use Prim.Native.Nat.{_^_, _≤_, _<_};
-ghost use Rattle.register.specs.Limits.{maxChoices};
-ghost use Rattle.search.specs.Walk.{start, visited, better, isLeft, walk};
+ghost use lib.IntN.{natAbs};
+ghost use Rattle.register.specs.Limits.{maxBase, maxChoices};
+ghost use Rattle.search.specs.Walk.{Best, start, walk};
 ghost use Rattle.search.specs.Answer.{refusedSearch, searchAnswer};
-ghost use Rattle.search.specs.Lent.{Small, lentSum, At, UpTo};
+ghost use Rattle.search.specs.Lent.{termsOf, Small, lentSum, At, Holds, UpTo};
 
-// What the walk over partial plans has come to: whether a full plan has been met, the best plan with its cost, and the number
-// of partial plans visited.
-pub struct Best {
-    pub met: bool,
+// What a search has found: the best plan, its cost, and the number of partial plans visited.
+pub struct Found {
     pub plan: u32,
     pub cost: i64,
     pub visits: u64,
 }
 
-// What the sum at a partial plan loses when a choice is decided unfed, and wins when it is decided fed.
-pub struct Change {
-    pub lost: i64,
-    pub won: i64,
+impl Found {
+    // The cost that is kept while no full plan has been met, above every sum.
+    const NO_COST: i64 = 9_223_372_036_854_775_807;
 }
 
-// For each choice a list of terms.
+// How the sum changes when a choice is decided: what it loses unfed, at most 0, and what it gains fed.
+pub struct Change {
+    pub lost: i32,
+    pub gained: i32,
+}
+
+// Lists of terms, one for each choice.
 pub struct TermLists;
 
 impl TermLists {
@@ -63,116 +67,79 @@ impl SearchAnswer {
     }
 }
 
-impl Best {
-    // Nothing met, nothing visited.
-    fn start() -> Best
-        ensures { λ r. ⌜ r ≡ start ⌝ }
-    {
-        Best {
-            met: false,
-            plan: 0,
-            cost: 0,
-            visits: 0,
-        }
-    }
-
-    // One partial plan more.
-    fn visited(self) -> Best
-        requires { ⌜ self .visits < 2 ^ 32 ⌝ }
-        ensures { λ r. ⌜ r ≡ visited self ⌝ }
-    {
-        Best {
-            met: self.met,
-            plan: self.plan,
-            cost: self.cost,
-            visits: self.visits + 1,
-        }
-    }
-
-    // A full plan becomes the best.
-    fn better(self, plan: u32, cost: i64) -> Best
-        ensures { λ r. ⌜ r ≡ better plan cost self ⌝ }
-    {
-        Best {
-            met: true,
-            plan: plan,
-            cost: cost,
-            visits: self.visits,
-        }
-    }
-
-    // A full plan has been met and the sum is at least the best cost.
-    fn leaves(self, sum: i64) -> bool
-        ensures { λ r. ⌜ r ≡ isLeft sum self ⌝ }
-    {
-        self.met & (self.cost <= sum)
-    }
-}
-
-// The walk from a partial plan on, up to the first visit that passes the limit. The sum is that at the partial plan.
+// The walk from a partial plan on, up to the first visit that passes the limit. Sets and amounts are the masks and the
+// coefficients of the listed terms, the sum is that at the partial plan; plan and cost are the best so far. Returns how many partial plans are then visited. The
+// promise is for every base cost and terms that have this sum and these lists, and for every walk so far that has come to this.
 fn walk<'a>(
-    masks: &'a [u32; Register::MAX_TERMS],
-    coefficients: &'a [i32; Register::MAX_TERMS],
-    index: &'a [u8; TermLists::PLACES],
+    sets: &'a [u32; TermLists::PLACES],
+    amounts: &'a [i32; TermLists::PLACES],
     counts: &'a [usize; Register::MAX_CHOICES],
     limit: u64,
     undecided: usize,
     fed: u32,
     sum: i64,
-    best: Best,
-) -> Best
-    requires { ⌜ At (now masks) (now coefficients) (now index) (now counts) undecided fed sum ⌝ }
-    requires { ⌜ best .visits ≤ limit ⌝ }
+    visits: u64,
+    plan: &mut u32,
+    cost: &mut i64,
+) -> u64
+    requires { ⌜ At (now sets) (now amounts) (now counts) undecided fed sum ⌝ }
+    requires { ⌜ visits ≤ limit ⌝ }
     requires { ⌜ limit < 2 ^ 32 ⌝ }
-    ensures { λ r. ⌜ ((a : At (now (masks .entry)) (now (coefficients .entry)) (now (index .entry)) (now (counts .entry)) undecided fed sum) →
-        UpTo limit (walk (lentSum (a .base) (a .terms) (now (masks .entry)) (now (coefficients .entry))) undecided fed best) r) ⌝ }
+    ensures { λ r. ⌜ ((a : At (now (sets .entry)) (now (amounts .entry)) (now (counts .entry)) undecided fed sum) (w : Best) →
+        Holds w (now (plan .entry)) (now (cost .entry)) → w .visits ≡ visits →
+        UpTo limit (walk (lentSum (a .base) (a .terms)) undecided fed w) (now (plan .exit)) (now (cost .exit)) r) ⌝ }
 {
-    let here = best.visited();
-    if limit < here.visits {
+    let here = visits + 1;
+    if limit < here {
         return here;
     }
-    if best.leaves(sum) {
+    if *cost <= sum {
         return here;
     }
     if undecided == 0 {
-        return here.better(fed, sum);
+        *plan = fed;
+        *cost = sum;
+        return here;
     }
     let k = undecided - 1;
     let more = fed + (1u32 << k);
     let possible = more + ((1u32 << k) - 1);
     let change = change_of(
-        masks,
-        coefficients,
-        index,
+        sets,
+        amounts,
         k * Register::MAX_TERMS,
         counts[k],
         possible,
         more,
     );
+    let unfed_sum = sum - change.lost as i64;
+    let fed_sum = sum + change.gained as i64;
     let unfed = walk(
-        masks,
-        coefficients,
-        index,
+        sets,
+        amounts,
         counts,
         limit,
         k,
         fed,
-        sum - change.lost,
+        unfed_sum,
         here,
+        plan,
+        cost,
     );
-    if limit < unfed.visits {
+    if limit < unfed {
         return unfed;
     }
     walk(
-        masks,
-        coefficients,
-        index,
+        sets,
+        amounts,
         counts,
         limit,
         k,
         more,
-        sum + change.won,
+        fed_sum,
         unfed,
+        plan,
+        cost,
     )
 }
 
@@ -184,29 +151,39 @@ fn search_from<'a>(
     terms: usize,
     n: usize,
     limit: u32,
-) -> Best
-    requires { ⌜ Small base terms (now coefficients) ⌝ }
+) -> Found
+    requires { ⌜ natAbs base ≤ maxBase ⌝ }
+    requires { ⌜ Small (termsOf terms (now masks) (now coefficients)) ⌝ }
     requires { ⌜ n ≤ maxChoices ⌝ }
-    ensures { λ r. ⌜ UpTo limit (walk (lentSum base terms (now (masks .entry)) (now (coefficients .entry))) n 0 start) r ⌝ }
+    ensures { λ r. ⌜ UpTo limit (walk (lentSum base (termsOf terms (now (masks .entry)) (now (coefficients .entry)))) n 0 start) (r .plan) (r .cost) (r .visits) ⌝ }
 {
-    let mut index = [0u8; TermLists::PLACES];
-    let counts = list_all(masks, coefficients, terms, n, &mut index);
+    let mut sets = [0u32; TermLists::PLACES];
+    let mut amounts = [0i32; TermLists::PLACES];
+    let counts = list_all(masks, coefficients, terms, n, &mut sets, &mut amounts);
     let possible = ((1u64 << n) - 1) as u32;
     let sum = sum_at(masks, coefficients, base, terms, 0, possible);
-    walk(
-        masks,
-        coefficients,
-        &index,
+    let mut plan: u32 = 0;
+    let mut cost = Found::NO_COST;
+    let visits = walk(
+        &sets,
+        &amounts,
         &counts,
         limit as u64,
         n,
         0,
         sum,
-        Best::start(),
-    )
+        0,
+        &mut plan,
+        &mut cost,
+    );
+    Found {
+        plan: plan,
+        cost: cost,
+        visits: visits,
+    }
 }
 
-// The cheapest plan of a register, from the bytes of part 1, in no more visits than the limit.
+// The cheapest plan of a register, from the bytes of part 1, or refusal 14 where the visits would pass the limit.
 #[no_mangle]
 pub extern "C" fn feedcheck_search(register: &[u8], limit: u32) -> SearchAnswer
     ensures { λ r. ⌜ r ≡ searchAnswer (now (register .entry)) limit ⌝ }
@@ -220,17 +197,17 @@ pub extern "C" fn feedcheck_search(register: &[u8], limit: u32) -> SearchAnswer
     let base = record.base;
     let terms = record.terms;
     let n = record.choices;
-    let best = search_from(&record.masks, &record.coefficients, base, terms, n, limit);
+    let found = search_from(&record.masks, &record.coefficients, base, terms, n, limit);
     let most = limit as u64;
-    if most < best.visits {
+    if most < found.visits {
         return SearchAnswer::refused(14, 0, 0);
     }
     SearchAnswer {
         number: 0,
         part: 0,
         position: 0,
-        plan: best.plan,
-        cost: best.cost,
-        visits: best.visits as u32,
+        plan: found.plan,
+        cost: found.cost,
+        visits: found.visits as u32,
     }
 }

@@ -1,8 +1,8 @@
-// For each choice the terms whose part of the sum may change when it is decided, listed once, and what they then lose and win.
+// For each choice the terms whose part of the sum may change when it is decided, listed once, and the change that they make.
 use super::Change;
 use super::TermLists;
+use super::terms::gained_by;
 use super::terms::lost_by;
-use super::terms::won_by;
 use register::Register;
 ghost use mathlib.Core.Path.{_≡_};
 ghost use mathlib.Core.Bool.{cond};
@@ -10,14 +10,7 @@ ghost use Prim.Native.Nat.{ℕ, _+_, _*_, _≤_, _<_};
 ghost use lib.ListN.{length, getD};
 ghost use lib.IntN.{pos, natAbs};
 ghost use Rattle.register.specs.Limits.{maxChoices, maxTerms, maxCoefficient};
-ghost use Rattle.search.specs.Lent.{places, isListed, ListedUnder, AllListed, Kept, changeOf};
-
-// A byte as an index.
-fn index_of(x: u8) -> usize
-    ensures { λ r. ⌜ (r ≡ x) × (r < maxTerms) ⌝ }
-{
-    x as usize
-}
+ghost use Rattle.search.specs.Lent.{termsOf, Small, places, isListed, ListedUnder, AllListed, Kept, changeOf};
 
 // 1 or 0.
 fn one_where(b: bool) -> usize
@@ -36,25 +29,31 @@ fn is_listed(mask: u32, coefficient: i32, k: usize) -> bool
     named & ((coefficient < 0) | lowest)
 }
 
-// Lists terms under choice k. Returns how many they are.
+// Lists terms under choice k, their masks in `sets` and their coefficients in `amounts`. Returns how many they are.
 fn list_terms<'a>(
     masks: &'a [u32; Register::MAX_TERMS],
     coefficients: &'a [i32; Register::MAX_TERMS],
     terms: usize,
     k: usize,
-    index: &mut [u8],
+    sets: &mut [u32],
+    amounts: &mut [i32],
 ) -> usize
-    requires { ⌜ terms ≤ maxTerms ⌝ }
+    requires { ⌜ Small (termsOf terms (now masks) (now coefficients)) ⌝ }
     requires { ⌜ k < maxChoices ⌝ }
-    requires { ⌜ length (now index) ≡ places ⌝ }
-    ensures { λ r. ⌜ ListedUnder (now (masks .entry)) (now (coefficients .entry)) terms k (now (index .exit)) r ⌝ }
-    ensures { λ _. ⌜ Kept (k * maxTerms) (now (index .entry)) (now (index .exit)) ⌝ }
+    requires { ⌜ length (now sets) ≡ places ⌝ }
+    requires { ⌜ length (now amounts) ≡ places ⌝ }
+    ensures { λ r. ⌜ ListedUnder (termsOf terms (now (masks .entry)) (now (coefficients .entry))) terms k (now (sets .exit)) (now (amounts .exit)) r ⌝ }
+    ensures { λ _. ⌜ Kept 0 (k * maxTerms) (now (sets .entry)) (now (sets .exit)) ⌝ }
+    ensures { λ _. ⌜ Kept (pos 0) (k * maxTerms) (now (amounts .entry)) (now (amounts .exit)) ⌝ }
 {
     let mut count = 0;
     for t in 0..terms {
+        let mask = masks[t];
+        let coefficient = coefficients[t];
         // The place is taken by the next term where this one is not listed.
-        index[k * Register::MAX_TERMS + count] = t as u8;
-        count += one_where(is_listed(masks[t], coefficients[t], k));
+        sets[k * Register::MAX_TERMS + count] = mask;
+        amounts[k * Register::MAX_TERMS + count] = coefficient;
+        count += one_where(is_listed(mask, coefficient, k));
     }
     count
 }
@@ -65,46 +64,47 @@ pub fn list_all<'a>(
     coefficients: &'a [i32; Register::MAX_TERMS],
     terms: usize,
     n: usize,
-    index: &mut [u8],
+    sets: &mut [u32],
+    amounts: &mut [i32],
 ) -> [usize; Register::MAX_CHOICES]
-    requires { ⌜ terms ≤ maxTerms ⌝ }
+    requires { ⌜ Small (termsOf terms (now masks) (now coefficients)) ⌝ }
     requires { ⌜ n ≤ maxChoices ⌝ }
-    requires { ⌜ length (now index) ≡ places ⌝ }
-    ensures { λ r. ⌜ AllListed (now (masks .entry)) (now (coefficients .entry)) terms n (now (index .exit)) r ⌝ }
+    requires { ⌜ length (now sets) ≡ places ⌝ }
+    requires { ⌜ length (now amounts) ≡ places ⌝ }
+    ensures { λ r. ⌜ AllListed (termsOf terms (now (masks .entry)) (now (coefficients .entry))) n (now (sets .exit)) (now (amounts .exit)) r ⌝ }
 {
     let mut counts = [0; Register::MAX_CHOICES];
     for k in 0..n {
-        counts[k] = list_terms(masks, coefficients, terms, k, index);
+        counts[k] = list_terms(masks, coefficients, terms, k, sets, amounts);
     }
     counts
 }
 
-// What the terms in some places of the index lose and win together.
+// What the sum loses where a choice is decided unfed and gains where it is decided fed, by the terms listed in some places: by the
+// choices possible before, and those then fed.
 pub fn change_of<'a>(
-    masks: &'a [u32; Register::MAX_TERMS],
-    coefficients: &'a [i32; Register::MAX_TERMS],
-    index: &'a [u8; TermLists::PLACES],
+    sets: &'a [u32; TermLists::PLACES],
+    amounts: &'a [i32; TermLists::PLACES],
     from: usize,
     count: usize,
     possible: u32,
     fed: u32,
 ) -> Change
-    requires { ⌜ ((t : ℕ) → natAbs (getD (now coefficients) t (pos 0)) ≤ maxCoefficient) ⌝ }
+    requires { ⌜ ((j : ℕ) → j < count → natAbs (getD (now amounts) (from + j) (pos 0)) ≤ maxCoefficient) ⌝ }
     requires { ⌜ count ≤ maxTerms ⌝ }
     requires { ⌜ from + maxTerms ≤ places ⌝ }
-    ensures { λ r. ⌜ r ≡ changeOf (now (masks .entry)) (now (coefficients .entry)) (now (index .entry)) from count possible fed ⌝ }
+    ensures { λ r. ⌜ r ≡ changeOf (now (sets .entry)) (now (amounts .entry)) from count possible fed ⌝ }
 {
-    let mut lost: i64 = 0;
-    let mut won: i64 = 0;
+    let mut lost: i32 = 0;
+    let mut gained: i32 = 0;
     for j in 0..count {
-        let t = index_of(index[from + j]);
-        let mask = masks[t];
-        let coefficient = coefficients[t];
+        let mask = sets[from + j];
+        let coefficient = amounts[from + j];
         lost += lost_by(mask, coefficient, possible);
-        won += won_by(mask, coefficient, fed);
+        gained += gained_by(mask, coefficient, fed);
     }
     Change {
         lost: lost,
-        won: won,
+        gained: gained,
     }
 }

@@ -6,69 +6,70 @@ use mathlib.Core.Path.{_≡_, sym, _∙_, ap, ap₂}
 use mathlib.Core.List.{List}
 use lib.IntN.{ℤ, pos, natAbs, _+ℤ_}
 use lib.ListN.{getD}
-use mir.Syntax.{w32, w64}
+use mir.Syntax.{w32}
 use mir.Val.{SFits, toZ, ofZ}
 use mir.Facts.{toZ-ofZ}
 use borrow.Author.Needs.{needs}
 use Rattle.integers.proofs.Machine.{fits-signed, read-bits}
 use Rattle.register.specs.Limits.{maxTerms, maxCoefficient}
-use Rattle.search.specs.Lent.{termLost, termWon, changeTo}
-use Rattle.search.proofs.Sums.{lost-small, won-small, changeTo-zero, changeTo-suc, changeTo-small}
+use Rattle.search.specs.Lent.{termLost, termGained, changeTo}
+use Rattle.search.proofs.Sums.{lost-small, gained-small, changeTo-zero, changeTo-suc, changeTo-small}
 use Rattle.search.proofs.lists.change_of.Statement.{statement}
 use Rattle.search.proofs.lists.change_of.Tie as tie
 
--- a total over the first places, as the loop keeps it: the lost one and the won one alike
-module _ (adds : ℤ → ℕ → ℕ → ℤ) (small : (c : ℤ) (m s : ℕ) → natAbs (adds c m s) ≤ natAbs c) (masks : List ℕ) (coefficients : List ℤ) (index : List ℕ) (from set : ℕ)
-    (within : (t : ℕ) → natAbs (getD coefficients t (pos 0)) ≤ maxCoefficient) where
+-- a total over the first places, as the loop keeps it: what is lost and what is gained alike
+module _ (adds : ℤ → ℕ → ℕ → ℤ) (small : (c : ℤ) (m s : ℕ) → natAbs (adds c m s) ≤ natAbs c) (masks : List ℕ) (coefficients : List ℤ) (from set count : ℕ) (few : count ≤ maxTerms)
+    (within : (j : ℕ) → j < count → natAbs (getD coefficients (from + j) (pos 0)) ≤ maxCoefficient) where
   abbrev to : ℕ → ℤ
-  to = changeTo adds masks coefficients index from set
+  to = changeTo adds masks coefficients from set
 
-  total-read : (j : ℕ) {n : ℕ} → j ≤ maxTerms → n ≡ ofZ w64 (to j) → toZ w64 n ≡ to j
-  total-read j l e = read-bits w64 (to j) e (omega (arith, changeTo-small adds masks coefficients index from set small within j))
+  total-read : (j : ℕ) {n : ℕ} → j ≤ count → n ≡ ofZ w32 (to j) → toZ w32 n ≡ to j
+  total-read j l e = read-bits w32 (to j) e (omega (arith, changeTo-small adds masks coefficients from set small count within j l))
 
-  total-fits : (j : ℕ) → j ≤ maxTerms → SFits w64 (to j)
-  total-fits j l = fits-signed w64 (to j) (omega (arith, changeTo-small adds masks coefficients index from set small within j))
+  total-fits : (j : ℕ) → j ≤ count → SFits w32 (to j)
+  total-fits j l = fits-signed w32 (to j) (omega (arith, changeTo-small adds masks coefficients from set small count within j l))
 
   -- with x, which the term in the next place adds
-  total-next : (j t : ℕ) {n : ℕ} {x : ℤ} → j < maxTerms → n ≡ ofZ w64 (to j) → t ≡ getD index (from + j) 0 → SFits w32 (getD coefficients t (pos 0)) →
-      SFits w64 x → x ≡ adds (toZ w32 (ofZ w32 (getD coefficients t (pos 0)))) (getD masks t 0) set → toZ w64 n +ℤ toZ w64 (ofZ w64 x) ≡ to (j + 1)
-  total-next j t l e at fits f is =
-      ap₂ _+ℤ_ (total-read j (omega arith) e)
-      (toZ-ofZ f ∙ is ∙ ap (λ c. adds c (getD masks t 0) set) (toZ-ofZ fits) ∙ ap (λ t. adds (getD coefficients t (pos 0)) (getD masks t 0) set) at)
-      ∙ rw add-one (sym (changeTo-suc adds masks coefficients index from set j))
+  total-next : (j : ℕ) {n : ℕ} {x : ℤ} → j < count → n ≡ ofZ w32 (to j) → SFits w32 (getD coefficients (from + j) (pos 0)) →
+      SFits w32 x → x ≡ adds (toZ w32 (ofZ w32 (getD coefficients (from + j) (pos 0)))) (getD masks (from + j) 0) set → toZ w32 n +ℤ toZ w32 (ofZ w32 x) ≡ to (j + 1)
+  total-next j l e fits f is =
+      ap₂ _+ℤ_ (total-read j (omega arith) e) (toZ-ofZ f ∙ is ∙ ap (λ c. adds c (getD masks (from + j) 0) set) (toZ-ofZ fits))
+      ∙ rw add-one (sym (changeTo-suc adds masks coefficients from set j))
 
 abbrev Inv-loop : tie.InvT-loop
-Inv-loop masks coefficients index from count possible fed lost₀ won₀ j₀ lost won j =
-    (j ≤ count) × ((lost ≡ ofZ w64 (changeTo termLost masks coefficients index from possible j)) × (won ≡ ofZ w64 (changeTo termWon masks coefficients index from fed j)))
+Inv-loop sets amounts from count possible fed lost₀ gained₀ j₀ lost gained j =
+    (j ≤ count) × ((lost ≡ ofZ w32 (changeTo termLost sets amounts from possible j)) × (gained ≡ ofZ w32 (changeTo termGained sets amounts from fed j)))
 
 abbrev μ-loop : tie.MeasureT-loop
-μ-loop masks coefficients index from count possible fed lost₀ won₀ j₀ lost won j = count - j
+μ-loop sets amounts from count possible fed lost₀ gained₀ j₀ lost gained j = count - j
 
 loop-holds : tie.Need-loop-holds Inv-loop μ-loop
 loop-holds c =
-    let a = c .args in
-    (omega arith, (ap (ofZ w64) (sym (changeTo-zero termLost (a .masks .now) (a .coefficients .now) (a .index .now) (a .from) (a .possible))), ap (ofZ w64) (sym (changeTo-zero termWon (a .masks .now) (a .coefficients .now) (a .index .now) (a .from) (a .fed)))))
+    let a = c .args in (
+      omega arith,
+      (
+        ap (ofZ w32) (sym (changeTo-zero termLost (a .sets .now) (a .amounts .now) (a .from) (a .possible))),
+        ap (ofZ w32) (sym (changeTo-zero termGained (a .sets .now) (a .amounts .now) (a .from) (a .fed))),
+      ),
+    )
 
-add-index-of : tie.Need-add-index-of Inv-loop μ-loop
-add-index-of c = search needs
-
-element-copy-out-index-of : tie.Need-element-copy-out-index-of Inv-loop μ-loop
-element-copy-out-index-of c = search needs
-
-index-of-requires : tie.Need-index-of-requires Inv-loop μ-loop
-index-of-requires c κs = search needs
+add-mask : tie.Need-add-mask Inv-loop μ-loop
+add-mask c = search needs
 
 mul-mask : tie.Need-mul-mask Inv-loop μ-loop
 mul-mask c = search needs
 
 element-copy-out-mask : tie.Need-element-copy-out-mask Inv-loop μ-loop
-element-copy-out-mask c = c .index-of .ensures .1
+element-copy-out-mask c = search needs
+
+add-coefficient : tie.Need-add-coefficient Inv-loop μ-loop
+add-coefficient c = search needs
 
 mul-coefficient : tie.Need-mul-coefficient Inv-loop μ-loop
 mul-coefficient c = search needs
 
 element-copy-out-coefficient : tie.Need-element-copy-out-coefficient Inv-loop μ-loop
-element-copy-out-coefficient c = c .before .index-of .ensures .1
+element-copy-out-coefficient c = search needs
 
 lost-by-requires : tie.Need-lost-by-requires Inv-loop μ-loop
 lost-by-requires c κs = search needs
@@ -76,47 +77,40 @@ lost-by-requires c κs = search needs
 -- the totals that a turn makes
 module _ (c : tie.After-lost-by Inv-loop μ-loop) where
   abbrev turn : tie.At-loop Inv-loop μ-loop
-  turn = c .before .before .before .before .before .before
+  turn = c .before .before .before .before
 
   abbrev begin : tie.Start Inv-loop μ-loop
   begin = turn .before
 
-  abbrev lost-to : ℕ → ℤ
-  lost-to = let a = begin .args in changeTo termLost (a .masks .now) (a .coefficients .now) (a .index .now) (a .from) (a .possible)
-
-  abbrev won-to : ℕ → ℤ
-  won-to = let a = begin .args in changeTo termWon (a .masks .now) (a .coefficients .now) (a .index .now) (a .from) (a .fed)
-
-  lost : toZ w64 (turn .loop .lost) +ℤ toZ w64 (ofZ w64 (c .lost-by .result)) ≡ lost-to (turn .loop .j + 1)
+  lost : toZ w32 (turn .loop .lost) +ℤ toZ w32 (ofZ w32 (c .lost-by .result)) ≡ (let a = begin .args in changeTo termLost (a .sets .now) (a .amounts .now) (a .from) (a .possible) (turn .loop .j + 1))
   lost =
       let a = begin .args in
-      let p = c .before .before .before .index-of in
-      total-next termLost lost-small (a .masks .now) (a .coefficients .now) (a .index .now) (a .from) (a .possible) (begin .pre .0) (turn .loop .j) (p .result)
-      (omega (arith, begin .pre .1 .0)) (turn .loop .inv .1 .0) (p .ensures .0) (record { sfits = c .before .coefficient .given }) (record { sfits = c .lost-by .ok }) (c .lost-by .ensures)
+      total-next termLost lost-small (a .sets .now) (a .amounts .now) (a .from) (a .possible) (a .count) (begin .pre .1 .0) (begin .pre .0) (turn .loop .j) (omega arith) (turn .loop .inv .1 .0)
+      (record { sfits = c .before .coefficient .given }) (record { sfits = c .lost-by .ok }) (c .lost-by .ensures)
 
 add-lost : tie.Need-add-lost Inv-loop μ-loop
 add-lost c =
     let b = begin c in
     let a = b .args in
-    rw (lost c) (total-fits termLost lost-small (a .masks .now) (a .coefficients .now) (a .index .now) (a .from) (a .possible) (b .pre .0) (turn c .loop .j + 1) (omega (arith, b .pre .1 .0)))
+    rw (lost c) (total-fits termLost lost-small (a .sets .now) (a .amounts .now) (a .from) (a .possible) (a .count) (b .pre .1 .0) (b .pre .0) (turn c .loop .j + 1) (omega arith))
 
-won-by-requires : tie.Need-won-by-requires Inv-loop μ-loop
-won-by-requires c κs = search needs
+gained-by-requires : tie.Need-gained-by-requires Inv-loop μ-loop
+gained-by-requires c κs = search needs
 
-won : (c : tie.After-won-by Inv-loop μ-loop) → let l = turn (c .before) .loop in toZ w64 (l .won) +ℤ toZ w64 (ofZ w64 (c .won-by .result)) ≡ won-to (c .before) (l .j + 1)
-won c =
+gained : (c : tie.After-gained-by Inv-loop μ-loop) → let l = turn (c .before) .loop in
+    toZ w32 (l .gained) +ℤ toZ w32 (ofZ w32 (c .gained-by .result)) ≡ (let a = begin (c .before) .args in changeTo termGained (a .sets .now) (a .amounts .now) (a .from) (a .fed) (l .j + 1))
+gained c =
     let b = begin (c .before) in
     let a = b .args in
     let l = turn (c .before) .loop in
-    let p = c .before .before .before .before .index-of in
-    total-next termWon won-small (a .masks .now) (a .coefficients .now) (a .index .now) (a .from) (a .fed) (b .pre .0) (l .j) (p .result)
-    (omega (arith, b .pre .1 .0)) (l .inv .1 .1) (p .ensures .0) (record { sfits = c .before .before .coefficient .given }) (record { sfits = c .won-by .ok }) (c .won-by .ensures)
+    total-next termGained gained-small (a .sets .now) (a .amounts .now) (a .from) (a .fed) (a .count) (b .pre .1 .0) (b .pre .0) (l .j) (omega arith) (l .inv .1 .1)
+    (record { sfits = c .before .before .coefficient .given }) (record { sfits = c .gained-by .ok }) (c .gained-by .ensures)
 
-add-won : tie.Need-add-won Inv-loop μ-loop
-add-won c =
+add-gained : tie.Need-add-gained Inv-loop μ-loop
+add-gained c =
     let b = begin (c .before) in
     let a = b .args in
-    rw (won c) (total-fits termWon won-small (a .masks .now) (a .coefficients .now) (a .index .now) (a .from) (a .fed) (b .pre .0) (turn (c .before) .loop .j + 1) (omega (arith, b .pre .1 .0)))
+    rw (gained c) (total-fits termGained gained-small (a .sets .now) (a .amounts .now) (a .from) (a .fed) (a .count) (b .pre .1 .0) (b .pre .0) (turn (c .before) .loop .j + 1) (omega arith))
 
 add-j : tie.Need-add-j Inv-loop μ-loop
 add-j c = search needs
@@ -125,7 +119,7 @@ loop-less : tie.Need-loop-less Inv-loop μ-loop
 loop-less c = search needs
 
 loop-again : tie.Need-loop-again Inv-loop μ-loop
-loop-again c = (omega arith, (ap (ofZ w64) (lost (c .before)), ap (ofZ w64) (won c)))
+loop-again c = (omega arith, (ap (ofZ w32) (lost (c .before)), ap (ofZ w32) (gained c)))
 
 returns : tie.Need-returns Inv-loop μ-loop
 returns c =
@@ -133,9 +127,11 @@ returns c =
     let a = s .args in
     let l = c .before .loop in
     let e : l .j ≡ a .count = omega arith in
-    let m : l .j ≤ maxTerms = omega (arith, s .pre .1 .0) in
-    rw (total-read termLost lost-small (a .masks .now) (a .coefficients .now) (a .index .now) (a .from) (a .possible) (s .pre .0) (l .j) m (l .inv .1 .0),
-    total-read termWon won-small (a .masks .now) (a .coefficients .now) (a .index .now) (a .from) (a .fed) (s .pre .0) (l .j) m (l .inv .1 .1), e)
+    rw (
+      total-read termLost lost-small (a .sets .now) (a .amounts .now) (a .from) (a .possible) (a .count) (s .pre .1 .0) (s .pre .0) (l .j) (omega arith) (l .inv .1 .0),
+      total-read termGained gained-small (a .sets .now) (a .amounts .now) (a .from) (a .fed) (a .count) (s .pre .1 .0) (s .pre .0) (l .j) (omega arith) (l .inv .1 .1),
+      e,
+    )
 
 pub change-of-spec : {M : Type 1} → statement M
 change-of-spec =
@@ -144,17 +140,16 @@ change-of-spec =
     Inv-loop
     μ-loop
     loop-holds
-    add-index-of
-    element-copy-out-index-of
-    index-of-requires
+    add-mask
     mul-mask
     element-copy-out-mask
+    add-coefficient
     mul-coefficient
     element-copy-out-coefficient
     lost-by-requires
     add-lost
-    won-by-requires
-    add-won
+    gained-by-requires
+    add-gained
     add-j
     loop-less
     loop-again

@@ -1,4 +1,4 @@
--- `search::terms::won_by` meets its contract. Each return rewrites with the test on its way.
+-- `search::terms::gained_by` meets its contract. Each return rewrites with the test on its way.
 use mathlib.Core.Path.{_≡_, _∙_, ap}
 use mathlib.Core.Bool.{true, false}
 use mir.Facts.{toZ-ofZ}
@@ -6,8 +6,8 @@ use Rattle.sets.specs.Sets.{isSubset}
 use Rattle.search.specs.Lent.{positive}
 use borrow.Author.Needs.{needs}
 use borrow.Author.Tests.{eq-eqb, ne-eqb}
-use Rattle.search.proofs.terms.won_by.Statement.{statement}
-use Rattle.search.proofs.terms.won_by.Tie as tie
+use Rattle.search.proofs.terms.gained_by.Statement.{statement}
+use Rattle.search.proofs.terms.gained_by.Tie as tie
 
 positive-of-requires : tie.Need-positive-of-requires
 positive-of-requires c κs = search needs
@@ -26,5 +26,5 @@ returns-2 c =
     let not : isSubset (s .args .mask) (s .args .fed) ≡ false = ne-eqb _ _ (c .if1 .left) in
     rw not
 
-pub won-by-spec : {M : Type 1} → statement M
-won-by-spec = tie.close (tie.spec positive-of-requires returns returns-2)
+pub gained-by-spec : {M : Type 1} → statement M
+gained-by-spec = tie.close (tie.spec positive-of-requires returns returns-2)
