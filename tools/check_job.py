@@ -165,9 +165,19 @@ class Job:
     def plan(self):
         _, v = self.take(0x40)
         self.need(v["fed"] < 1 << len(self.choices), 5)
+        self.ended()
+        self.fed = v["fed"]
+
+    def ended(self):
         self.at = self.next
         self.need(self.at == len(self.job), 12)
-        self.fed = v["fed"]
+
+    def cost(self, plan):
+        return self.base + sum(c for mask, c in self.terms if mask & ~plan == 0)
+
+    def feedings(self, plan):
+        """The lines of a plan's feedings."""
+        return [f"F {t} {m}" for i, (t, m) in enumerate(self.choices) if plan >> i & 1]
 
     def lines(self):
         try:
@@ -176,10 +186,9 @@ class Job:
         except Refused as refusal:
             number, _, position = refusal.args
             return [f"R {number} {position}"]
-        cost = self.base + sum(c for mask, c in self.terms if mask & ~self.fed == 0)
-        bound = -(-self.T // self.s)
-        fed = [choice for i, choice in enumerate(self.choices) if self.fed >> i & 1]
-        return [f"T {i} {t} {m}" for i, (t, m) in enumerate(self.choices)] + [f"F {t} {m}" for t, m in fed] + [f"B {bound} {cost} {cost - bound}"]
+        cost, bound = self.cost(self.fed), -(-self.T // self.s)
+        choices = [f"T {i} {t} {m}" for i, (t, m) in enumerate(self.choices)]
+        return choices + self.feedings(self.fed) + [f"B {bound} {cost} {cost - bound}"]
 
 
 def text(job):
