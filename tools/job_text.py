@@ -1,14 +1,16 @@
 #!/usr/bin/env python3
 """A job, or a part of one, as lines of text, and such lines as bytes.
 
-    tools/job_text.py show FILE    prints the lines of the bytes in FILE
-    tools/job_text.py make FILE    writes the bytes of the lines in FILE to standard output
+    tools/job_text.py show FILE        prints the lines of the bytes in FILE
+    tools/job_text.py make FILE        writes the bytes of the lines in FILE to standard output
+    tools/job_text.py register FILE    writes part 1 of the job in FILE to standard output
 
 A line is a command: position, part, command byte, name, operands, and in parentheses what they mean. `make` looks only at the
-command byte and the operands, so positions need not be mended after a change; it passes over empty lines and lines that begin
-with `#`. A square's entries are c for the constant and z0 to z63 for the variables; those that are 0 are left out.
+command byte and the operands, so positions need not be mended after a change, and in lines written by hand `-` may stand in their
+place; it passes over empty lines and lines that begin with `#`. A square's entries are c for the constant and z0 to z63 for the
+variables; those that are 0 are left out.
 From the first byte that is no command, or begins a command that is cut off, or stands after the plan, the bytes are shown as
-they are, after `raw`.
+they are, after `raw`. `register` looks only for the end of part 1, not whether what stands before it is right.
 """
 import sys
 
@@ -180,15 +182,32 @@ def make(lines):
     return job
 
 
+def register_of(job):
+    """The bytes up to the end of part 1, None where commands of part 1 don't lead to it."""
+    at = 0
+    while at < len(job) and job[at] in COMMANDS and COMMANDS[job[at]][0] == 1:
+        if job[at] == 0x1F:
+            return job[:at + 1]
+        at += size(job[at])
+    return None
+
+
 def main():
-    if len(sys.argv) != 3 or sys.argv[1] not in ("show", "make"):
+    if len(sys.argv) != 3 or sys.argv[1] not in ("show", "make", "register"):
         sys.exit(__doc__)
-    if sys.argv[1] == "show":
-        with open(sys.argv[2], "rb") as file:
-            print("\n".join(show(file.read())))
-    else:
+    if sys.argv[1] == "make":
         with open(sys.argv[2], encoding="utf-8") as file:
             sys.stdout.buffer.write(make(file))
+        return
+    with open(sys.argv[2], "rb") as file:
+        job = file.read()
+    if sys.argv[1] == "show":
+        print("\n".join(show(job)))
+        return
+    register = register_of(job)
+    if register is None:
+        sys.exit("part 1 has no end")
+    sys.stdout.buffer.write(register)
 
 
 if __name__ == "__main__":

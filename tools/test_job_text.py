@@ -1,7 +1,7 @@
 #!/usr/bin/env python3
 """Tries tools/job_text.py: bytes to lines and back, on every example, on every file of the folders given, and on damaged copies of
 two jobs, one without windows and one with them: each front of it, each byte changed to five others, each byte left out. Then the lines
-of a register with windows, right ones and others, and lines that are no command.
+of a register with windows, right ones and others, lines that are no command, a register written by hand, and part 1 of jobs.
 
     tools/test_job_text.py [FOLDER ..]
 """
@@ -10,7 +10,7 @@ import sys
 
 sys.dont_write_bytecode = True
 
-from job_text import make, show
+from job_text import make, register_of, show
 
 EXAMPLES = pathlib.Path(__file__).resolve().parent.parent / "examples"
 
@@ -36,6 +36,21 @@ NO_COMMANDS = [
     "00005  1  13 window    tank 4  from 1320  to 65536",
     "00005  1  13 window    tank 4  from -1  to 1440",
 ]
+
+# the register of examples/example.job as a farm may write it: no positions, no meanings, masks in binary
+WRITTEN = """
+# tank 4 twice, tank 7 once
+-  1  10 base    cost 10
+-  1  11 choice  tank 4  minute 480
+-  1  11 choice  tank 4  minute 720
+-  1  11 choice  tank 7  minute 480
+
+# costs
+-  1  12 term    mask 0b001  coefficient -6
+-  1  12 term    mask 0b010  coefficient -4
+-  1  12 term    mask 0b111  coefficient 5
+-  1  1F end
+"""
 
 
 def damaged(job):
@@ -64,6 +79,12 @@ def main():
     trials += [(f"not the line: {line}", shown == line) for (_, line), shown in zip(SHOWN, lines, strict=True)]
     trials += [(f"not the bytes: {line}", make([line]) == bytes.fromhex(run)) for run, line in SHOWN]
     trials += [(f"taken for a command: {line}", is_refused(line)) for line in NO_COMMANDS]
+    trials += [("not the bytes of what a farm wrote", make(WRITTEN.split("\n")) == (EXAMPLES / "example.register").read_bytes())]
+    for name in ("example", "windows.night"):
+        job, register = ((EXAMPLES / f"{name}.{kind}").read_bytes() for kind in ("job", "register"))
+        trials += [(f"not part 1: {name}", register_of(whole) == register) for whole in (job, register)]
+        trials += [(f"cut before the end of part 1: {name}", register_of(job[:n]) is None) for n in range(len(register))]
+    trials += [(f"no end of part 1: {bad}", register_of(bytes.fromhex(bad)) is None) for bad in ("7E 1F", "10 00000000 21 00 01 1F")]
     failed = [said for said, holds in trials if not holds]
     for said in failed:
         print(said)
