@@ -3,9 +3,11 @@ pub mod Walks
 pub mod Sums
 pub mod Bound
 pub mod Least
+pub mod Under
 pub mod Cheapest
 pub mod Deciding
 pub mod Listing
 pub mod Going
 pub mod Answers
+pub mod Searched
 pub mod Worked
