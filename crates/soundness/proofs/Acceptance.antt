@@ -2,7 +2,7 @@
 use Prim.Native.Nat.{ℕ, _≤_}
 use native.Mathlib.Nat.{zero-add}
 use native.Mathlib.Omega.{arith}
-use mathlib.Core.Path.{_≡_, refl, sym, _∙_, ap, ap₂}
+use mathlib.Core.Path.{_≡_, refl, sym, _∙_, ap, ap₂, subst}
 use mathlib.Core.Bool.{Bool, true, false, cond}
 use mathlib.Core.List.{List, _++_}
 use lib.Dec.{ltb}
@@ -42,9 +42,10 @@ use Rattle.job.specs.Outcome.{Parts, tableAfter}
 use Rattle.job.specs.Answer.{jobAnswer, jobTable}
 use Rattle.job.specs.Valid.{Valid, Encodes}
 use Rattle.job.proofs.Accept as JA
-use Rattle.soundness.specs.Calls.{registerCall, schemeCall, costCall, penaltyCall, checkCall, jobCall}
+use Rattle.search.proofs.Searched.{searched, within-limit}
+use Rattle.soundness.specs.Calls.{registerCall, schemeCall, costCall, penaltyCall, checkCall, jobCall, searchCall}
 use Rattle.soundness.specs.Parts.{Part1, Part2, withR}
-use Rattle.soundness.specs.Acceptance.{OfCheck, OfJob, checkAccepted, jobAccepted, RegisterAcceptance, SchemeAcceptance, CostAcceptance, PenaltyAcceptance, CheckAcceptance, JobAcceptance, Acceptance}
+use Rattle.soundness.specs.Acceptance.{OfCheck, OfJob, checkAccepted, jobAccepted, RegisterAcceptance, SchemeAcceptance, CostAcceptance, PenaltyAcceptance, CheckAcceptance, JobAcceptance, SearchAcceptance, Acceptance}
 
 -- ---- part 1
 
@@ -196,5 +197,26 @@ of-penalty = record {
       (m .sch, record { reg = m .reg; part-1 = record { conditions = m .register-valid; bytes = m .register-is b }; part-2 = record { conditions = m .scheme-valid; bytes = m .scheme-is } });
 }
 
-pub acceptance : Acceptance registerCall schemeCall costCall penaltyCall checkCall jobCall
-acceptance = record { of-register = of-register; of-scheme = of-scheme; of-cost = of-cost; of-penalty = of-penalty; of-check = of-check; of-job = of-job }
+-- ---- part 1, and the visit limit
+
+of-search : SearchAcceptance searchCall
+of-search = record {
+  all = λ t limit plan z visits p.
+      let e = RA.encoding-accepted t (p .reg) (p .part-1 .conditions) (p .part-1 .bytes) in
+      rw (p .plan-is, p .cost-is, p .visits-are) (within-limit t (p .reg) e limit (subst (λ v. v ≤ limit) (p .visits-are) (p .within)));
+  only = λ t limit plan z visits b e.
+      let s = searched t limit (ap (λ a. a .number) e) in
+      let f = sym e ∙ s .answers in
+      record {
+        reg = registerAnswer (registerByItself t) .register;
+        part-1 = record { conditions = s .first .valid; bytes = RA.accepted-iff t _ b .0 (s .first .reads) .1 };
+        plan-is = ap (λ a. a .plan) f;
+        cost-is = ap (λ a. a .cost) f;
+        visits-are = ap (λ a. a .visits) f;
+        within = subst (λ v. v ≤ limit) (sym (ap (λ a. a .visits) f)) (s .within);
+      };
+  number-0 = λ t limit z. rw (searched t limit z .answers);
+}
+
+pub acceptance : Acceptance registerCall schemeCall costCall penaltyCall checkCall jobCall searchCall
+acceptance = record { of-register = of-register; of-scheme = of-scheme; of-cost = of-cost; of-penalty = of-penalty; of-check = of-check; of-job = of-job; of-search = of-search }

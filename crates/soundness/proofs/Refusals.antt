@@ -70,9 +70,11 @@ use Rattle.job.specs.Rest.{rest, fromPlan, fromCertificate, fromScheme, tableFr
 use Rattle.job.specs.Answer.{afterJob, jobAnswer, jobTable}
 use Rattle.listing.specs.Listing.{listing}
 use Rattle.listing.specs.Answer.{listingAnswer, listingTable, listingBuffer}
-use Rattle.soundness.specs.Calls.{registerCall, schemeCall, costCall, penaltyCall, checkCall, plainCall, buildCall, jobCall, listingCall}
+use Rattle.search.specs.declared.Best.{Best}
+use Rattle.search.specs.Answer.{search, searchOutcome, refusedSearch, acceptedSearch, searchAnswer}
+use Rattle.soundness.specs.Calls.{registerCall, schemeCall, costCall, penaltyCall, checkCall, plainCall, buildCall, jobCall, listingCall, searchCall}
 use Rattle.soundness.specs.Parts.{withR}
-use Rattle.soundness.specs.Refusals.{Before2, Before3, Before4, tableRefused, tableRefusedByItself, InRegister, InScheme, InCertificate, InPlan, InTerm, ShortBuffer, SchemeTooLong, PlainTooLong, Behind, FromRegister, FromScheme, FromCertificate, FromPlan, RegisterRefusals, SchemeRefusals, BuildRefusals, CostRefusals, PenaltyRefusals, CheckRefusals, PlainRefusals, JobRefusals, ListingRefusals, Refusals}
+use Rattle.soundness.specs.Refusals.{Before2, Before3, Before4, tableRefused, tableRefusedByItself, InRegister, InScheme, InCertificate, InPlan, InTerm, ShortBuffer, SchemeTooLong, PlainTooLong, PastLimit, Behind, FromRegister, FromScheme, FromCertificate, FromPlan, RegisterRefusals, SchemeRefusals, BuildRefusals, CostRefusals, PenaltyRefusals, CheckRefusals, PlainRefusals, JobRefusals, ListingRefusals, SearchRefusals, Refusals}
 
 -- ---- parts by themselves
 
@@ -114,6 +116,16 @@ module _ (n part at : ℕ) where
       inr (record { part-is = p; before = before2 t b reg x; refused = plan-refused-by-itself reg s b′ n at .0 w }))
       (λ fed z w. absurd (not-both (sym w)))
 
+  in-search : (t : List ℕ) → Bytes t → (limit : ℕ) → searchOutcome t limit ≡ refuses n part at → InRegister n part at t ⊎ PastLimit n part at t limit
+  in-search t b limit e =
+      then-refuses (openRegister t) _ e (λ x. inl (in-register t b x)) λ reg x y.
+      let visits = search (coefficient reg) reg .visits in
+      flag (ltb limit visits)
+      (λ l.
+      let (i, (j, k)) = refuses-same (rw l at y) in
+      inr (record { number-is = sym i; part-is = sym j; position-is = sym k; before = before2 t b reg x; passed = ltb-true limit visits l }))
+      (λ l. absurd (not-both (sym (rw l at y))))
+
 pub register-refusals : RegisterRefusals registerCall
 register-refusals t b = go (registerByItself t) refl
   where
@@ -135,6 +147,15 @@ cost-refusals t s b b′ = go (costOutcome t s) refl
     go : (x : Outcome ℤ) → costOutcome t s ≡ x → let a = answerBy refusedCost acceptedCost x in (a .number ≡ 0 → ⊥) → (a .cost ≡ pos 0) × (InRegister (a .number) (a .part) (a .position) t ⊎ InPlan (a .number) (a .part) (a .position) t s)
     go (refuses n part at) e h = (refl, in-cost n part at t s b b′ e)
     go (accepts z) e h = absurd (h refl)
+
+pub search-refusals : SearchRefusals searchCall
+unfolding searchAnswer
+search-refusals t b limit = go (searchOutcome t limit) refl
+  where
+    go : (x : Outcome Best) → searchOutcome t limit ≡ x → let a = answerBy refusedSearch acceptedSearch x in (a .number ≡ 0 → ⊥) →
+        (a .plan ≡ 0) × (a .cost ≡ pos 0) × (a .visits ≡ 0) × (InRegister (a .number) (a .part) (a .position) t ⊎ PastLimit (a .number) (a .part) (a .position) t limit)
+    go (refuses n part at) e h = (refl, refl, refl, in-search n part at t b limit e)
+    go (accepts w) e h = absurd (h refl)
 
 pub penalty-refusals : PenaltyRefusals penaltyCall
 unfolding penaltyAnswer penaltyTable
@@ -364,7 +385,7 @@ job-refusals = record {
 
 -- ---- every call
 
-pub refusals : Refusals registerCall schemeCall buildCall costCall penaltyCall checkCall plainCall jobCall listingCall
+pub refusals : Refusals registerCall schemeCall buildCall costCall penaltyCall checkCall plainCall jobCall listingCall searchCall
 refusals = record {
   of-register = register-refusals;
   of-scheme = scheme-refusals;
@@ -375,4 +396,5 @@ refusals = record {
   of-plain = plain-refusals;
   of-job = job-refusals;
   of-listing = listing-refusals;
+  of-search = search-refusals;
 }

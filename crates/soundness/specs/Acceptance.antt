@@ -24,7 +24,9 @@ use Rattle.job.specs.declared.JobAnswer.{JobAnswer}
 use Rattle.job.specs.Outcome.{Parts}
 use Rattle.job.specs.Valid.{Valid, Encodes}
 use Rattle.job.specs.Tally.{withAccepted}
-use Rattle.soundness.specs.Calls.{RegisterCall, SchemeCall, CostCall, PenaltyCall, CheckCall, JobCall}
+use Rattle.search.specs.declared.SearchAnswer.{SearchAnswer}
+use Rattle.search.specs.Answer.{search}
+use Rattle.soundness.specs.Calls.{RegisterCall, SchemeCall, CostCall, PenaltyCall, CheckCall, JobCall, SearchCall}
 use Rattle.soundness.specs.Parts.{Part1, Part2, Part3, Part4, withR}
 
 -- ---- the parts that a call is lent, and the values that it answers for them
@@ -61,6 +63,15 @@ pub record OfJob (job : List ℕ) (b z : ℤ) : Type 0 where
   pub bound-is : b ≡ bound (parts .certificate)
   pub cost-is : z ≡ cost (coefficient (parts .register)) (parts .register) (parts .plan)
 
+-- part 1, and a limit that the visits of the rule do not pass: the plan that the rule comes to, its cost and the visits
+pub record OfSearch (register : List ℕ) (limit plan : ℕ) (z : ℤ) (visits : ℕ) : Type 0 where
+  pub reg : Register
+  pub part-1 : Part1 register reg
+  pub plan-is : plan ≡ search (coefficient reg) reg .plan
+  pub cost-is : z ≡ search (coefficient reg) reg .cost
+  pub visits-are : visits ≡ search (coefficient reg) reg .visits
+  pub within : visits ≤ limit
+
 -- ---- an accepted answer: number, part and position are 0, and the other fields have their values
 
 abbrev pub registerAccepted : Register → RegisterAnswer
@@ -78,6 +89,9 @@ checkAccepted b = record { number = 0; part = 0; position = 0; bound = b }
 -- the gap is cost − bound, and the tally has one accepted job more
 abbrev pub jobAccepted : ℤ → ℤ → Tally → JobAnswer
 jobAccepted b z tally = record { number = 0; part = 0; position = 0; bound = b; cost = z; gap = z -ℤ b; tally = withAccepted tally }
+
+abbrev pub searchAccepted : ℕ → ℤ → ℕ → SearchAnswer
+searchAccepted plan z visits = record { number = 0; part = 0; position = 0; plan = plan; cost = z; visits = visits }
 
 -- ---- acceptance: `all` such bytes, `only` such bytes; number 0 stands in no other answer
 
@@ -124,11 +138,20 @@ pub record PenaltyAcceptance (call : PenaltyCall) : Type 0 where
       call register scheme table ≡ (record { number = 0; part = 0; position = 0 }, withPenalty (p .reg) sch table)
   pub only : (register scheme : List ℕ) (table : List ℤ) → Bytes register → call register scheme table .0 .number ≡ 0 → (sch : Scheme) × OfScheme register scheme sch
 
--- of the six calls that read parts and write no bytes
-pub record Acceptance (registerCall : RegisterCall) (schemeCall : SchemeCall) (costCall : CostCall) (penaltyCall : PenaltyCall) (checkCall : CheckCall) (jobCall : JobCall) : Type 0 where
+-- a limit is asked that the visits do not pass: as many visits as the limit are accepted
+pub record SearchAcceptance (call : SearchCall) : Type 0 where
+  pub all : (register : List ℕ) (limit plan : ℕ) (z : ℤ) (visits : ℕ) → OfSearch register limit plan z visits → call register limit ≡ searchAccepted plan z visits
+  pub only : (register : List ℕ) (limit plan : ℕ) (z : ℤ) (visits : ℕ) → Bytes register →
+      call register limit ≡ searchAccepted plan z visits → OfSearch register limit plan z visits
+  pub number-0 : (register : List ℕ) (limit : ℕ) → call register limit .number ≡ 0 →
+      call register limit ≡ searchAccepted (call register limit .plan) (call register limit .cost) (call register limit .visits)
+
+-- of the seven calls that read parts and write no bytes
+pub record Acceptance (registerCall : RegisterCall) (schemeCall : SchemeCall) (costCall : CostCall) (penaltyCall : PenaltyCall) (checkCall : CheckCall) (jobCall : JobCall) (searchCall : SearchCall) : Type 0 where
   pub of-register : RegisterAcceptance registerCall
   pub of-scheme : SchemeAcceptance schemeCall
   pub of-cost : CostAcceptance costCall
   pub of-penalty : PenaltyAcceptance penaltyCall
   pub of-check : CheckAcceptance checkCall
   pub of-job : JobAcceptance jobCall
+  pub of-search : SearchAcceptance searchCall

@@ -21,6 +21,8 @@ use Rattle.job.specs.declared.Tally.{Tally}
 use Rattle.job.specs.declared.JobAnswer.{JobAnswer}
 use Rattle.job.specs.Answer.{jobAnswer, jobTable}
 use Rattle.listing.specs.Answer.{listingAnswer, listingTable, listingBuffer}
+use Rattle.search.specs.declared.SearchAnswer.{SearchAnswer}
+use Rattle.search.specs.Answer.{searchAnswer}
 
 -- part 1
 abbrev pub RegisterCall : Type 0
@@ -58,11 +60,15 @@ JobCall = List ℕ → List ℤ → Tally → JobAnswer × List ℤ
 abbrev pub ListingCall : Type 0
 ListingCall = List ℕ → List ℤ → List ℕ → WriterAnswer × (List ℤ × List ℕ)
 
+-- part 1 and the visit limit
+abbrev pub SearchCall : Type 0
+SearchCall = List ℕ → ℕ → SearchAnswer
+
 -- what a call that writes hands back: the first bytes of the buffer, as many as the answer counts
 abbrev pub front : WriterAnswer × List ℕ → List ℕ
 front (answer, buffer) = take (answer .count) buffer
 
--- ours: what the exported functions `feedcheck_register` to `feedcheck_listing` answer and hand back, by the contracts in `src/lib.rt`
+-- ours: what the exported functions `feedcheck_register` to `feedcheck_search` answer and hand back, by the contracts in `src/lib.rt`
 
 abbrev pub registerCall : RegisterCall
 registerCall register = registerAnswer (registerByItself register)
@@ -90,3 +96,6 @@ jobCall job lent tally = (jobAnswer job lent tally, jobTable job lent)
 
 abbrev pub listingCall : ListingCall
 listingCall job table buffer = (listingAnswer job table buffer, (listingTable job table, listingBuffer job table buffer))
+
+abbrev pub searchCall : SearchCall
+searchCall register limit = searchAnswer register limit

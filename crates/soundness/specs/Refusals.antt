@@ -1,7 +1,7 @@
 -- What a refusal says and hands back, of every call: which part it is, that the parts before it are right, that number and position
 -- are those of the first command of the part that is not right, and within it the lowest number (`wire/specs/Refused`,
--- `bound/specs/Refused`), that the answer's other fields are 0, and what table and buffer then hold. 10, 11 and 12, which no
--- wrong command causes, have cases of their own. The bytes settle number and position: `refused-iff` in `wire/proofs/Lowest`.
+-- `bound/specs/Refused`), that the answer's other fields are 0, and what table and buffer then hold. 10, 11, 12 and 14, which
+-- no wrong command causes, have cases of their own. The bytes settle number and position: `refused-iff` in `wire/proofs/Lowest`.
 use Prim.Native.Nat.{ℕ, _+_, _≤_, _<_}
 use mathlib.Core.Path.{_≡_}
 use mathlib.Core.Logic.{_⊎_, inl, inr}
@@ -31,7 +31,8 @@ use Rattle.job.specs.declared.Tally.{Tally}
 use Rattle.job.specs.Tally.{withRefused}
 use Rattle.job.specs.Outcome.{outcome, tableAfter}
 use Rattle.listing.specs.Listing.{listing}
-use Rattle.soundness.specs.Calls.{RegisterCall, SchemeCall, CostCall, PenaltyCall, CheckCall, PlainCall, BuildCall, JobCall, ListingCall}
+use Rattle.search.specs.Answer.{search}
+use Rattle.soundness.specs.Calls.{RegisterCall, SchemeCall, CostCall, PenaltyCall, CheckCall, PlainCall, BuildCall, JobCall, ListingCall, SearchCall}
 use Rattle.soundness.specs.Parts.{Part1, Part2, Part3, withR}
 
 -- ---- the parts before the one that is refused
@@ -118,6 +119,14 @@ module _ (number part at : ℕ) where
   pub record PlainTooLong (register scheme lent : List ℕ) : Type 0 where
     pub before : Before3 register scheme
     pub buffer : ShortBuffer (encodePlain (coefficient (before .reg)) (before .reg) (before .sch)) lent
+
+  -- the search, with a register that is right: the rule visits more partial plans than the limit
+  pub record PastLimit (register : List ℕ) (limit : ℕ) : Type 0 where
+    pub number-is : number ≡ 14
+    pub part-is : part ≡ 0
+    pub position-is : at ≡ 0
+    pub before : Before2 register
+    pub passed : limit < search (coefficient (before .reg)) (before .reg) .visits
 
 -- ---- a job, refused with this number in this part at this position of the job
 
@@ -259,8 +268,18 @@ pub record ListingRefusals (call : ListingCall) : Type 0 where
       × (call job table buffer .1 ≡ (tableAfter job table, buffer))
       × ShortBuffer (a .number) (a .part) (a .position) (listing (outcome job)) buffer
 
+abbrev pub SearchRefusals : SearchCall → Type 0
+SearchRefusals call = (register : List ℕ) → Bytes register → (limit : ℕ) →
+    let a = call register limit in
+    (a .number ≡ 0 → ⊥) →
+    (a .plan ≡ 0)
+    × (a .cost ≡ pos 0)
+    × (a .visits ≡ 0)
+    × (InRegister (a .number) (a .part) (a .position) register
+    ⊎ PastLimit (a .number) (a .part) (a .position) register limit)
+
 -- every call
-pub record Refusals (register : RegisterCall) (scheme : SchemeCall) (builder : BuildCall) (cost : CostCall) (penalty : PenaltyCall) (check : CheckCall) (plain : PlainCall) (job : JobCall) (lines : ListingCall) : Type 0 where
+pub record Refusals (register : RegisterCall) (scheme : SchemeCall) (builder : BuildCall) (cost : CostCall) (penalty : PenaltyCall) (check : CheckCall) (plain : PlainCall) (job : JobCall) (lines : ListingCall) (cheapest : SearchCall) : Type 0 where
   pub of-register : RegisterRefusals register
   pub of-scheme : SchemeRefusals scheme
   pub of-builder : BuildRefusals builder
@@ -270,3 +289,4 @@ pub record Refusals (register : RegisterCall) (scheme : SchemeCall) (builder : B
   pub of-plain : PlainRefusals plain
   pub of-job : JobRefusals job
   pub of-listing : ListingRefusals lines
+  pub of-search : SearchRefusals cheapest

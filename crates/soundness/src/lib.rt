@@ -16,10 +16,12 @@ use register::RegisterAnswer;
 use register::feedcheck_register;
 use scheme::SchemeAnswer;
 use scheme::feedcheck_scheme;
+use search::SearchAnswer;
+use search::feedcheck_search;
 use wire::WriterAnswer;
 ghost use mathlib.Core.Path.{_≡_};
 ghost use Rattle.wire.specs.Number.{Bytes};
-ghost use Rattle.soundness.specs.Calls.{registerCall, schemeCall, costCall, penaltyCall, checkCall, plainCall, buildCall, jobCall, listingCall};
+ghost use Rattle.soundness.specs.Calls.{registerCall, schemeCall, costCall, penaltyCall, checkCall, plainCall, buildCall, jobCall, listingCall, searchCall};
 
 // The statements ask that a run of numbers is `Bytes`, each below 256. Every slice that a call can be lent is.
 pub fn lent_bytes(bytes: &[u8])
@@ -98,4 +100,10 @@ pub fn listing_call(job: &[u8], table: &mut [i64], buffer: &mut [u8]) -> WriterA
     ensures { λ _. ⌜ now (buffer .exit) ≡ listingCall (now (job .entry)) (now (table .entry)) (now (buffer .entry)) .1 .1 ⌝ }
 {
     feedcheck_listing(job, table, buffer)
+}
+
+pub fn search_call(register: &[u8], limit: u32) -> SearchAnswer
+    ensures { λ r. ⌜ r ≡ searchCall (now (register .entry)) limit ⌝ }
+{
+    feedcheck_search(register, limit)
 }
