@@ -7,3 +7,4 @@ pub mod Refusals
 pub mod Writers
 pub mod Written
 pub mod Windows
+pub mod Search
