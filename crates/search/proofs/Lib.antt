@@ -4,6 +4,7 @@ pub mod Sums
 pub mod Bound
 pub mod Least
 pub mod Under
+pub mod Members
 pub mod Cheapest
 pub mod Deciding
 pub mod Listing

@@ -15,15 +15,15 @@ use Rattle.search.specs.Sum.{sum}
 use Rattle.search.proofs.Bound.{sum-bound}
 
 -- the two as numbers: `fed` is a multiple of 2 ^ d, and the plan adds less than 2 ^ d to it
-record Apart (d fed plan : ℕ) : Type 0 where
-  block : ℕ
-  rest : ℕ
-  small : rest < 2 ^ d
-  fed-is : fed ≡ block * 2 ^ d
-  plan-is : plan ≡ block * 2 ^ d + rest
+pub record Apart (d fed plan : ℕ) : Type 0 where
+  pub block : ℕ
+  pub rest : ℕ
+  pub small : rest < 2 ^ d
+  pub fed-is : fed ≡ block * 2 ^ d
+  pub plan-is : plan ≡ block * 2 ^ d + rest
 
 -- no undecided choice is in `fed`, and the decided ones are in both or in neither
-apart : (d fed plan : ℕ) → ((i : ℕ) → i < d → isMember i fed ≡ false) → ((i : ℕ) → d ≤ i → isMember i plan ≡ isMember i fed) → Apart d fed plan
+pub apart : (d fed plan : ℕ) → ((i : ℕ) → i < d → isMember i fed ≡ false) → ((i : ℕ) → d ≤ i → isMember i plan ≡ isMember i fed) → Apart d fed plan
 apart zero fed plan none same =
     let e = same-members plan fed (λ i. same i (omega arith)) in
     record { block = fed; rest = 0; small = omega arith; fed-is = omega arith; plan-is = omega (arith, e) }

@@ -18,7 +18,7 @@ negative (pos c) = pos 0
 negative (negsuc c) = negsuc c
 
 -- what a term adds, with coefficient c and mask m: c where its choices are all decided fed; c, if negative, where not all are
--- and none is decided unfed, so that one is undecided (`possible-is`, `undecided-one` and `undecided-none` in search/proofs/Bound)
+-- and none is decided unfed, so that one is undecided (by members: `TermSaid` in soundness/specs/Search)
 abbrev pub termSum : ℤ → ℕ → (fed possible : ℕ) → ℤ
 termSum c m fed possible = cond (isSubset m fed) c (cond (isSubset m possible) (negative c) (pos 0))
 

@@ -70,7 +70,7 @@ use Rattle.job.specs.Rest.{rest, fromPlan, fromCertificate, fromScheme, tableFr
 use Rattle.job.specs.Answer.{afterJob, jobAnswer, jobTable}
 use Rattle.listing.specs.Listing.{listing}
 use Rattle.listing.specs.Answer.{listingAnswer, listingTable, listingBuffer}
-use Rattle.search.specs.declared.Best.{Best}
+use Rattle.search.specs.Walk.{Best}
 use Rattle.search.specs.Answer.{search, searchOutcome, refusedSearch, acceptedSearch, searchAnswer}
 use Rattle.soundness.specs.Calls.{registerCall, schemeCall, costCall, penaltyCall, checkCall, plainCall, buildCall, jobCall, listingCall, searchCall}
 use Rattle.soundness.specs.Parts.{withR}

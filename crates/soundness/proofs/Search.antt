@@ -26,10 +26,11 @@ use Rattle.bound.specs.Check.{checkAnswer}
 use Rattle.bound.proofs.Accept.{whole-valid}
 use Rattle.bound.proofs.Answers.{checked}
 use Rattle.bound.proofs.Bound.{plan-bound}
-use Rattle.search.specs.declared.Best.{Best}
+use Rattle.search.specs.Walk.{Best}
 use Rattle.search.specs.Answer.{search, searchAnswer}
 use Rattle.search.proofs.Bound.{sum-full}
 use Rattle.search.proofs.Under.{under-sum}
+use Rattle.search.proofs.Members.{term-fed, term-undecided, term-unfed}
 use Rattle.search.proofs.Least.{Least}
 use Rattle.search.proofs.Cheapest.{found-least, found-visits}
 use Rattle.search.proofs.Searched.{Searched, searched, within-limit}
@@ -37,7 +38,8 @@ use Rattle.search.proofs.Searched as Rule
 use Rattle.soundness.specs.Calls.{searchCall, costCall, checkCall}
 use Rattle.soundness.specs.Parts.{Part1}
 use Rattle.soundness.specs.Demand3.{registerOf}
-use Rattle.soundness.specs.Search.{visitsOf, limitPassed, Cheapest, SearchSound, LeavingRight}
+use Rattle.soundness.proofs.Windows.{keeps}
+use Rattle.soundness.specs.Search.{visitsOf, limitPassed, Cheapest, SearchSound, SumSound}
 
 -- the register that is read is the one answered
 read-is : (t : List ℕ) (reg : Register) → registerByItself t ≡ accepted (reached 0x1F reg) (length t) → registerOf t ≡ reg
@@ -85,6 +87,7 @@ module _ (t : List ℕ) (limit : ℕ) (z : searchAnswer t limit .number ≡ 0) w
         cost-is = sym (best .cost-is);
         least = λ other. best .least (other .fed) (other .inside);
         smallest = λ other. best .smallest (other .fed) (other .inside);
+        keeps = keeps reg (w .plan) (found .first .valid);
         costed = λ bytes e. cost-read t bytes reg (w .plan) (found .first) (best .plan-below) e ∙ ap acceptedCost (sym (best .cost-is));
         costed-least = cost-least;
         visits-are = refl;
@@ -121,9 +124,14 @@ pub search-sound : SearchSound searchCall costCall checkCall
 search-sound = record {
   cheapest = cheapest;
   past-limit = past-limit;
+  limit-0 = λ t r p. Rule.past-limit t r (reads t r 0 p) 0 (found-visits (coefficient r) r .0);
   enough = λ t r limit p l. ap (λ a. a .number) (within-limit t r (reads t r limit p) limit (omega (arith, l, found-visits (coefficient r) r)));
   bounds = λ t s k table limit n z. bound-below t limit z s k table n;
 }
 
-pub leaving-right : LeavingRight
-leaving-right = record { under = λ c r d fed plan u. under-sum c r d fed plan (u .undecided) (u .decided); full = sum-full }
+pub sum-sound : SumSound
+sum-sound = record {
+  said = λ d fed none c m. record { wholly-fed = term-fed d fed none c m; undecided = term-undecided d fed none c m; unfed = term-unfed d fed none c m };
+  under = λ c r d fed plan u. under-sum c r d fed plan (u .undecided) (u .decided);
+  full = sum-full;
+}

@@ -60,7 +60,7 @@ module _ (reg : Register) (t m : ℕ) where
 inside : (reg : Register) → Valid reg → ChoicesInside reg
 inside reg v i l = in-window reg (tank reg i) (minute reg i) (v .within .may-feed i l)
 
-keeps : (reg : Register) (plan : ℕ) → Valid reg → KeepsWindows reg plan
+pub keeps : (reg : Register) (plan : ℕ) → Valid reg → KeepsWindows reg plan
 keeps reg plan v t m f = subst (λ x. InWindow reg x m) (f .tank-is) (subst (InWindow reg (tank reg (f .choice))) (f .minute-is) (inside reg v (f .choice) (f .there)))
 
 register-valid : (register : List ℕ) → registerCall register .number ≡ 0 → Valid (registerCall register .register)
