@@ -2,18 +2,20 @@
 use crate::builds;
 use crate::checks;
 use crate::costs;
+use crate::in_files;
+use crate::in_files::Program;
 use crate::jobs;
-use crate::jobs_in_files;
 use crate::listings;
 use crate::outputs;
 use crate::penalties;
 use crate::plains;
 use crate::registers;
 use crate::schemes;
+use crate::searches;
 use libc::STDOUT_FILENO;
 use std::num::wrapping_add_u64;
 
-// The calls, each with a vector file of its own, and what the program prints.
+// The calls, each with a vector file of its own, and what the programs print.
 pub enum Group {
     Register,
     Scheme,
@@ -24,8 +26,10 @@ pub enum Group {
     Plain,
     Job,
     Listing,
+    Search,
     Output,
     JobInFile,
+    RegisterInFile,
 }
 
 // How far a file was read, the cases so far, and how many of them differ.
@@ -47,8 +51,10 @@ fn agrees(group: Group, line: &[u8]) -> bool {
         Group::Plain => plains::agrees(line),
         Group::Job => jobs::agrees(line),
         Group::Listing => listings::agrees(line),
+        Group::Search => searches::agrees(line),
         Group::Output => outputs::agrees(line),
-        Group::JobInFile => jobs_in_files::agrees(line),
+        Group::JobInFile => in_files::agrees(Program::OfJob, line),
+        Group::RegisterInFile => in_files::agrees(Program::OfRegister, line),
     }
 }
 

@@ -4,8 +4,8 @@ mod builds;
 mod checks;
 mod costs;
 mod files;
+mod in_files;
 mod jobs;
-mod jobs_in_files;
 mod listings;
 mod lists;
 mod outputs;
@@ -13,6 +13,7 @@ mod penalties;
 mod plains;
 mod registers;
 mod schemes;
+mod searches;
 mod tables;
 
 use files::Group;
@@ -27,9 +28,11 @@ fn main() {
     files::run(Group::Plain, b"plain", b"plain.txt");
     files::run(Group::Job, b"job", b"job.txt");
     files::run(Group::Listing, b"listing", b"listing.txt");
+    files::run(Group::Search, b"search", b"search.txt");
     files::run(Group::Output, b"feedcheck", b"feedcheck.txt");
     files::run(Group::JobInFile, b"examples", b"examples.txt");
     files::run(Group::JobInFile, b"suppliers", b"suppliers.txt");
+    files::run(Group::RegisterInFile, b"cheapest", b"cheapest.txt");
     lists::run(
         b"examples/labs05.csdp.job",
         b"examples/labs05.csdp.bad-t-up.job",

@@ -66,7 +66,7 @@ module _ (K : ℕ) (s : List ℕ) where
   part-prefix x k h from l = ap x (drop-take from K s) ∙ h (K - from) (drop from s) (omega arith)
 
   -- bytes after the end
-  past-prefix : (end : ℕ) → end < K → ltb end (length (take K s)) ≡ ltb end (length s)
+  pub past-prefix : (end : ℕ) → end < K → ltb end (length (take K s)) ≡ ltb end (length s)
   past-prefix end l =
       flag (leb (length s) K) (λ t. rw (take-all K s (leb-true (length s) K t))) λ t.
       let long : K < length s = leb-false (length s) K t in

@@ -1,4 +1,4 @@
--- How long a listing is: at most the longest, for which the array has room in which it is put together.
+-- What lines a listing is made of, and how long it is: at most the longest, for which the array has room in which it is put together.
 use Prim.Native.Nat.{ℕ, zero, suc, _+_, _*_, _-_, _^_, _≤_, _<_}
 use native.Mathlib.Nat.{suc-mul}
 use native.Mathlib.Omega.{arith}
@@ -21,7 +21,18 @@ use Rattle.text.specs.Text.{digitsTo, digits, decimal, line}
 use Rattle.text.proofs.Lines.{line-no-longer, natural-no-longer, integer-no-longer}
 use Rattle.job.specs.declared.JobRead.{JobRead}
 use Rattle.listing.specs.Listing.{choiceLine, choiceLines, fedLine, fedLines, boundLine, acceptedLines}
+use Rattle.listing.specs.ByLetter.{linesUnder}
 use Rattle.listing.specs.Answer.{longestNumber, longestListing, listingRoom, linesOf}
+
+-- the lines under `T` and under `F`
+module _ (r : Register) (plan : ℕ) where
+  pub choice-lines : linesUnder 0x54 r plan ≡ choiceLines r
+  unfolding linesUnder choiceLines
+  choice-lines = refl
+
+  pub fed-lines : linesUnder 0x46 r plan ≡ fedLines r plan
+  unfolding linesUnder fedLines
+  fed-lines = refl
 
 module _ (r : Register) (plan : ℕ) (bound cost gap : ℤ) where
   pub accepted-is : acceptedLines r plan bound cost gap ≡ (choiceLines r ++ fedLines r plan) ++ boundLine bound cost gap
@@ -52,7 +63,7 @@ module _ (r : Register) (w : Within r) where
       (natural-no-longer _ _ (omega (arith, w .choices .few)), (natural-no-longer _ _ (c .tank-within), (natural-no-longer _ _ (c .minute-within), tt))))
       maxChoices (w .choices .few)
 
-  fed-short : (plan : ℕ) → length (fedLines r plan) ≤ maxChoices * length (fedLine maxTank maxMinute)
+  pub fed-short : (plan : ℕ) → length (fedLines r plan) ≤ maxChoices * length (fedLine maxTank maxMinute)
   unfolding fedLines
   fed-short plan = joins-short (r .choices) _ _ (λ i l.
       let c = w .choices .each i l in
@@ -62,7 +73,7 @@ module _ (r : Register) (w : Within r) where
       maxChoices (w .choices .few)
 
 -- numbers of 64 bits
-small-no-longer : (z : ℤ) → natAbs z ≤ 2 ^ 63 → length (decimal z) ≤ length (decimal longestNumber)
+pub small-no-longer : (z : ℤ) → natAbs z ≤ 2 ^ 63 → length (decimal z) ≤ length (decimal longestNumber)
 small-no-longer z h = integer-no-longer z (2 ^ 63 - 1) h
 
 pub lines-short : (read : JobRead) → Within (read .register) → read .number < 2 ^ 8 → read .position < 2 ^ 63 →

@@ -13,7 +13,7 @@ ghost use Rattle.register.specs.Limits.{maxChoices};
 ghost use Rattle.register.specs.Valid.{Within};
 ghost use Rattle.wire.specs.Number.{written};
 ghost use Rattle.wire.specs.Writer.{bytesAnswer, withFront};
-ghost use Rattle.listing.specs.Listing.{acceptedLines, listing};
+ghost use Rattle.listing.specs.Listing.{acceptedLines, refusalLine, listing};
 ghost use Rattle.listing.specs.ByLetter.{lineUnder, linesUnder};
 ghost use Rattle.listing.specs.Answer.{listingRoom, linesOf, listingAnswer, listingTable, listingBuffer};
 
@@ -52,7 +52,7 @@ fn put_choice(
 }
 
 // Writes the line of each choice with a letter. Returns the position after them.
-fn put_choices(register: Register, plan: u32, letter: u8, out: &mut [u8], start: usize) -> usize
+pub fn put_choices(register: Register, plan: u32, letter: u8, out: &mut [u8], start: usize) -> usize
     requires { ⌜ register .choices ≤ maxChoices ⌝ }
     requires { ⌜ start + length (linesUnder letter register plan) ≤ length (now out) ⌝ }
     ensures { λ r. ⌜ r ≡ start + length (linesUnder letter register plan) ⌝ }
@@ -96,6 +96,17 @@ fn put_accepted(
     text::put_line(out, end, 0x42, &numbers)
 }
 
+// Writes the line of a refusal at the front. Returns its count of bytes.
+pub fn put_refusal(number: u8, position: usize, out: &mut [u8]) -> usize
+    requires { ⌜ position < 2 ^ 63 ⌝ }
+    requires { ⌜ length (refusalLine number position) ≤ length (now out) ⌝ }
+    ensures { λ r. ⌜ r ≡ length (refusalLine number position) ⌝ }
+    ensures { λ _. ⌜ now (out .exit) ≡ written (now (out .entry)) 0 (refusalLine number position) ⌝ }
+{
+    let numbers = [number as i64, position as i64];
+    text::put_line(out, 0, 0x52, &numbers)
+}
+
 // Copies the first bytes of one run to the front of another.
 fn copy_front(from: &[u8], count: usize, out: &mut [u8])
     requires { ⌜ count ≤ length (now from) ⌝ }
@@ -119,8 +130,7 @@ fn put_lines(read: JobRead, out: &mut [u8]) -> usize
 {
     let number = read.number;
     if number != 0 {
-        let numbers = [number as i64, read.position as i64];
-        return text::put_line(out, 0, 0x52, &numbers);
+        return put_refusal(number, read.position, out);
     }
     put_accepted(
         read.register,

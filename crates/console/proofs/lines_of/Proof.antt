@@ -1,11 +1,10 @@
 -- `console::lines_of` meets its contract. The text has room for every listing.
 use Prim.Native.Nat.{ℕ, _≤_}
 use native.Mathlib.Omega.{arith}
-use mathlib.Core.Path.{_≡_, sym, _∙_, ap}
+use mathlib.Core.Path.{_≡_, _∙_, ap}
 use mathlib.Core.List.{List, _++_}
 use lib.IntN.{ℤ, pos}
-use lib.ListN.{length, drop, replicate, length-append, length-replicate}
-use lib.Seq.{take-at}
+use lib.ListN.{length, drop, replicate, length-replicate}
 use borrow.Author.Needs.{needs}
 use Rattle.io.specs.Counts.{Counts}
 use Rattle.forms.specs.Table.{tableNumbers}
@@ -14,12 +13,9 @@ use Rattle.wire.specs.declared.WriterAnswer.{WriterAnswer}
 use Rattle.listing.specs.Listing.{listing}
 use Rattle.listing.specs.Answer.{listingRoom, listingAnswer, listingBuffer}
 use Rattle.listing.proofs.Answers.{enough}
+use Rattle.console.proofs.Front.{front}
 use Rattle.console.proofs.lines_of.Statement.{statement}
 use Rattle.console.proofs.lines_of.Tie as tie
-
--- so many bytes at the front
-counts : (n : ℕ) (a rest out : List ℕ) → n ≡ length a → out ≡ a ++ rest → Counts n out
-counts n a rest out e d = rw d (omega (arith, e, length-append a rest), e ∙ ap length (sym (take-at a rest n (sym e))))
 
 -- the listing call's answer and buffer, where the table is long enough and the text has room
 answered : (job : List ℕ) (table : List ℤ) (text : List ℕ) (a : WriterAnswer) (out : List ℕ) → tableNumbers ≤ length table → listingRoom ≤ length text →
@@ -27,9 +23,7 @@ answered : (job : List ℕ) (table : List ℤ) (text : List ℕ) (a : WriterAnsw
     (a .count ≡ length (listing (outcome job))) × ((out ≡ listing (outcome job) ++ drop (a .count) text) × Counts (a .count) out)
 answered job table text a out l m e d short =
     let w = enough job table text l m short in
-    let n : a .count ≡ length (listing (outcome job)) = ap (λ a. a .count) (e ∙ w .0) in
-    let o : out ≡ listing (outcome job) ++ drop (a .count) text = d ∙ w .1 ∙ ap (λ k. listing (outcome job) ++ drop k text) (sym n) in
-    (n, (o, counts (a .count) (listing (outcome job)) (drop (a .count) text) out n o))
+    front (listing (outcome job)) text (a .count) out (ap (λ a. a .count) (e ∙ w .0)) (d ∙ w .1)
 
 slice-aggregate-feedcheck-listing : tie.Need-slice-aggregate-feedcheck-listing
 slice-aggregate-feedcheck-listing c = search needs

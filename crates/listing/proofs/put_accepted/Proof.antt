@@ -1,20 +1,19 @@
 -- `listing::put_accepted` meets its contract. The `T` lines, the `F` lines and the `B` line, one after the other.
-use Prim.Native.Nat.{ℕ, _+_}
+use Prim.Native.Nat.{_+_}
 use native.Mathlib.Nat.{zero-add}
 use native.Mathlib.Omega.{arith}
-use mathlib.Core.Path.{_≡_, refl, sym, ap, _∙_}
+use mathlib.Core.Path.{_≡_, sym, ap, _∙_}
 use mathlib.Core.List.{[], _∷_}
 use lib.ListN.{length}
 use mir.Facts.{toZ-ofZ}
 use mir.Syntax.{w64}
 use mir.Val.{toZ, ofZ}
 use borrow.Author.Needs.{needs}
-use Rattle.register.specs.declared.Register.{Register}
 use Rattle.text.specs.Text.{line}
 use Rattle.wire.proofs.Written.{and-then, same}
 use Rattle.listing.specs.Listing.{choiceLines, fedLines, boundLine, acceptedLines}
 use Rattle.listing.specs.ByLetter.{linesUnder}
-use Rattle.listing.proofs.Lengths.{length-accepted, accepted-is}
+use Rattle.listing.proofs.Lengths.{choice-lines, fed-lines, length-accepted, accepted-is}
 use Rattle.listing.proofs.put_accepted.Statement.{statement}
 use Rattle.listing.proofs.put_accepted.Tie as tie
 
@@ -22,16 +21,6 @@ use Rattle.listing.proofs.put_accepted.Tie as tie
 last : (c : tie.Start) → let a = c .args in
     line 0x42 (toZ w64 (ofZ w64 (a .bound)) ∷ toZ w64 (ofZ w64 (a .cost)) ∷ toZ w64 (ofZ w64 (a .gap)) ∷ []) ≡ boundLine (a .bound) (a .cost) (a .gap)
 last c = rw (toZ-ofZ (c .fits .bound), toZ-ofZ (c .fits .cost), toZ-ofZ (c .fits .gap))
-
--- the lines under `T` and under `F`
-module _ (r : Register) (plan : ℕ) where
-  choice-lines : linesUnder 0x54 r plan ≡ choiceLines r
-  unfolding linesUnder choiceLines
-  choice-lines = refl
-
-  fed-lines : linesUnder 0x46 r plan ≡ fedLines r plan
-  unfolding linesUnder fedLines
-  fed-lines = refl
 
 -- how many bytes there are
 total : (c : tie.Start) → let a = c .args in

@@ -1,0 +1,4 @@
+-- The laws of what the programs print.
+pub mod Front
+pub mod Lengths
+pub mod Prefix
