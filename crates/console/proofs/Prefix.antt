@@ -1,5 +1,5 @@
 -- What the search call answers to a register stands in its first bytes.
-use Prim.Native.Nat.{ℕ, _≤_, _<_}
+use Prim.Native.Nat.{ℕ, _≤_}
 use native.Mathlib.Omega.{arith}
 use mathlib.Core.Path.{_≡_, refl, subst}
 use mathlib.Core.Bool.{Bool, true, false, cond}
@@ -8,7 +8,7 @@ use lib.Dec.{ltb}
 use lib.ListN.{length, take, length-take}
 use Rattle.wire.specs.Part.{Reading, refused, accepted, total, byItself}
 use Rattle.wire.specs.Rows.{Progress}
-use Rattle.wire.specs.Outcome.{Outcome, refuses, accepts, given, andThen, answerBy}
+use Rattle.wire.specs.Outcome.{refuses, accepts, given, andThen, answerBy}
 use Rattle.wire.proofs.Outcome.{positionOf}
 use Rattle.register.specs.declared.Register.{Register}
 use Rattle.register.specs.Register.{coefficient}

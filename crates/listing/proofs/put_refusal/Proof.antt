@@ -22,11 +22,11 @@ bits number position n p = rw (read-unsigned w64 number (omega arith), read-unsi
 refusal : (c : tie.Start) → let a = c .args in line 0x52 (toZ w64 (a .number) ∷ toZ w64 (a .position) ∷ []) ≡ refusalLine (a .number) (a .position)
 refusal c = bits _ _ (c .fits .number .fits) (c .pre .0)
 
-cast-t4 : tie.Need-cast-t4
-cast-t4 c = search needs
-
 cast-t5 : tie.Need-cast-t5
 cast-t5 c = search needs
+
+cast-t6 : tie.Need-cast-t6
+cast-t6 c = search needs
 
 slice-aggregate-put-line : tie.Need-slice-aggregate-put-line
 slice-aggregate-put-line c = search needs
@@ -44,4 +44,4 @@ returns c =
     (w .0 ∙ zero-add _, w .1)
 
 pub put-refusal-spec : {M : Type 1} → statement M
-put-refusal-spec = tie.close (tie.spec cast-t4 cast-t5 slice-aggregate-put-line put-line-requires same-length returns)
+put-refusal-spec = tie.close (tie.spec cast-t5 cast-t6 slice-aggregate-put-line put-line-requires same-length returns)
