@@ -1,29 +1,24 @@
 -- The sum at a partial plan: no full plan under it costs less, and at a full plan it is the cost.
-use mathlib.Core.Path.{_≡_, refl, sym, _∙_, ap, subst}
-use mathlib.Core.Logic.{_↔_, _⊎_, inl, inr, ⊎-elim}
+use mathlib.Core.Path.{_≡_, refl, sym, _∙_, ap}
 use mathlib.Core.Bool.{Bool, true, false, cond}
 use Prim.Native.Nat.{ℕ, _+_, _*_, _-_, _^_, _≤_, _<_}
 use native.Mathlib.Nat.{add-zero, mod-eq-of-lt}
 use native.Mathlib.Omega.{arith}
-use native.Mathlib.Decide.{decLt}
 use lib.Dec.{T}
-use lib.Pow.{pow-pos, pow-lt}
-use lib.Bits.{bitAnd, bitOr, and-block, and-self, and-zero-r, and-comm, and-mask, and-shifted, or-shifted}
+use lib.Pow.{pow-pos}
+use lib.Bits.{bitAnd, and-block, and-self, and-zero-r, and-comm, and-mask}
 use lib.IntN.{ℤ, pos, _+ℤ_}
 use lib.Signed.{_≤ℤ_, ≤ℤ-refl}
 use Rattle.integers.proofs.Sum.{sumBelow-cong, sumBelow-mono}
 use Rattle.integers.proofs.Order.{+ℤ-mono}
-use Rattle.integers.proofs.Lists.{T-or}
-use Rattle.sets.specs.Sets.{isMember, isSubset}
-use Rattle.sets.proofs.Sets.{member-or, member-below, subset-is, subset-members, subset-one}
+use Rattle.sets.specs.Sets.{isSubset}
+use Rattle.sets.proofs.Sets.{subset-is}
+use Rattle.sets.proofs.Subsets.{subset-trans}
 use Rattle.register.specs.declared.Register.{Register}
 use Rattle.register.specs.Register.{mask}
 use Rattle.plan.specs.Plan.{cost}
 use Rattle.search.specs.Sum.{possible, negative, termSum, sum}
 use Rattle.search.proofs.Sums.{negative-≤}
-
-pub subset-trans : (a b c : ℕ) → T (isSubset a b) → T (isSubset b c) → T (isSubset a c)
-subset-trans a b c t u = subset-members a c .1 (λ i h. subset-members b c .0 u i (subset-members a b .0 t i h))
 
 -- a full plan under the partial plan with d choices undecided and q * 2 ^ d fed feeds the same decided choices
 module _ (d q x : ℕ) (l : x < 2 ^ d) where

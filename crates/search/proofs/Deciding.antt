@@ -1,60 +1,24 @@
 -- How the sum changes when one more choice is decided: only by the terms that are listed under it.
-use mathlib.Core.Path.{_≡_, refl, sym, _∙_, ap, subst}
-use mathlib.Core.Logic.{⊎-elim}
+use mathlib.Core.Path.{_≡_, refl, sym, _∙_, ap}
 use mathlib.Core.Bool.{Bool, true, false, cond, _&&_, _||_}
-use Prim.Native.Nat.{ℕ, zero, suc, _+_, _*_, _-_, _/_, _%_, _^_, _<_}
+use Prim.Native.Nat.{ℕ, suc, _+_, _*_, _-_, _%_, _^_, _<_}
 use native.Mathlib.Nat.{pow-suc, add-zero}
 use native.Mathlib.Omega.{arith}
-use lib.Arith.{digits-div, digits-mod}
-use lib.Dec.{T, eqb}
+use lib.Arith.{digits-div}
+use lib.Dec.{T}
 use lib.Pow.{pow-pos}
-use lib.Bits.{bitAnd, bitOr, and-mod, and-zero-l, or-shifted, or-shifted-r, or-block, or-zero-r}
+use lib.Bits.{bitOr, or-shifted, or-shifted-r, or-block, or-zero-r}
 use lib.IntN.{ℤ, pos, negsuc, _+ℤ_, +ℤ-assoc, +ℤ-idr, +ℤ-idl}
 use lib.Signed.{ltZ}
 use borrow.Author.Tests.{eq-eqb}
 use Rattle.integers.specs.Sum.{sumBelow}
 use Rattle.integers.proofs.Sum.{sumBelow-cong, sumBelow-+}
-use Rattle.integers.proofs.Lists.{T-or, T-ext, T-true, flag}
+use Rattle.integers.proofs.Lists.{T-true, flag}
 use Rattle.sets.specs.Sets.{isMember, isSubset}
-use Rattle.sets.proofs.Sets.{member-zero, member-suc, member-empty, member-or, subset-is, subset-members}
+use Rattle.sets.proofs.Subsets.{subset-trans, subset-more, subset-without, subset-from}
 use Rattle.search.specs.Sum.{possible, negative, termSum}
 use Rattle.search.specs.Lent.{Terms, maskOf, coefficientOf, sumTo, lentSum, isListed, positive, termLost, termGained}
-use Rattle.search.proofs.Bound.{subset-trans, under-fed}
-
--- ---- one choice more in a set
-
--- the only member of 2 ^ k is k
-member-power : (i k : ℕ) → T (isMember i (2 ^ k)) → i ≡ k
-member-power zero zero t = refl
-member-power zero (suc k) t = absurd (omega (arith, member-zero (2 ^ suc k) .0 t, pow-suc 2 k))
-member-power (suc i) zero t = absurd (subst T (member-suc i 1 ∙ member-empty i) t)
-member-power (suc i) (suc k) t =
-    let e : 2 ^ suc k / 2 ≡ 2 ^ k = omega (arith, pow-suc 2 k) in
-    ap suc (member-power i k (subst T (member-suc i (2 ^ suc k) ∙ ap (isMember i) e) t))
-
--- a set without it is within the larger set when it is within the smaller
-subset-more : (m a k : ℕ) → isMember k m ≡ false → isSubset m (bitOr a (2 ^ k)) ≡ isSubset m a
-subset-more m a k e = T-ext _ _ (
-  (λ t. subset-members m a .1 (λ i h.
-      ⊎-elim (λ u. u) (λ u. absurd (subst T (ap (λ j. isMember j m) (member-power i k u) ∙ e) h))
-      (T-or (isMember i a) (isMember i (2 ^ k)) .0 (subst T (member-or i a (2 ^ k)) (subset-members m (bitOr a (2 ^ k)) .0 t i h))))),
-  (λ t. subset-members m (bitOr a (2 ^ k)) .1 (λ i h.
-      subst T (sym (member-or i a (2 ^ k))) (left (isMember i a) (isMember i (2 ^ k)) (subset-members m a .0 t i h)))),
-)
-  where
-    left : (x y : Bool) → T x → T (x || y)
-    left true y t = tt
-    left false y t = absurd t
-
--- a set with it is not within one without it
-subset-without : (m b k : ℕ) → isMember k m ≡ true → isMember k b ≡ false → isSubset m b ≡ false
-subset-without m b k e f = T-ext _ _ ((λ t. subst T f (subset-members m b .0 t k (T-true (isMember k m) .1 e))), (λ t. absurd t))
-
--- a set within choices from k up names none below k
-subset-from : (m a k : ℕ) → T (isSubset m (a * 2 ^ k)) → m % 2 ^ k ≡ 0
-subset-from m a k t =
-    let z : a * 2 ^ k % 2 ^ k ≡ 0 = ap (λ x. x % 2 ^ k) (sym (add-zero (a * 2 ^ k))) ∙ digits-mod a (pow-pos k) in
-    ap (λ x. x % 2 ^ k) (sym (subset-is m (a * 2 ^ k) .0 t)) ∙ and-mod (a * 2 ^ k) m k ∙ rw z (and-zero-l (m % 2 ^ k))
+use Rattle.search.proofs.Bound.{under-fed}
 
 -- ---- choice k decided, where those from k + 1 up are decided and q * 2 ^ (k + 1) are fed
 

@@ -2,14 +2,14 @@
 -- where they are in the set of those fed.
 use mathlib.Core.Path.{_≡_, sym, _∙_, ap, subst}
 use mathlib.Core.Logic.{_↔_, _⊎_, inl, inr, ⊎-elim}
-use mathlib.Core.Bool.{Bool, true, false, cond}
-use Prim.Native.Nat.{ℕ, _+_, _*_, _-_, _^_, _≤_, _<_}
+use mathlib.Core.Bool.{Bool, true, false}
+use Prim.Native.Nat.{ℕ, _*_, _-_, _^_, _≤_, _<_}
 use native.Mathlib.Nat.{mod-eq-of-lt}
 use native.Mathlib.Omega.{arith}
 use native.Mathlib.Decide.{decLt}
 use lib.Dec.{T}
 use lib.Pow.{pow-pos, pow-lt}
-use lib.Bits.{bitAnd, bitOr, and-comm, and-mask, and-shifted, or-shifted}
+use lib.Bits.{bitOr, and-comm, and-mask, and-shifted, or-shifted}
 use lib.IntN.{ℤ, pos}
 use Rattle.integers.proofs.Lists.{T-or, T-true, flag}
 use Rattle.sets.specs.Sets.{isMember, isSubset}

@@ -1,7 +1,6 @@
 -- `search::lists::is_listed` meets its contract. A shift down is a division by a power of 2, and 1 shifted up is that power.
 use Prim.Native.Nat.{ℕ, _*_, _%_, _^_, _<_}
-use mathlib.Core.Path.{_≡_, refl, sym, _∙_, ap}
-use native.Mathlib.Omega.{arith}
+use mathlib.Core.Path.{_≡_, sym}
 use lib.Pow.{pow-pos}
 use mir.Syntax.{w32}
 use mir.Facts.{toZ-ofZ}

@@ -1,10 +1,10 @@
 -- `search::lists::list_terms` meets its contract. The loop's invariant: the terms passed are listed, and the places before are as
 -- they were.
-use Prim.Native.Nat.{ℕ, _+_, _*_, _-_, _≤_, _<_}
+use Prim.Native.Nat.{_+_, _*_, _-_, _≤_, _<_}
 use native.Mathlib.Omega.{arith}
 use mathlib.Core.Path.{_≡_, refl, _∙_}
 use mathlib.Core.Bool.{Bool, true, false, cond}
-use lib.IntN.{ℤ, pos}
+use lib.IntN.{pos}
 use lib.ListN.{length, length-set}
 use mir.Syntax.{w32}
 use mir.Val.{toZ, ofZ}
