@@ -1,5 +1,5 @@
-// examples.txt, suppliers.txt: JOB OUT; cheapest.txt: REGISTER OUT. The names of two files: the first holds what a program reads, the
-// second what it prints for it.
+// examples.txt, suppliers.txt: JOB OUT; cheapest.txt: REGISTER OUT. The names of two files: the first holds what a program reads,
+// the second what it prints for it.
 use console::MAX_VISITS;
 ghost use Prim.Native.Nat.{_≤_};
 ghost use lib.ListN.{length};

@@ -19,7 +19,7 @@ use Rattle.listing.specs.Answer.{longestNumber}
 abbrev pub searchLine : ℤ → ℕ → List ℕ
 searchLine cost visits = line 0x53 (cost ∷ pos visits ∷ [])
 
--- of what the search call answers: `F` lines of the plan, with the register's tanks and minutes, and the `S` line, or a refusal's line
+-- of what the search call answers: the plan's `F` lines, with the register's tanks and minutes, and the `S` line, or an `R` line
 unfoldable pub searchLines : Register → SearchAnswer → List ℕ
 searchLines r answer =
     cond (eqb (answer .number) 0)
@@ -30,8 +30,8 @@ searchLines r answer =
 unfoldable pub cheapestLines : List ℕ → ℕ → List ℕ
 cheapestLines register limit = searchLines (registerAnswer (registerByItself register) .register) (searchAnswer register limit)
 
--- no such lines have more bytes: an `F` line of the highest numbers for each choice, and an `S` line of −2^63, the longest number of
--- 64 bits, and of the highest number of 32 bits
+-- no such lines have more bytes: an `F` line of the highest numbers for each choice, and an `S` line of −2^63, the longest number
+-- of 64 bits, and of the highest number of 32 bits
 unfoldable pub longestSearch : ℕ
 longestSearch = maxChoices * length (fedLine maxTank maxMinute) + length (searchLine longestNumber (2 ^ 32 - 1))
 
