@@ -16,7 +16,7 @@ use Rattle.register.specs.Format.{registerPart, registerInJob, registerByItself
 use Rattle.register.proofs.Prefix.{registerLongest, registerReach, register-prefix, register-end}
 use Rattle.job.proofs.Positions.{part-within}
 use Rattle.job.proofs.Prefix.{past-prefix}
-use Rattle.search.specs.declared.Best.{Best}
+use Rattle.search.specs.Walk.{Best}
 use Rattle.search.specs.Answer.{search, withinLimit, refusedSearch, acceptedSearch, searchAnswer}
 use Rattle.console.specs.Cheapest.{cheapestLines}
 
