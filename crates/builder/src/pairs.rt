@@ -42,7 +42,7 @@ fn joined(mut work: Work, n: usize, a: u8, b: u8) -> Work
     let products = work.scheme.products;
     let count = n + products;
     let union = scheme::union_of(&work.sets, a, b);
-    let v = scheme::search::first_with(&work.sets, count, union);
+    let v = scheme::lookup::first_with(&work.sets, count, union);
     if v < count {
         work.variable = v as u8;
         return work;

@@ -2,7 +2,7 @@
 use super::Scheme;
 use super::Seen;
 use super::union_of;
-use crate::search::first_with;
+use crate::lookup::first_with;
 use wire::command_refusal;
 use wire::first_of;
 ghost use mathlib.Core.Path.{_≡_};

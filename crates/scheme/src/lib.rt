@@ -3,7 +3,7 @@ use register::Register;
 use register::feedcheck_register;
 
 mod checks;
-pub mod search;
+pub mod lookup;
 mod variable_sets;
 
 use checks::refusal_at;

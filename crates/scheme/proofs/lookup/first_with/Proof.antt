@@ -1,4 +1,4 @@
--- `scheme::search::first_with` meets its contract. The loop's invariant: no entry passed is the set.
+-- `scheme::lookup::first_with` meets its contract. The loop's invariant: no entry passed is the set.
 use Prim.Native.Nat.{_-_, _≤_}
 use native.Mathlib.Omega.{arith}
 use native.Mathlib.Numerals.{add-one}
@@ -9,8 +9,8 @@ use borrow.Author.Tests.{eq-eqb, ne-eqb}
 use Rattle.integers.specs.Lists.{allBelow}
 use Rattle.integers.proofs.Search.{first-none, first-at}
 use Rattle.scheme.specs.Sets.{noneIs, firstIn}
-use Rattle.scheme.proofs.search.first_with.Statement.{statement}
-use Rattle.scheme.proofs.search.first_with.Tie as tie
+use Rattle.scheme.proofs.lookup.first_with.Statement.{statement}
+use Rattle.scheme.proofs.lookup.first_with.Tie as tie
 
 abbrev Inv-loop : tie.InvT-loop
 Inv-loop sets count union v₀ v = (noneIs sets v union ≡ true) × (v ≤ count)
