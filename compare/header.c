@@ -56,6 +56,14 @@ int main(void) {
     expect("build, short buffer", w.number == 11 && w.part == 0 && w.position == 0 && w.count == 0);
     FeedcheckCostAnswer c = feedcheck_cost(JOB, REGISTER, plan, PLAN);
     expect("cost", c.number == 0 && c.cost == 0);
+    FeedcheckSearchAnswer s = feedcheck_search(JOB, REGISTER, 9);
+    expect("search", s.number == 0 && s.part == 0 && s.position == 0 && s.plan == 3 && s.cost == 0 && s.visits == 9);
+    s = feedcheck_search(JOB, REGISTER, 8);
+    expect("search, limit passed", s.number == 14 && s.part == 0 && s.position == 0 && s.plan == 0 && s.cost == 0 && s.visits == 0);
+    s = feedcheck_search(WINDOWS, sizeof WINDOWS, 4294967295u);
+    expect("search, no terms", s.number == 0 && s.plan == 0 && s.cost == 0 && s.visits == 3);
+    s = feedcheck_search(outside, sizeof outside, 0);
+    expect("search, choice outside", s.number == 13 && s.part == 1 && s.position == 26 && s.visits == 0);
     FeedcheckPenaltyAnswer p = feedcheck_penalty(JOB, REGISTER, scheme, SCHEME, table, FEEDCHECK_TABLE_NUMBERS);
     expect("penalty", p.number == 0 && table[0] == 20 && table[5] == 20);
     FeedcheckCheckAnswer k = feedcheck_check(JOB, REGISTER, scheme, SCHEME, certificate, CERTIFICATE, table, FEEDCHECK_TABLE_NUMBERS);

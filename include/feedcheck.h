@@ -1,14 +1,14 @@
-/* The nine calls of the library. Every call is a pure function of the bytes that it is given: nothing is kept between calls.
+/* The ten calls of the library. Every call is a pure function of the bytes that it is given: nothing is kept between calls.
  *
  * A run of bytes is a pointer and a length. A pointer is never null, also where the length is 0; a table is aligned as int64_t.
  * A lent table or buffer overlaps nothing else that the call is given. A table has at least FEEDCHECK_TABLE_NUMBERS numbers; a
  * shorter one is refused 11 and left as it was, as is a buffer shorter than the bytes to be written.
  *
- * An answer's number is 0, or that of a refusal, 1 to 13; then part and position say which command is refused, and every other
+ * An answer's number is 0, or that of a refusal, 1 to 14; then part and position say which command is refused, and every other
  * field is 0 (a job's tally is carried on all the same). The numbers are explained in docs/REFUSALS.md.
  *
  * Each call stands in a static library of its own, target/staticlib/libNAME.a; the name is given beside each call.
- * tools/libraries makes all nine, `rt staticlib NAME` one. They can be linked together. include/example.c is a complete program,
+ * tools/libraries makes all ten, `rt staticlib NAME` one. They can be linked together. include/example.c is a complete program,
  * and docs/LINKING.md has the commands. */
 #ifndef FEEDCHECK_H
 #define FEEDCHECK_H
@@ -82,6 +82,16 @@ typedef struct {
     int64_t cost;
 } FeedcheckCostAnswer;
 
+/* plan: bit i is set when choice i is fed. visits: the partial plans that the search came to, the empty one, full ones and those
+ * that it left at once included; with n choices never more than 2 to the power (n + 1), less 1. */
+typedef struct {
+    uint8_t number, part;
+    size_t position;
+    uint32_t plan;
+    int64_t cost;
+    uint32_t visits;
+} FeedcheckSearchAnswer;
+
 typedef struct {
     uint8_t number, part;
     size_t position;
@@ -111,6 +121,11 @@ FeedcheckWriterAnswer feedcheck_build(const uint8_t *reg, size_t reg_length, uin
 
 /* The cost of a plan (part 4). libplan.a */
 FeedcheckCostAnswer feedcheck_cost(const uint8_t *reg, size_t reg_length, const uint8_t *plan, size_t plan_length);
+
+/* Finds a plan that costs at most any other, of equals the smallest number. Refused 14, with part and position 0, where that takes
+ * more visits than the limit; it stops there, so the limit bounds the time of the call. As many as the limit are accepted.
+ * libsearch.a */
+FeedcheckSearchAnswer feedcheck_search(const uint8_t *reg, size_t reg_length, uint32_t limit);
 
 /* Leaves the table of the penalty form in the table. libpenalty.a */
 FeedcheckPenaltyAnswer feedcheck_penalty(const uint8_t *reg, size_t reg_length, const uint8_t *scheme, size_t scheme_length,

@@ -78,12 +78,22 @@ impl Refusal {
             11 => "a lent table or buffer is short",
             12 => "bytes stand after the end",
             13 => "a choice is outside its tank's windows",
+            14 => "the search takes more visits than its limit",
             _ => "no refusal",
         }
     }
 }
 
 impl std::error::Error for Refusal {}
+
+/// The plan that a search found (bit i is set when choice i is fed), its cost, and the number of partial plans visited, the empty
+/// one, full ones and those left at once included; with n choices never more than 2 to the power (n + 1), less 1.
+#[derive(Clone, Copy, Debug, PartialEq, Eq)]
+pub struct Found {
+    pub plan: u32,
+    pub cost: i64,
+    pub visits: u32,
+}
 
 /// What an accepted job comes to.
 #[derive(Clone, Copy, Debug, PartialEq, Eq)]
@@ -123,6 +133,14 @@ pub fn build(register: &[u8], buffer: &mut [u8]) -> Result<usize, Refusal> {
 pub fn cost(register: &[u8], plan: &[u8]) -> Result<i64, Refusal> {
     let answer = raw::cost(register, plan);
     result(answer.number, answer.part, answer.position, answer.cost)
+}
+
+/// Finds a plan that costs at most any other, of equals the smallest number. Refused 14 where that takes more visits than the
+/// limit; it stops there, so the limit bounds the time of the call. As many as the limit are accepted.
+pub fn search(register: &[u8], limit: u32) -> Result<Found, Refusal> {
+    let answer = raw::search(register, limit);
+    let found = Found { plan: answer.plan, cost: answer.cost, visits: answer.visits };
+    result(answer.number, answer.part, answer.position, found)
 }
 
 /// Leaves the table of the penalty form in the table.

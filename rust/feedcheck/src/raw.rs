@@ -81,6 +81,18 @@ pub struct CostAnswer {
     pub cost: i64,
 }
 
+/// Bit i of the plan is set when choice i is fed.
+#[derive(Clone, Copy, Debug, PartialEq, Eq)]
+#[repr(C)]
+pub struct SearchAnswer {
+    pub number: u8,
+    pub part: u8,
+    pub position: usize,
+    pub plan: u32,
+    pub cost: i64,
+    pub visits: u32,
+}
+
 #[derive(Clone, Copy, Debug, PartialEq, Eq)]
 #[repr(C)]
 pub struct PenaltyAnswer {
@@ -128,6 +140,7 @@ mod linked {
             buffer_length: usize,
         ) -> WriterAnswer;
         pub fn feedcheck_cost(register: *const u8, register_length: usize, plan: *const u8, plan_length: usize) -> CostAnswer;
+        pub fn feedcheck_search(register: *const u8, register_length: usize, limit: u32) -> SearchAnswer;
         pub fn feedcheck_penalty(
             register: *const u8,
             register_length: usize,
@@ -180,6 +193,10 @@ pub fn build(register: &[u8], buffer: &mut [u8]) -> WriterAnswer {
 
 pub fn cost(register: &[u8], plan: &[u8]) -> CostAnswer {
     unsafe { linked::feedcheck_cost(register.as_ptr(), register.len(), plan.as_ptr(), plan.len()) }
+}
+
+pub fn search(register: &[u8], limit: u32) -> SearchAnswer {
+    unsafe { linked::feedcheck_search(register.as_ptr(), register.len(), limit) }
 }
 
 pub fn penalty(register: &[u8], scheme: &[u8], table: &mut [i64]) -> PenaltyAnswer {

@@ -47,6 +47,20 @@ fn cost() {
 }
 
 #[test]
+fn search() {
+    let found = feedcheck::Found { plan: 3, cost: 0, visits: 9 };
+    assert_eq!(feedcheck::search(&REGISTER, 9), Ok(found));
+    assert_eq!(feedcheck::search(&REGISTER, u32::MAX), Ok(found));
+    let refusal = feedcheck::search(&REGISTER, 8).unwrap_err();
+    assert_eq!((refusal.number, refusal.part, refusal.position), (14, 0, 0));
+    assert_eq!(refusal.to_string(), "refusal 14: the search takes more visits than its limit");
+    let answer = feedcheck::raw::search(&REGISTER, 8);
+    assert_eq!((answer.plan, answer.cost, answer.visits), (0, 0, 0));
+    let refusal = feedcheck::search(&REGISTER[..47], 0).unwrap_err();
+    assert_eq!((refusal.number, refusal.part, refusal.position), (2, 1, 47));
+}
+
+#[test]
 fn penalty() {
     let mut table = vec![77; feedcheck::TABLE_NUMBERS];
     assert_eq!(feedcheck::penalty(&REGISTER, &SCHEME, &mut table), Ok(()));
