@@ -1,5 +1,6 @@
-//! The nine calls.
+//! The ten calls.
 
+use crate::search::{self as searches, Found};
 use crate::wire::{alone, Fault};
 use crate::{builder, certificate, plain as own, plan as plans, register as registers, scheme as schemes, table};
 use std::fmt::Write;
@@ -19,6 +20,9 @@ impl Refusal {
 
     /// Refusal 11: no command causes it.
     const SHORT: Refusal = Refusal { number: 11, part: 0, position: 0 };
+
+    /// Refusal 14, likewise.
+    const PAST_LIMIT: Refusal = Refusal { number: 14, part: 0, position: 0 };
 }
 
 pub type Answer<T> = Result<T, Refusal>;
@@ -59,6 +63,10 @@ pub fn cost(part1: &[u8], part4: &[u8]) -> Answer<i64> {
     let register = register(part1)?;
     let plan = alone(part4, plans::read(&register, part4)).map_err(|fault| Refusal::of(4, fault))?;
     Ok(plans::cost(&register, plan))
+}
+
+pub fn search(part1: &[u8], limit: u32) -> Answer<Found> {
+    searches::search(&register(part1)?, limit).ok_or(Refusal::PAST_LIMIT)
 }
 
 pub fn penalty(part1: &[u8], part2: &[u8], lent: &mut [i64]) -> Answer<()> {

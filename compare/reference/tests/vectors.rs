@@ -138,6 +138,16 @@ fn cost() {
 }
 
 #[test]
+fn search() {
+    each("search.txt", |f| {
+        let (register, limit) = (f.bytes(), f.number() as u32);
+        let (refusal, found) = split(reference::search(&register, limit));
+        let values = [found.plan as i64, found.cost, found.visits as i64];
+        refusal == f.refusal() && values.iter().all(|&value| value == f.number())
+    });
+}
+
+#[test]
 fn penalty() {
     each("penalty.txt", |f| {
         let (register, scheme) = (f.bytes(), f.bytes());
