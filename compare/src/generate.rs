@@ -165,6 +165,27 @@ fn coefficient(random: &mut Random) -> i32 {
     random.pick(&[1, -1, 1_000_000, -1_000_000, small, -small, any, -any])
 }
 
+/// The coefficients of a register's terms: of any kind, or alike in some way that a search meets.
+fn coefficients(random: &mut Random, masks: &[u32]) -> Vec<i32> {
+    let manner = random.below(14);
+    let one = coefficient(random);
+    let of_mask = |mask: u32| match manner {
+        // Few values: many plans cost the same, and sums come to the best cost exactly.
+        0 | 1 => random.pick(&[1, -1]),
+        2 => random.pick(&[one, -one]),
+        3 => random.pick(&[1, -1, 2, -2, -3]),
+        4 => one,
+        // One sign.
+        5 => coefficient(random).abs(),
+        6 => -coefficient(random).abs(),
+        // Of terms of one choice each, every plan is cheaper than those before it: a search leaves nothing.
+        7 => -(1 << mask.ilog2().min(19)),
+        8 => (mask.ilog2() as i32 + 1) * random.pick(&[1, -1]),
+        _ => coefficient(random),
+    };
+    masks.iter().copied().map(of_mask).collect()
+}
+
 fn base(random: &mut Random) -> i32 {
     let any = random.within(-1_000_000, 1_000_000) as i32;
     random.pick(&[0, 10, -10, 1_000_000_000, -1_000_000_000, any])
@@ -175,12 +196,13 @@ fn register_of(random: &mut Random, choice_count: usize, mut masks: Vec<u32>) ->
     masks.sort();
     masks.dedup();
     masks.truncate(MAX_TERMS);
-    let term = |mask, random: &mut Random| Term { mask, coefficient: coefficient(random), position: 0 };
+    let coefficients = coefficients(random, &masks);
+    let term = |(mask, coefficient)| Term { mask, coefficient, position: 0 };
     Register {
         base: base(random),
         windows: Vec::new(),
         choices: choices(random, choice_count),
-        terms: masks.into_iter().map(|mask| term(mask, random)).collect(),
+        terms: masks.into_iter().zip(coefficients).map(term).collect(),
     }
 }
 
@@ -194,6 +216,7 @@ fn built(random: &mut Random, size: Size) -> (Register, Scheme) {
         .map(|_| random.next() as u32 & if sparse { random.next() as u32 & random.next() as u32 } else { u32::MAX } & all)
         .filter(|&mask| mask != 0)
         .collect();
+    masks.extend(regular_masks(random, n));
     loop {
         let register = register_of(random, n, masks.clone());
         match builder::build(&register) {
@@ -204,6 +227,22 @@ fn built(random: &mut Random, size: Size) -> (Register, Scheme) {
                 masks.pop();
             }
         }
+    }
+}
+
+/// Masks that make a search come to what it rarely comes to by chance; mostly none.
+fn regular_masks(random: &mut Random, n: usize) -> Vec<u32> {
+    let all = ((1u64 << n) - 1) as u32;
+    match random.below(10) {
+        // Each choice by itself; with one term of all choices; with each pair of neighbours.
+        0 | 1 => (0..n).map(|i| 1 << i).collect(),
+        2 => (0..n).map(|i| 1 << i).chain([all]).collect(),
+        3 => (0..n).flat_map(|i| [1 << i, (3 << i) & all]).collect(),
+        4 => vec![all],
+        // The choices up to one, or from one on.
+        5 => (0..n).map(|i| all >> i).collect(),
+        6 => (0..n).map(|i| all << i & all).collect(),
+        _ => Vec::new(),
     }
 }
 

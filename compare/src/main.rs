@@ -9,15 +9,17 @@
 use compare::generate::{input, seed, Input, Whole};
 use compare::random::Random;
 use feedcheck::raw;
+use reference::search::Found;
 use reference::{Answer, Refusal};
 use std::collections::BTreeMap;
 
 /// Each call, with the refusal numbers that the scope gives it.
-const CALLS: [(&str, &[u8]); 9] = [
+const CALLS: [(&str, &[u8]); 10] = [
     ("register", &[1, 2, 3, 4, 5, 6, 7, 12, 13]),
     ("scheme", &[1, 2, 3, 4, 5, 6, 7, 8, 12, 13]),
     ("build", &[1, 2, 3, 4, 5, 6, 7, 10, 11, 12, 13]),
     ("cost", &[1, 2, 3, 4, 5, 6, 7, 12, 13]),
+    ("search", &[1, 2, 3, 4, 5, 6, 7, 12, 13, 14]),
     ("penalty", &[1, 2, 3, 4, 5, 6, 7, 8, 11, 12, 13]),
     ("check", &[1, 2, 3, 4, 5, 6, 7, 8, 9, 11, 12, 13]),
     ("plain", &[1, 2, 3, 4, 5, 6, 7, 8, 11, 12, 13]),
@@ -25,8 +27,8 @@ const CALLS: [(&str, &[u8]); 9] = [
     ("listing", &[11]),
 ];
 
-/// The numbers of an answer: 0, and the refusals 1 to 13.
-const NUMBERS: usize = 14;
+/// The numbers of an answer: 0, and the refusals 1 to 14.
+const NUMBERS: usize = 15;
 
 /// Each command, by its part and byte, with the refusal numbers that the scope gives it there; 1 where it stands out of place.
 const COMMANDS: [(u8, u8, &[u8]); 21] = [
@@ -150,6 +152,7 @@ impl Comparison {
 
         self.compare_writer("build", input, 865, |buffer| raw::build(part1, buffer), |buffer| reference::build(part1, buffer));
         self.compare_cost(input);
+        self.compare_search(input);
         self.compare_penalty(input);
         self.compare_check(input);
         self.compare_writer(
@@ -190,6 +193,41 @@ impl Comparison {
         if refusal.part == 4 {
             self.count_command(refusal, part4);
         }
+    }
+
+    /// A visit limit for a search: about as many visits as it takes, if that is found out in so many as here, else fewer.
+    fn visit_limit(&mut self, part1: &[u8]) -> u32 {
+        let most = match self.random.below(1_000) {
+            0 => 1_000_000,
+            1..=99 => 10_000,
+            _ => 2_000,
+        };
+        let few = self.random.below(70) as u32;
+        match reference::search(part1, most) {
+            Ok(found) => {
+                let visits = found.visits;
+                let fewer = self.random.below(visits as usize) as u32;
+                self.random.pick(&[visits, visits, visits, visits - 1, visits - 1, visits + 1, fewer, few, 0, u32::MAX])
+            }
+            Err(refusal) if refusal.number == 14 => self.random.pick(&[most, most, most - 1, few, 0]),
+            Err(_) => self.random.pick(&[0, 0, few, most, u32::MAX]),
+        }
+    }
+
+    fn compare_search(&mut self, input: &Input) {
+        let [part1, ..] = &input.parts;
+        let limit = self.visit_limit(part1);
+        let library = raw::search(part1, limit);
+        let (refusal, found) = split(reference::search(part1, limit), Found::default());
+        let answer = raw::SearchAnswer {
+            number: refusal.number,
+            part: refusal.part,
+            position: refusal.position,
+            plan: found.plan,
+            cost: found.cost,
+            visits: found.visits,
+        };
+        self.count_answer("search", answer.number, library == answer, input, || format!("limit {limit}: {library:?} {answer:?}"));
     }
 
     fn compare_penalty(&mut self, input: &Input) {

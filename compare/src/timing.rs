@@ -18,7 +18,7 @@ pub fn assert_alike(inputs: &[Parts]) {
 }
 
 /// Seconds of processor time that this thread has taken, which other programs on the machine disturb less than elapsed time.
-fn processor_seconds() -> f64 {
+pub fn processor_seconds() -> f64 {
     #[repr(C)]
     struct Time {
         seconds: i64,
@@ -66,9 +66,15 @@ pub fn run<T, A, B>(inputs: &[T], mut library: impl FnMut(&T) -> A, mut referenc
 }
 
 /// The median of the figures, the least and the greatest.
-pub fn spread(figures: impl IntoIterator<Item = f64>) -> String {
+pub fn summary(figures: impl IntoIterator<Item = f64>) -> [f64; 3] {
     let mut figures: Vec<f64> = figures.into_iter().collect();
     figures.sort_by(f64::total_cmp);
     let middle = (figures[(figures.len() - 1) / 2] + figures[figures.len() / 2]) / 2.0;
-    format!("median {:.2}, from {:.2} to {:.2}", middle, figures[0], figures[figures.len() - 1])
+    [middle, figures[0], figures[figures.len() - 1]]
+}
+
+/// The same as text.
+pub fn spread(figures: impl IntoIterator<Item = f64>) -> String {
+    let [middle, least, greatest] = summary(figures);
+    format!("median {middle:.2}, from {least:.2} to {greatest:.2}")
 }
