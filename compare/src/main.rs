@@ -198,8 +198,8 @@ impl Comparison {
     /// A visit limit for a search: about as many visits as it takes, if that is found out in so many as here, else fewer.
     fn visit_limit(&mut self, part1: &[u8]) -> u32 {
         let most = match self.random.below(1_000) {
-            0 => 1_000_000,
-            1..=99 => 10_000,
+            0..=4 => 1_000_000,
+            5..=399 => 10_000,
             _ => 2_000,
         };
         let few = self.random.below(70) as u32;
@@ -207,7 +207,10 @@ impl Comparison {
             Ok(found) => {
                 let visits = found.visits;
                 let fewer = self.random.below(visits as usize) as u32;
-                self.random.pick(&[visits, visits, visits, visits - 1, visits - 1, visits + 1, fewer, few, 0, u32::MAX])
+                // With more choices a library that leaves too few branches might not come to an end.
+                let small = reference::register(part1).is_ok_and(|register| register.choices.len() <= 16);
+                let ample = if small { u32::MAX } else { 2 * visits };
+                self.random.pick(&[visits, visits, visits, visits - 1, visits - 1, visits + 1, fewer, few, 0, ample])
             }
             Err(refusal) if refusal.number == 14 => self.random.pick(&[most, most, most - 1, few, 0]),
             Err(_) => self.random.pick(&[0, 0, few, most, u32::MAX]),
