@@ -14,33 +14,30 @@ pub struct Found {
     pub visits: u32,
 }
 
-/// The search, or `None` at the visit that passes the limit.
+/// The search, or `None` at the visit that passes the limit. The sum is carried from one partial plan to the next: with a choice
+/// that is decided unfed it loses the negative terms that name the choice, with one that is decided fed it wins the positive
+/// terms of which this was the last undecided choice, in both cases only those that name no choice decided unfed before.
 pub fn search(register: &Register, limit: u32) -> Option<Found> {
-    let (negative, positive): (Vec<Term>, Vec<Term>) = register.terms.iter().partition(|term| term.coefficient < 0);
-    match negative.len().max(positive.len()) {
-        0..=64 => search_with::<1>(register, &negative, &positive, limit),
-        65..=128 => search_with::<2>(register, &negative, &positive, limit),
-        _ => search_with::<4>(register, &negative, &positive, limit),
+    let mut lost: [List; MAX_CHOICES] = Default::default();
+    let mut won: [List; MAX_CHOICES] = Default::default();
+    let mut sum = register.base as i64;
+    for term in &register.terms {
+        if term.coefficient < 0 {
+            sum += term.coefficient as i64;
+            let mut named = term.mask;
+            while named != 0 {
+                lost[named.trailing_zeros() as usize].push(term);
+                named &= named - 1;
+            }
+        } else {
+            won[term.mask.trailing_zeros() as usize].push(term);
+        }
     }
-}
-
-/// The sum is carried from one partial plan to the next. With a choice that is decided unfed it loses the negative terms that name
-/// the choice, with one that is decided fed it wins the positive terms of which this was the last undecided choice, in both cases
-/// of those that name no choice decided unfed before: these are kept as sets.
-fn search_with<const WORDS: usize>(register: &Register, negative: &[Term], positive: &[Term], limit: u32) -> Option<Found> {
-    let names_negative = Set::<WORDS>::by_choice(negative, |mask| mask);
-    let names_positive = Set::<WORDS>::by_choice(positive, |mask| mask);
-    let last_of_positive = Set::<WORDS>::by_choice(positive, |mask| mask & mask.wrapping_neg());
 
     let mut undecided = register.choices.len();
-    let mut unfed = 0u32;
-    let mut here = Partial {
-        sum: register.base as i64 + negative.iter().map(|term| term.coefficient as i64).sum::<i64>(),
-        negative: Set::all(negative),
-        positive: Set::all(positive),
-    };
-    // The partial plans on the way to this one, by the number of choices undecided there.
-    let mut way = [here; MAX_CHOICES + 1];
+    let mut unfed = 0;
+    // The sums of the partial plans on the way to this one, by the number of choices undecided there.
+    let mut sums = [0; MAX_CHOICES + 1];
     // Until a full plan is met, above every sum.
     let mut best = i64::MAX;
     let mut plan = 0;
@@ -50,17 +47,15 @@ fn search_with<const WORDS: usize>(register: &Register, negative: &[Term], posit
             return None;
         }
         visits += 1;
-        if here.sum < best {
+        if sum < best {
             if undecided > 0 {
-                way[undecided] = here;
+                sums[undecided] = sum;
                 undecided -= 1;
+                sum -= lost[undecided].sum_without(unfed);
                 unfed |= 1 << undecided;
-                here.sum -= here.negative.sum_of_those_in(&names_negative[undecided], negative);
-                here.negative.remove(&names_negative[undecided]);
-                here.positive.remove(&names_positive[undecided]);
                 continue;
             }
-            best = here.sum;
+            best = sum;
             plan = register.all() & !unfed;
         }
         // The last choice that was decided unfed is the lowest of them; now it is fed.
@@ -69,62 +64,44 @@ fn search_with<const WORDS: usize>(register: &Register, negative: &[Term], posit
         }
         undecided = unfed.trailing_zeros() as usize;
         unfed &= unfed - 1;
-        here = way[undecided + 1];
-        here.sum += here.positive.sum_of_those_in(&last_of_positive[undecided], positive);
+        sum = sums[undecided + 1] + won[undecided].sum_without(unfed);
     }
 }
 
-/// A partial plan's sum, and the terms that name no choice decided unfed.
-#[derive(Clone, Copy)]
-struct Partial<const WORDS: usize> {
-    sum: i64,
-    negative: Set<WORDS>,
-    positive: Set<WORDS>,
+/// How many terms are looked at together.
+const LANES: usize = 8;
+
+/// Masks and coefficients of terms, so many together; places left over have coefficient 0.
+#[derive(Default)]
+struct List {
+    terms: usize,
+    blocks: Vec<([u32; LANES], [i32; LANES])>,
 }
 
-/// A set of terms by their numbers in a list, 64 to a word.
-#[derive(Clone, Copy)]
-struct Set<const WORDS: usize>([u64; WORDS]);
-
-impl<const WORDS: usize> Set<WORDS> {
-    fn add(&mut self, t: usize) {
-        self.0[t / 64] |= 1 << (t % 64);
+impl List {
+    fn push(&mut self, term: &Term) {
+        let lane = self.terms % LANES;
+        if lane == 0 {
+            self.blocks.push(Default::default());
+        }
+        let (masks, coefficients) = self.blocks.last_mut().unwrap();
+        masks[lane] = term.mask;
+        coefficients[lane] = term.coefficient;
+        self.terms += 1;
     }
 
-    fn all(terms: &[Term]) -> Self {
-        let mut set = Set([0; WORDS]);
-        (0..terms.len()).for_each(|t| set.add(t));
-        set
-    }
-
-    /// For each choice, the terms of whose mask `part` has it.
-    fn by_choice(terms: &[Term], part: impl Fn(u32) -> u32) -> [Self; MAX_CHOICES] {
-        let mut sets = [Set([0; WORDS]); MAX_CHOICES];
-        for (t, term) in terms.iter().enumerate() {
-            let mut choices = part(term.mask);
-            while choices != 0 {
-                sets[choices.trailing_zeros() as usize].add(t);
-                choices &= choices - 1;
+    /// The sum of the coefficients of the terms that name none of these choices. It has no branch for a term, so that the lanes
+    /// are taken together. The coefficients of all terms of a register come to 256,000,000 at most, within 32 bits.
+    #[inline]
+    fn sum_without(&self, choices: u32) -> i64 {
+        let mut sums = [0; LANES];
+        for (masks, coefficients) in &self.blocks {
+            for lane in 0..LANES {
+                let all_or_none = -((masks[lane] & choices == 0) as i32);
+                sums[lane] += coefficients[lane] & all_or_none;
             }
         }
-        sets
-    }
-
-    fn remove(&mut self, other: &Self) {
-        self.0.iter_mut().zip(other.0).for_each(|(word, other)| *word &= !other);
-    }
-
-    /// The sum of the coefficients of the terms that are in both sets.
-    fn sum_of_those_in(&self, other: &Self, terms: &[Term]) -> i64 {
-        let mut sum = 0;
-        for word in 0..WORDS {
-            let mut both = self.0[word] & other.0[word];
-            while both != 0 {
-                sum += terms[64 * word + both.trailing_zeros() as usize].coefficient as i64;
-                both &= both - 1;
-            }
-        }
-        sum
+        sums.iter().sum::<i32>() as i64
     }
 }
 

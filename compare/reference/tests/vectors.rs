@@ -1,5 +1,6 @@
-//! The reference against the vectors, `crates/conformance/data/*.txt`, and against jobs with their expected lines, the pairs
-//! NAME.job and NAME.out in `examples` and in `crates/conformance/data/suppliers`.
+//! The reference against the vectors, `crates/conformance/data/*.txt`, against jobs with their expected lines, the pairs NAME.job
+//! and NAME.out in `examples` and in `crates/conformance/data/suppliers`, and against registers with the lines of their cheapest
+//! plans, NAME.register and NAME.cheapest in `examples`.
 //! A line of a vector file: name, what is given, what is expected, separated by spaces; a table of 77 and a buffer of AA are lent.
 
 use reference::{Answer, Refusal, Tally};
@@ -213,16 +214,40 @@ fn feedcheck() {
     each("feedcheck.txt", |f| listed(&f.bytes()) == f.bytes());
 }
 
+/// The program `cheapest` has this visit limit.
+const CHEAPEST_LIMIT: u32 = 100_000_000;
+
+fn cheapest(register: &[u8]) -> Vec<u8> {
+    let found = match reference::search(register, CHEAPEST_LIMIT) {
+        Ok(found) => found,
+        Err(refusal) => return format!("R {} {}\n", refusal.number, refusal.position).into_bytes(),
+    };
+    let choices = reference::register(register).expect("a register").choices;
+    let fed = choices.iter().enumerate().filter(|(i, _)| found.plan & 1 << i != 0);
+    let lines = fed.map(|(_, choice)| format!("F {} {}\n", choice.tank, choice.minute));
+    lines.chain([format!("S {} {}\n", found.cost, found.visits)]).collect::<String>().into_bytes()
+}
+
+/// Compares what is printed for each file of a kind with the lines beside it.
+fn each_file(name: &str, given: &str, expected: &str, printed: impl Fn(&[u8]) -> Vec<u8>) {
+    let mut count = 0;
+    let paths = fs::read_dir(folder(name)).expect("the files").map(|entry| entry.unwrap().path());
+    for path in paths.filter(|path| path.extension().is_some_and(|e| e == given)) {
+        let lines = fs::read(path.with_extension(expected)).expect("the expected lines");
+        assert!(printed(&fs::read(&path).unwrap()) == lines, "{}", path.display());
+        count += 1;
+    }
+    println!("{name}, {given}: {count} agree");
+}
+
 #[test]
 fn jobs() {
     for name in ["examples", "crates/conformance/data/suppliers"] {
-        let mut count = 0;
-        let paths = fs::read_dir(folder(name)).expect("the jobs").map(|entry| entry.unwrap().path());
-        for path in paths.filter(|path| path.extension().is_some_and(|e| e == "job")) {
-            let expected = fs::read(path.with_extension("out")).expect("the expected lines");
-            assert!(listed(&fs::read(&path).unwrap()) == expected, "{}", path.display());
-            count += 1;
-        }
-        println!("{name}: {count} agree");
+        each_file(name, "job", "out", listed);
     }
+}
+
+#[test]
+fn registers() {
+    each_file("examples", "register", "cheapest", cheapest);
 }

@@ -73,7 +73,10 @@ fn race(runs: usize, register: &[u8], limit: u32, visits: u32) -> Vec<[f64; 2]> 
 
 fn race_generated(runs: usize) {
     println!("registers of 32 choices, {REGISTERS} of each kind, at most {LIMIT} visits each; nanoseconds a visit, {runs} runs");
-    println!("terms  choices each       visits  ended      library          reference        library / reference");
+    println!(
+        "{:>5}  {:>12}  {:>9}  {:>5}  {:>22}  {:>22}  {:>22}",
+        "terms", "choices each", "visits", "ended", "library", "reference", "library / reference"
+    );
     let mut random = Random(6);
     for terms in [8, 64, 256] {
         for degree in [2, 4, 8, 16] {
@@ -94,9 +97,9 @@ fn race_generated(runs: usize) {
             let [ours, theirs] = [0, 1].map(|which| figures.iter().map(move |times| times[which] * 1e9 / all_visits as f64));
             let ratios = figures.iter().map(|[ours, theirs]| ours / theirs);
             let degree = if degree == 16 { "about 16".to_string() } else { degree.to_string() };
-            print!("{terms:>5}  {degree:>12}  {all_visits:>11}  {ended:>5}");
+            print!("{terms:>5}  {degree:>12}  {all_visits:>9}  {ended:>5}");
             for [middle, least, greatest] in [summary(ours), summary(theirs), summary(ratios)] {
-                print!("  {middle:>6.2} ({least:.2} to {greatest:.2})");
+                print!("  {:>22}", format!("{middle:.2} ({least:.2} to {greatest:.2})"));
             }
             println!();
         }
@@ -139,8 +142,8 @@ fn race_jobs(runs: usize, folders: &[String]) {
         rows.push((register.choices.len(), register.terms.len(), bytes, format!("{}{others}", names[0])));
     }
     rows.sort_by_key(|row| (row.0, row.1));
-    println!("registers of jobs, at most {JOB_LIMIT} visits each; milliseconds a call, median of {runs} runs, of 3 above {LIMIT} visits");
-    println!("choices  terms      visits       library     reference  library / reference  job");
+    println!("registers of jobs, at most {JOB_LIMIT} visits each; microseconds a call, median of {runs} runs, of 3 above {LIMIT} visits");
+    println!("choices  terms       visits      library    reference  library / reference  job");
     // For library and reference, the largest number of choices within a second, and the registers that took longer.
     let mut largest = [0; 2];
     let mut longer: [Vec<String>; 2] = Default::default();
@@ -152,8 +155,8 @@ fn race_jobs(runs: usize, folders: &[String]) {
         let times = [0, 1].map(|which| summary(figures.iter().map(|times| times[which]))[0]);
         let ratio = summary(figures.iter().map(|[ours, theirs]| ours / theirs))[0];
         let shown = found.map_or("above limit".to_string(), |found| found.visits.to_string());
-        let [ours, theirs] = times.map(|seconds| seconds * 1e3);
-        println!("{choices:>7}  {terms:>5}  {shown:>11}  {ours:>11.4}  {theirs:>11.4}  {ratio:>19.2}  {names}");
+        let [ours, theirs] = times.map(|seconds| seconds * 1e6);
+        println!("{choices:>7}  {terms:>5}  {shown:>11}  {ours:>11.2}  {theirs:>11.2}  {ratio:>19.2}  {names}");
         for which in 0..2 {
             if found.is_some() && times[which] < 1.0 {
                 largest[which] = largest[which].max(choices);
