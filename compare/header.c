@@ -59,7 +59,8 @@ int main(void) {
     FeedcheckSearchAnswer s = feedcheck_search(JOB, REGISTER, 9);
     expect("search", s.number == 0 && s.part == 0 && s.position == 0 && s.plan == 3 && s.cost == 0 && s.visits == 9);
     s = feedcheck_search(JOB, REGISTER, 8);
-    expect("search, limit passed", s.number == 14 && s.part == 0 && s.position == 0 && s.plan == 0 && s.cost == 0 && s.visits == 0);
+    expect("search, limit passed", s.number == 14 && s.part == 0 && s.position == 0 && s.plan == 0 && s.cost == 0 &&
+                                       s.visits == 0);
     s = feedcheck_search(WINDOWS, sizeof WINDOWS, 4294967295u);
     expect("search, no terms", s.number == 0 && s.plan == 0 && s.cost == 0 && s.visits == 3);
     s = feedcheck_search(outside, sizeof outside, 0);

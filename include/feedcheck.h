@@ -122,8 +122,8 @@ FeedcheckWriterAnswer feedcheck_build(const uint8_t *reg, size_t reg_length, uin
 /* The cost of a plan (part 4). libplan.a */
 FeedcheckCostAnswer feedcheck_cost(const uint8_t *reg, size_t reg_length, const uint8_t *plan, size_t plan_length);
 
-/* Finds a plan that costs at most any other, of equals the smallest number. Refused 14, with part and position 0, where that takes
- * more visits than the limit; it stops there, so the limit bounds the time of the call. As many as the limit are accepted.
+/* Finds a plan that costs at most any other, of equals the smallest number. Refused 14, with part and position 0, where that
+ * takes more visits than the limit; it stops there, so the limit bounds the time of the call. As many as the limit are accepted.
  * libsearch.a */
 FeedcheckSearchAnswer feedcheck_search(const uint8_t *reg, size_t reg_length, uint32_t limit);
 

@@ -1,8 +1,8 @@
 //! The search for the cheapest plan.
 //!
-//! Choices are decided from the highest number down, unfed first. A partial plan is told by how many choices are undecided, which
-//! are the lowest, and by those that are decided unfed; the rest is decided fed. Its sum is that of base cost, coefficients of
-//! terms wholly decided fed, and negative coefficients of terms with an undecided choice and none decided unfed.
+//! Choices are decided from the highest number down, unfed first. A partial plan is given by how many choices are undecided (the
+//! lowest ones) and by those that are decided unfed; the rest is decided fed. Its sum is that of base cost, coefficients of terms
+//! wholly decided fed, and negative coefficients of terms with an undecided choice and none decided unfed.
 
 use crate::register::{Register, Term, MAX_CHOICES};
 
