@@ -27,7 +27,8 @@ impl Found {
     const NO_COST: i64 = 9_223_372_036_854_775_807;
 }
 
-// How the sum changes when a choice is decided: what it loses unfed, at most 0, and what it gains fed.
+// How the sum changes when a choice is decided: what it loses unfed, a number of at most 0 that no longer counts, and what it
+// gains fed.
 pub struct Change {
     pub lost: i32,
     pub gained: i32,
@@ -68,8 +69,9 @@ impl SearchAnswer {
 }
 
 // The walk from a partial plan on, up to the first visit that passes the limit. Sets and amounts are the masks and the
-// coefficients of the listed terms, the sum is that at the partial plan; plan and cost are the best so far. Returns how many partial plans are then visited. The
-// promise is for every base cost and terms that have this sum and these lists, and for every walk so far that has come to this.
+// coefficients of the listed terms, the sum is that at the partial plan, plan and cost are the best so far. Returns how many
+// partial plans are then visited. The promise is for every base cost and terms that have this sum and these lists, and for every
+// walk so far that has come to this.
 fn walk<'a>(
     sets: &'a [u32; TermLists::PLACES],
     amounts: &'a [i32; TermLists::PLACES],
