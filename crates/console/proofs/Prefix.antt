@@ -25,7 +25,7 @@ pub reach-is : registerReach ≡ 2_926
 unfolding registerReach total
 reach-is = refl
 
--- no byte past them matters, but for whether there is one
+-- no byte past them matters
 pub itself-prefix : (K : ℕ) (s : List ℕ) → registerReach ≤ K → registerByItself (take K s) ≡ registerByItself s
 unfolding registerByItself byItself registerLongest registerReach total
 itself-prefix K s k = by (registerInJob s) refl

@@ -1,5 +1,5 @@
 -- The sum at a partial plan and its changes, term by term, and how large they become.
-use mathlib.Core.Path.{_≡_, refl, sym}
+use mathlib.Core.Path.{_≡_, refl, sym, subst}
 use mathlib.Core.Bool.{Bool, true, false, cond, true≢false}
 use mathlib.Core.List.{List}
 use Prim.Native.Nat.{ℕ, suc, _+_, _*_, _≤_, _<_}
@@ -59,8 +59,12 @@ lost-small c m possible = chosen-small (isSubset m possible) (negative c) c (neg
 pub gained-small : (c : ℤ) (m fed : ℕ) → natAbs (termGained c m fed) ≤ natAbs c
 gained-small c m fed = chosen-small (isSubset m fed) (positive c) c (positive-small c)
 
+-- a term that is not wholly decided fed adds what it can lose
+term-split : (c : ℤ) (m fed possible : ℕ) → termSum c m fed possible ≡ cond (isSubset m fed) c (termLost c m possible)
+term-split c m fed possible = refl
+
 term-small : (c : ℤ) (m fed possible : ℕ) → natAbs (termSum c m fed possible) ≤ natAbs c
-term-small c m fed possible = by (isSubset m fed)
+term-small c m fed possible = subst (λ x. natAbs x ≤ natAbs c) (sym (term-split c m fed possible)) (by (isSubset m fed))
   where
     by : (b : Bool) → natAbs (cond b c (termLost c m possible)) ≤ natAbs c
     by true = omega arith
