@@ -7,13 +7,13 @@ use lib.IntN.{ℤ, pos}
 use lib.ListN.{length}
 use Rattle.text.specs.Text.{line}
 use Rattle.register.specs.declared.Register.{Register}
-use Rattle.register.specs.Limits.{maxChoices, maxTank, maxMinute}
+use Rattle.register.specs.Limits.{maxChoices, maxTank, longDay}
 use Rattle.register.specs.Format.{registerByItself}
 use Rattle.register.specs.Answer.{registerAnswer}
 use Rattle.search.specs.declared.SearchAnswer.{SearchAnswer}
 use Rattle.search.specs.Answer.{searchAnswer}
 use Rattle.listing.specs.Listing.{fedLine, fedLines, refusalLine}
-use Rattle.listing.specs.Answer.{longestNumber}
+use Rattle.listing.specs.Answer.{longestNumber, listingRoom}
 
 -- S: cost, visits
 abbrev pub searchLine : ℤ → ℕ → List ℕ
@@ -33,8 +33,8 @@ cheapestLines register limit = searchLines (registerAnswer (registerByItself reg
 -- no such lines have more bytes: an `F` line of the highest numbers for each choice, and an `S` line of −2^63, the longest number
 -- of 64 bits, and of the highest number of 32 bits
 unfoldable pub longestSearch : ℕ
-longestSearch = maxChoices * length (fedLine maxTank maxMinute) + length (searchLine longestNumber (2 ^ 32 - 1))
+longestSearch = maxChoices * length (fedLine maxTank (longDay - 1)) + length (searchLine longestNumber (2 ^ 32 - 1))
 
--- so a text of so many bytes is enough (`longest-fits` in proofs/Lengths)
+-- so the room of a listing is enough (`longest-fits` in proofs/Lengths)
 abbrev pub cheapestRoom : ℕ
-cheapestRoom = 4_096
+cheapestRoom = listingRoom

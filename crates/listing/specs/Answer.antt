@@ -8,7 +8,7 @@ use lib.ListN.{length}
 use Rattle.wire.specs.declared.WriterAnswer.{WriterAnswer}
 use Rattle.wire.specs.Writer.{refusedAnswer, bytesAnswer, withFront}
 use Rattle.forms.specs.Table.{tableNumbers}
-use Rattle.register.specs.Limits.{maxChoices, maxTank, maxMinute}
+use Rattle.register.specs.Limits.{maxChoices, maxTank, longDay}
 use Rattle.job.specs.declared.JobRead.{JobRead}
 use Rattle.job.specs.Outcome.{outcome, tableAfter}
 use Rattle.listing.specs.Listing.{choiceLine, fedLine, boundLine, acceptedLines, refusalLine, listing}
@@ -20,7 +20,7 @@ abbrev pub longestNumber : ℤ
 longestNumber = negsuc (2 ^ 63 - 1)
 
 unfoldable pub longestListing : ℕ
-longestListing = maxChoices * (length (choiceLine maxChoices maxTank maxMinute) + length (fedLine maxTank maxMinute)) + length (boundLine longestNumber longestNumber longestNumber)
+longestListing = maxChoices * (length (choiceLine maxChoices maxTank (longDay - 1)) + length (fedLine maxTank (longDay - 1))) + length (boundLine longestNumber longestNumber longestNumber)
 
 -- so a buffer of so many bytes is enough (`longest-fits` in proofs/Lengths)
 abbrev pub listingRoom : ℕ

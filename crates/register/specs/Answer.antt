@@ -21,6 +21,7 @@ seenOf p = let r = p .parsed in record {
   minute = minute r (r .choices - 1);
   mask = mask r (r .terms - 1);
   windows = r .windows;
+  «day_length» = r .«day_length»;
 }
 
 -- the first n of these numbers do not fall

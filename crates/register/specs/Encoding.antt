@@ -1,17 +1,20 @@
--- The register's bytes: `10` base cost, `13` for each window, `11` for each choice, `12` for each term, `1F`. Written without the
--- reader: of the part's rows only the widths of operands are used.
+-- The register's bytes: `10` base cost, `18` day length, which may be missing where it is the usual one, `13` for each window, `11`
+-- for each choice, `12` for each term, `1F`. Written without the reader: of the part's rows only the widths of operands are used.
 use Prim.Native.Nat.{ℕ}
 use mathlib.Core.Path.{_≡_}
+use mathlib.Core.Bool.{cond}
 use mathlib.Core.List.{List, [], _∷_, _++_}
+use lib.Dec.{eqb}
 use lib.IntN.{ℤ}
 use mir.Syntax.{w32}
 use mir.Val.{ofZ}
 use Rattle.integers.specs.Lists.{joinBelow}
 use Rattle.wire.specs.Number.{bytesOf}
 use Rattle.wire.specs.Encoding.{Command}
-use Rattle.wire.specs.Grammar.{Only, Then, Kind, Kinds}
+use Rattle.wire.specs.Grammar.{Only, Optional, Then, Kind, Kinds}
 use Rattle.wire.specs.Grammar as G
 use Rattle.register.specs.declared.Register.{Register}
+use Rattle.register.specs.Limits.{usualDay}
 use Rattle.register.specs.Register.{tank, minute, mask, coefficient, windowTank, windowFrom, windowTo}
 use Rattle.register.specs.Format.{registerPart}
 
@@ -21,8 +24,12 @@ use Rattle.register.specs.Format.{registerPart}
 abbrev pub baseCommand : ℤ → Command
 baseCommand base = record { byte = 0x10; operands = ofZ w32 base ∷ [] }
 
+-- `18` day length
+abbrev pub lengthCommand : ℕ → Command
+lengthCommand length = record { byte = 0x18; operands = length ∷ [] }
+
 abbrev pub Header : Register → List Command → Type 0
-Header r = Only (λ c. c ≡ baseCommand (r .base))
+Header r = Then (Only (λ c. c ≡ baseCommand (r .base))) (Optional (r .«day_length» ≡ usualDay) (λ c. c ≡ lengthCommand (r .«day_length»)))
 
 -- `11` tank, minute
 abbrev pub choiceCommand : (tank minute : ℕ) → Command
@@ -61,7 +68,7 @@ Commands r = Then (Kinds r (Header r) kinds) (Only (λ c. c ≡ endCommand))
 abbrev pub Encodes : Register → List ℕ → Type 0
 Encodes r s = G.Encodes registerPart Commands r s
 
--- ---- the encoding that a writer makes, which is one
+-- ---- byte by byte: with `18`, and without it, which are the encodings of a register (`soundness/specs/Written`)
 
 -- `10` base cost i32
 unfoldable pub encodeBase : ℤ → List ℕ
@@ -79,6 +86,10 @@ encodeTerm mask coefficient = 0x12 ∷ (bytesOf 4 mask ++ bytesOf 4 (ofZ w32 coe
 unfoldable pub encodeWindow : (tank from to : ℕ) → List ℕ
 encodeWindow tank from to = 0x13 ∷ (bytesOf 2 tank ++ (bytesOf 2 from ++ bytesOf 2 to))
 
+-- `18` day length u16
+unfoldable pub encodeLength : ℕ → List ℕ
+encodeLength length = 0x18 ∷ bytesOf 2 length
+
 -- the windows, the choices, and the terms, one after the other
 
 abbrev pub encodeWindows : Register → List ℕ
@@ -90,9 +101,16 @@ encodeChoices r = joinBelow (r .choices) (λ i. encodeChoice (tank r i) (minute 
 abbrev pub encodeTerms : Register → List ℕ
 encodeTerms r = joinBelow (r .terms) (λ t. encodeTerm (mask r t) (coefficient r t))
 
--- all but the end
-abbrev pub encodeBody : Register → List ℕ
-encodeBody r = encodeBase (r .base) ++ encodeWindows r ++ encodeChoices r ++ encodeTerms r
+-- after the bytes of a header
+abbrev pub encodeAfter : List ℕ → Register → List ℕ
+encodeAfter header r = header ++ encodeWindows r ++ encodeChoices r ++ encodeTerms r ++ (0x1F ∷ [])
 
+abbrev pub encodeWithLength : Register → List ℕ
+encodeWithLength r = encodeAfter (encodeBase (r .base) ++ encodeLength (r .«day_length»)) r
+
+abbrev pub encodeWithoutLength : Register → List ℕ
+encodeWithoutLength r = encodeAfter (encodeBase (r .base)) r
+
+-- what a writer makes: the length is said where it is not the usual one
 unfoldable pub encodeRegister : Register → List ℕ
-encodeRegister r = encodeBody r ++ (0x1F ∷ [])
+encodeRegister r = cond (eqb (r .«day_length») usualDay) (encodeWithoutLength r) (encodeWithLength r)

@@ -1,4 +1,4 @@
--- The register's commands: `10` base cost, `11` choice, `12` term, `13` window, `1F` end.
+-- The register's commands: `10` base cost, `11` choice, `12` term, `13` window, `18` day length, `1F` end.
 use Prim.Native.Nat.{ℕ, _-_, _^_}
 use mathlib.Core.Bool.{Bool, true, false, not, _&&_, _||_}
 use mathlib.Core.List.{List, [], _∷_}
@@ -12,8 +12,8 @@ use Rattle.wire.specs.Checks.{Check, check}
 use Rattle.wire.specs.Part.{Part, Reading, readPart, byItself}
 use Rattle.wire.specs.Rows.{Progress, Row, partOf, unary, binary, ternary}
 use Rattle.register.specs.declared.Register.{Register}
-use Rattle.register.specs.Limits.{maxChoices, maxTerms, maxWindows, maxBase, maxTank, maxMinute, maxCoefficient, maxTo}
-use Rattle.register.specs.Register.{tank, minute, mask, windowTank, windowFrom, fresh, withBase, withChoice, withTerm, withWindow}
+use Rattle.register.specs.Limits.{maxChoices, maxTerms, maxWindows, maxBase, maxTank, maxCoefficient, shortDay, usualDay, longDay}
+use Rattle.register.specs.Register.{tank, minute, mask, windowTank, windowFrom, fresh, withBase, withLength, withChoice, withTerm, withWindow}
 
 -- base cost within ±1,000,000,000
 unfoldable pub baseChecks : ℤ → List Check
@@ -37,12 +37,12 @@ mayFeed n tanks froms tos tank minute =
     not (anyBelow n (λ j. eqb (getD tanks j 0) tank))
     || anyBelow n (λ j. eqb (getD tanks j 0) tank && leb (getD froms j 0) minute && ltb minute (getD tos j 0))
 
--- up to 32 choices, in their ranges, rising strictly by tank, then minute, where the tank may be fed: n choices were read, the last
--- with tank₀, minute₀
-unfoldable pub choiceChecks : (n tank₀ minute₀ tank minute : ℕ) → (may : Bool) → List Check
-choiceChecks n tank₀ minute₀ tank minute may =
+-- up to 32 choices, in their ranges on a day of this length, rising strictly by tank, then minute, where the tank may be fed:
+-- n choices were read, the last with tank₀, minute₀
+unfoldable pub choiceChecks : (length n tank₀ minute₀ tank minute : ℕ) → (may : Bool) → List Check
+choiceChecks length n tank₀ minute₀ tank minute may =
     check 3 (leb maxChoices n)
-    ∷ check 4 (eqb tank 0 || ltb maxTank tank || ltb maxMinute minute)
+    ∷ check 4 (eqb tank 0 || ltb maxTank tank || leb length minute)
     ∷ check 7 (not (eqb n 0 || comesBefore (tank₀ ∷ minute₀ ∷ []) (tank ∷ minute ∷ [])))
     ∷ check 13 (not may)
     ∷ []
@@ -51,10 +51,10 @@ choiceChecks n tank₀ minute₀ tank minute may =
 abbrev pub choiceRow : Row Register
 choiceRow = record {
   byte = 0x11;
-  follows = 0x10 ∷ 0x11 ∷ 0x13 ∷ [];
+  follows = 0x10 ∷ 0x11 ∷ 0x13 ∷ 0x18 ∷ [];
   widths = 2 ∷ 2 ∷ [];
   checks = λ r. let previous = r .choices - 1 in
-      binary λ t m. choiceChecks (r .choices) (tank r previous) (minute r previous) t m (mayFeed (r .windows) (r .«window_tanks») (r .«window_froms») (r .«window_tos») t m);
+      binary λ t m. choiceChecks (r .«day_length») (r .choices) (tank r previous) (minute r previous) t m (mayFeed (r .windows) (r .«window_tanks») (r .«window_froms») (r .«window_tos») t m);
   after = λ r. binary (withChoice r);
   last = false;
 }
@@ -73,31 +73,50 @@ termChecks n m mask₀ mask coefficient =
 abbrev pub termRow : Row Register
 termRow = record {
   byte = 0x12;
-  follows = 0x10 ∷ 0x11 ∷ 0x12 ∷ 0x13 ∷ [];
+  follows = 0x10 ∷ 0x11 ∷ 0x12 ∷ 0x13 ∷ 0x18 ∷ [];
   widths = 4 ∷ 4 ∷ [];
   checks = λ r. binary λ m c. termChecks (r .choices) (r .terms) (mask r (r .terms - 1)) m (toZ w32 c);
   after = λ r. binary λ m c. withTerm r m (toZ w32 c);
   last = false;
 }
 
--- up to 64 windows, in their ranges, "from" below "to", rising strictly by tank, then "from": k windows were read, the last with
--- tank₀, from₀
-unfoldable pub windowChecks : (k tank₀ from₀ tank from to : ℕ) → List Check
-windowChecks k tank₀ from₀ tank from to =
+-- up to 64 windows, in their ranges on a day of this length, "from" below "to", rising strictly by tank, then "from": k windows
+-- were read, the last with tank₀, from₀
+unfoldable pub windowChecks : (length k tank₀ from₀ tank from to : ℕ) → List Check
+windowChecks length k tank₀ from₀ tank from to =
     check 3 (leb maxWindows k)
-    ∷ check 4 (eqb tank 0 || ltb maxTank tank || ltb maxMinute from || eqb to 0 || ltb maxTo to)
+    ∷ check 4 (eqb tank 0 || ltb maxTank tank || leb length from || eqb to 0 || ltb length to)
     ∷ check 6 (leb to from)
     ∷ check 7 (not (eqb k 0 || comesBefore (tank₀ ∷ from₀ ∷ []) (tank ∷ from ∷ [])))
     ∷ []
 
--- `13` window: tank u16, from u16, to u16. Between `10` and the first `11`
+-- `13` window: tank u16, from u16, to u16. After `10` and `18`, before the first `11`
 abbrev pub windowRow : Row Register
 windowRow = record {
   byte = 0x13;
-  follows = 0x10 ∷ 0x13 ∷ [];
+  follows = 0x10 ∷ 0x13 ∷ 0x18 ∷ [];
   widths = 2 ∷ 2 ∷ 2 ∷ [];
-  checks = λ r. let previous = r .windows - 1 in ternary (windowChecks (r .windows) (windowTank r previous) (windowFrom r previous));
+  checks = λ r. let previous = r .windows - 1 in ternary (windowChecks (r .«day_length») (r .windows) (windowTank r previous) (windowFrom r previous));
   after = λ r. ternary (withWindow r);
+  last = false;
+}
+
+-- a test of whether a day can have so many minutes
+abbrev pub isLength : ℕ → Bool
+isLength length = eqb length shortDay || eqb length usualDay || eqb length longDay
+
+-- one of the three lengths
+unfoldable pub lengthChecks : ℕ → List Check
+lengthChecks length = check 4 (not (isLength length)) ∷ []
+
+-- `18` day length u16, at most once, directly after `10`
+abbrev pub lengthRow : Row Register
+lengthRow = record {
+  byte = 0x18;
+  follows = 0x10 ∷ [];
+  widths = 2 ∷ [];
+  checks = λ r. unary lengthChecks;
+  after = λ r. unary (withLength r);
   last = false;
 }
 
@@ -109,7 +128,7 @@ endChecks n = check 3 (eqb n 0) ∷ []
 abbrev pub endRow : Row Register
 endRow = record {
   byte = 0x1F;
-  follows = 0x10 ∷ 0x11 ∷ 0x12 ∷ 0x13 ∷ [];
+  follows = 0x10 ∷ 0x11 ∷ 0x12 ∷ 0x13 ∷ 0x18 ∷ [];
   widths = [];
   checks = λ r xs. endChecks (r .choices);
   after = λ r xs. r;
@@ -117,7 +136,7 @@ endRow = record {
 }
 
 abbrev pub registerRows : List (Row Register)
-registerRows = baseRow ∷ choiceRow ∷ termRow ∷ windowRow ∷ endRow ∷ []
+registerRows = baseRow ∷ choiceRow ∷ termRow ∷ windowRow ∷ lengthRow ∷ endRow ∷ []
 
 abbrev pub registerPart : Part (Progress Register)
 registerPart = partOf fresh registerRows

@@ -8,4 +8,5 @@ pub mod Encoding
 pub mod Position
 pub mod Answer
 pub mod Opening
-pub mod Before
+pub mod BeforeLengths
+pub mod BeforeWindows

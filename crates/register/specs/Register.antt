@@ -1,10 +1,10 @@
--- The register's record: its entries, the fresh one, and one more choice, term or window.
+-- The register's record: its entries, the fresh one, and what a command gives.
 use Prim.Native.Nat.{ℕ, suc}
 use mathlib.Core.List.{List}
 use lib.ListN.{getD, set, replicate}
 use lib.IntN.{ℤ, pos}
 use Rattle.register.specs.declared.Register.{Register}
-use Rattle.register.specs.Limits.{maxChoices, maxTerms, maxWindows}
+use Rattle.register.specs.Limits.{maxChoices, maxTerms, maxWindows, usualDay}
 
 -- choice i: its tank and its minute
 
@@ -33,10 +33,11 @@ windowFrom r j = getD (r .«window_froms») j 0
 abbrev pub windowTo : Register → ℕ → ℕ
 windowTo r j = getD (r .«window_tos») j 0
 
--- no base cost, no choice, no term, no window; every entry is 0
+-- no base cost, no day length, no choice, no term, no window; every entry is 0
 unfoldable pub fresh : Register
 fresh = record {
   base = pos 0;
+  «day_length» = 0;
   choices = 0;
   terms = 0;
   tanks = replicate maxChoices 0;
@@ -49,11 +50,28 @@ fresh = record {
   «window_tos» = replicate maxWindows 0;
 }
 
--- ---- a register with other values of one group: the base cost, the choices, the terms, the windows
+-- ---- a register with other values of one group: the base cost, the day length, the choices, the terms, the windows
 
 abbrev pub setBase : Register → ℤ → Register
 setBase r base = record {
   base = base;
+  «day_length» = r .«day_length»;
+  choices = r .choices;
+  terms = r .terms;
+  tanks = r .tanks;
+  minutes = r .minutes;
+  masks = r .masks;
+  coefficients = r .coefficients;
+  windows = r .windows;
+  «window_tanks» = r .«window_tanks»;
+  «window_froms» = r .«window_froms»;
+  «window_tos» = r .«window_tos»;
+}
+
+abbrev pub setLength : Register → ℕ → Register
+setLength r length = record {
+  base = r .base;
+  «day_length» = length;
   choices = r .choices;
   terms = r .terms;
   tanks = r .tanks;
@@ -69,6 +87,7 @@ setBase r base = record {
 abbrev pub setChoices : Register → ℕ → (tanks minutes : List ℕ) → Register
 setChoices r n tanks minutes = record {
   base = r .base;
+  «day_length» = r .«day_length»;
   choices = n;
   terms = r .terms;
   tanks = tanks;
@@ -84,6 +103,7 @@ setChoices r n tanks minutes = record {
 abbrev pub setTerms : Register → ℕ → List ℕ → List ℤ → Register
 setTerms r m masks coefficients = record {
   base = r .base;
+  «day_length» = r .«day_length»;
   choices = r .choices;
   terms = m;
   tanks = r .tanks;
@@ -99,6 +119,7 @@ setTerms r m masks coefficients = record {
 abbrev pub setWindows : Register → ℕ → (tanks froms tos : List ℕ) → Register
 setWindows r k tanks froms tos = record {
   base = r .base;
+  «day_length» = r .«day_length»;
   choices = r .choices;
   terms = r .terms;
   tanks = r .tanks;
@@ -113,8 +134,13 @@ setWindows r k tanks froms tos = record {
 
 -- ---- what a command gives
 
+-- the base cost, and the length that a day has where no command says one
 abbrev pub withBase : Register → ℤ → Register
-withBase r base = setBase r base
+withBase r base = setLength (setBase r base) usualDay
+
+-- the day length
+abbrev pub withLength : Register → ℕ → Register
+withLength r length = setLength r length
 
 -- one choice more; choices are numbered from 0
 abbrev pub withChoice : Register → ℕ → ℕ → Register

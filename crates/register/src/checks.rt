@@ -16,7 +16,7 @@ ghost use Rattle.wire.specs.Checks.{refusal};
 ghost use Rattle.wire.specs.Part.{checksAt, size};
 ghost use Rattle.wire.specs.Rows.{Progress, isAmong, rowOf};
 ghost use Rattle.register.specs.Limits.{maxChoices, maxWindows};
-ghost use Rattle.register.specs.Format.{baseChecks, choiceChecks, termChecks, windowChecks, endChecks, registerRows, registerPart};
+ghost use Rattle.register.specs.Format.{baseChecks, choiceChecks, termChecks, windowChecks, lengthChecks, endChecks, registerRows, registerPart};
 ghost use Rattle.register.specs.Answer.{Given};
 
 // The refusal of a base cost, or 0.
@@ -34,11 +34,20 @@ fn pair_falls(n: usize, tank0: u16, second0: u16, tank: u16, second: u16) -> boo
     !((n == 0) | later)
 }
 
-// The refusal of a choice after n others, the last of which is tank0 at minute0, or 0; `may` where its tank may be fed then.
-fn choice_refusal(n: usize, tank0: u16, minute0: u16, tank: u16, minute: u16, may: bool) -> u8
-    ensures { λ r. ⌜ r ≡ refusal (choiceChecks n tank0 minute0 tank minute may) ⌝ }
+// The refusal of a choice after n others, the last of which is tank0 at minute0, on a day of this length, or 0; `may` where its tank
+// may be fed then.
+fn choice_refusal(
+    length: u16,
+    n: usize,
+    tank0: u16,
+    minute0: u16,
+    tank: u16,
+    minute: u16,
+    may: bool,
+) -> u8
+    ensures { λ r. ⌜ r ≡ refusal (choiceChecks length n tank0 minute0 tank minute may) ⌝ }
 {
-    let out = (tank == 0) | (Register::MAX_TANK < tank) | (Register::MAX_MINUTE < minute);
+    let out = (tank == 0) | (Register::MAX_TANK < tank) | (length <= minute);
     let falls = pair_falls(n, tank0, minute0, tank, minute);
     first_of(
         Register::MAX_CHOICES <= n,
@@ -60,18 +69,36 @@ fn term_refusal(n: usize, m: usize, mask0: u32, mask: u32, coefficient: i32) -> 
     first_of(Register::MAX_TERMS <= m, 3, first_of(out, 4, named))
 }
 
-// The refusal of a window after k others, the last of which is tank0 from from0, or 0.
-fn window_refusal(k: usize, tank0: u16, from0: u16, tank: u16, from: u16, to: u16) -> u8
-    ensures { λ r. ⌜ r ≡ refusal (windowChecks k tank0 from0 tank from to) ⌝ }
+// The refusal of a window after k others, the last of which is tank0 from from0, on a day of this length, or 0.
+fn window_refusal(
+    length: u16,
+    k: usize,
+    tank0: u16,
+    from0: u16,
+    tank: u16,
+    from: u16,
+    to: u16,
+) -> u8
+    ensures { λ r. ⌜ r ≡ refusal (windowChecks length k tank0 from0 tank from to) ⌝ }
 {
     let out = (tank == 0)
         | (Register::MAX_TANK < tank)
-        | (Register::MAX_MINUTE < from)
+        | (length <= from)
         | (to == 0)
-        | (Register::MAX_TO < to);
+        | (length < to);
     let falls = pair_falls(k, tank0, from0, tank, from);
     let misordered = first_of(to <= from, 6, first_of(falls, 7, 0));
     first_of(Register::MAX_WINDOWS <= k, 3, first_of(out, 4, misordered))
+}
+
+// The refusal of a day length, or 0.
+fn length_refusal(length: u16) -> u8
+    ensures { λ r. ⌜ r ≡ refusal (lengthChecks length) ⌝ }
+{
+    let known = (length == Register::SHORT_DAY)
+        | (length == Register::USUAL_DAY)
+        | (length == Register::LONG_DAY);
+    first_of(!known, 4, 0)
 }
 
 // The refusal of an end after n choices, or 0.
@@ -83,9 +110,10 @@ fn end_refusal(n: usize) -> u8
 
 // A term or the end may stand directly after a command: after each but the end.
 fn after_any(previous: u8) -> bool
-    ensures { λ r. ⌜ r ≡ isAmong previous (0x10 ∷ 0x11 ∷ 0x12 ∷ 0x13 ∷ []) ⌝ }
+    ensures { λ r. ⌜ r ≡ isAmong previous (0x10 ∷ 0x11 ∷ 0x12 ∷ 0x13 ∷ 0x18 ∷ []) ⌝ }
 {
-    (previous == 0x10) | ((previous == 0x11) | ((previous == 0x12) | (previous == 0x13)))
+    (previous == 0x10)
+        | ((previous == 0x11) | ((previous == 0x12) | ((previous == 0x13) | (previous == 0x18))))
 }
 
 // A command may stand directly after another, or first where that is 0.
@@ -94,9 +122,12 @@ fn stands_after(previous: u8, command: u8) -> bool
 {
     match command {
         0x10 => previous == 0,
-        0x11 => (previous == 0x10) | ((previous == 0x11) | (previous == 0x13)),
+        0x11 => {
+            (previous == 0x10) | ((previous == 0x11) | ((previous == 0x13) | (previous == 0x18)))
+        }
         0x12 => after_any(previous),
-        0x13 => (previous == 0x10) | (previous == 0x13),
+        0x13 => (previous == 0x10) | ((previous == 0x13) | (previous == 0x18)),
+        0x18 => previous == 0x10,
         0x1f => after_any(previous),
         _ => false,
     }
@@ -111,6 +142,7 @@ pub fn command_size(command: u8) -> usize
         0x11 => 5,
         0x12 => 9,
         0x13 => 7,
+        0x18 => 3,
         _ => 1,
     }
 }
@@ -146,7 +178,15 @@ pub fn refusal_at<'a>(
             let tank = wire::u16_at(bytes, at + 1);
             let minute = wire::u16_at(bytes, at + 1 + 2);
             let may = may_feed(tanks, froms, tos, passed, seen.windows, tank, minute);
-            choice_refusal(seen.choices, seen.tank, seen.minute, tank, minute, may)
+            choice_refusal(
+                seen.day_length,
+                seen.choices,
+                seen.tank,
+                seen.minute,
+                tank,
+                minute,
+                may,
+            )
         }
         0x12 => {
             let mask = wire::u32_at(bytes, at + 1);
@@ -158,8 +198,17 @@ pub fn refusal_at<'a>(
             let from = wire::u16_at(bytes, at + 1 + 2);
             let to = wire::u16_at(bytes, at + 1 + 2 + 2);
             let j = last_of(seen.windows);
-            window_refusal(seen.windows, tanks[j], froms[j], tank, from, to)
+            window_refusal(
+                seen.day_length,
+                seen.windows,
+                tanks[j],
+                froms[j],
+                tank,
+                from,
+                to,
+            )
         }
+        0x18 => length_refusal(wire::u16_at(bytes, at + 1)),
         _ => end_refusal(seen.choices),
     }
 }

@@ -1,4 +1,4 @@
-// Part 1 of the job file, the register: the choices of a plan, the terms of its cost and the windows of its tanks.
+// Part 1 of the job file, the register: the day, the choices of a plan, the terms of its cost and the windows of its tanks.
 
 mod checks;
 pub mod walk;
@@ -16,6 +16,7 @@ ghost use Rattle.register.specs.Answer.{refusedRead, registerRead, refus
 #[repr(C)]
 pub struct Register {
     pub base: i32,
+    pub day_length: u16,
     pub choices: usize,
     pub terms: usize,
     pub tanks: [u16; Register::MAX_CHOICES],
@@ -28,7 +29,8 @@ pub struct Register {
     pub window_tos: [u16; Register::MAX_WINDOWS],
 }
 
-// What the checks of a command look at beside the windows: the byte of the last command, the counts, and the last choice and mask.
+// What the checks of a command look at beside the windows: the byte of the last command, the counts, the last choice and mask, and
+// the day length.
 pub struct Seen {
     pub previous: u8,
     pub choices: usize,
@@ -37,6 +39,7 @@ pub struct Seen {
     pub minute: u16,
     pub mask: u32,
     pub windows: usize,
+    pub day_length: u16,
 }
 
 // What reading the register at the front of a run of bytes leads to: a refusal's number and position, or 0, the position
@@ -68,19 +71,23 @@ impl Register {
 
     pub const MAX_TANK: u16 = 9_999;
 
-    pub const MAX_MINUTE: u16 = 1_439;
-
     // The largest magnitude of a coefficient.
     pub const MAX_COEFFICIENT: u64 = 1_000_000;
 
-    // The largest "to" of a window, which ends before that minute.
-    pub const MAX_TO: u16 = Register::MAX_MINUTE + 1;
+    // The minutes of a day: when the clocks go forward, on a usual day, which is meant where no length is said, and when they go
+    // back.
+    pub const SHORT_DAY: u16 = 1_380;
+
+    pub const USUAL_DAY: u16 = 1_440;
+
+    pub const LONG_DAY: u16 = 1_500;
 
     pub fn fresh() -> Register
         ensures { λ r. ⌜ r ≡ fresh ⌝ }
     {
         Register {
             base: 0,
+            day_length: 0,
             choices: 0,
             terms: 0,
             tanks: [0; Register::MAX_CHOICES],
@@ -152,6 +159,7 @@ pub fn read_register(bytes: &[u8]) -> RegisterRead
             minute: register.minutes[i],
             mask: register.masks[t],
             windows: k,
+            day_length: register.day_length,
         };
         let number = refusal_at(
             bytes,
@@ -169,6 +177,7 @@ pub fn read_register(bytes: &[u8]) -> RegisterRead
         match command {
             0x10 => {
                 register.base = wire::i32_at(bytes, at + 1);
+                register.day_length = Register::USUAL_DAY;
                 previous = 0x10;
                 at += 5;
             }
@@ -195,6 +204,11 @@ pub fn read_register(bytes: &[u8]) -> RegisterRead
                 register.windows = k + 1;
                 previous = 0x13;
                 at += 7;
+            }
+            0x18 => {
+                register.day_length = wire::u16_at(bytes, at + 1);
+                previous = 0x18;
+                at += 3;
             }
             _ => {
                 return RegisterRead {

@@ -13,6 +13,10 @@ pub record Only (F : Command → Type 0) (cs : List Command) : Type 0 where
   pub form : F command
   pub whole : cs ≡ command ∷ []
 
+-- one command that is F, or none, which D allows
+abbrev pub Optional : Type 0 → (Command → Type 0) → List Command → Type 0
+Optional D F cs = (D × (cs ≡ [])) ⊎ Only F cs
+
 -- commands that are X, and then commands that are Y
 pub record Then (X Y : List Command → Type 0) (cs : List Command) : Type 0 where
   pub first : List Command
