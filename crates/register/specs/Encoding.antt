@@ -6,10 +6,11 @@ use mathlib.Core.Bool.{cond}
 use mathlib.Core.List.{List, [], _∷_, _++_}
 use lib.Dec.{eqb}
 use lib.IntN.{ℤ}
+use lib.ListN.{getD}
 use mir.Syntax.{w32}
 use mir.Val.{ofZ}
 use Rattle.integers.specs.Lists.{joinBelow}
-use Rattle.wire.specs.Number.{bytesOf}
+use Rattle.wire.specs.Number.{bytesOf, natAt}
 use Rattle.wire.specs.Encoding.{Command}
 use Rattle.wire.specs.Grammar.{Only, Optional, Then, Kind, Kinds}
 use Rattle.wire.specs.Grammar as G
@@ -114,3 +115,8 @@ encodeWithoutLength r = encodeAfter (encodeBase (r .base)) r
 -- what a writer makes: the length is said where it is not the usual one
 unfoldable pub encodeRegister : Register → List ℕ
 encodeRegister r = cond (eqb (r .«day_length») usualDay) (encodeWithoutLength r) (encodeWithLength r)
+
+-- ---- the day length that bytes say: `10` takes five of them, `18` with a length may stand behind it, and without it the length is the
+-- usual one
+abbrev pub lengthIn : List ℕ → ℕ
+lengthIn s = cond (eqb (getD s 5 0) 0x18) (natAt 2 s 6) usualDay

@@ -4,9 +4,7 @@
 use Prim.Native.Nat.{ℕ, _+_, _<_, _≤_}
 use mathlib.Core.Path.{_≡_}
 use mathlib.Core.Logic.{_⊎_}
-use mathlib.Core.Bool.{cond}
 use mathlib.Core.List.{List, [], _∷_, _++_}
-use lib.Dec.{eqb}
 use lib.IntN.{ℤ, pos}
 use lib.ListN.{getD}
 use Rattle.wire.specs.Number.{Bytes, natAt}
@@ -15,7 +13,7 @@ use Rattle.register.specs.declared.RegisterAnswer.{RegisterAnswer}
 use Rattle.register.specs.Limits.{maxTank, usualDay}
 use Rattle.register.specs.Register.{tank, minute, windowFrom, windowTo}
 use Rattle.register.specs.Valid.{DayLength}
-use Rattle.register.specs.Encoding.{encodeBase, encodeLength, encodeChoice}
+use Rattle.register.specs.Encoding.{encodeBase, encodeLength, encodeChoice, lengthIn}
 use Rattle.register.specs.Format.{registerInJob, registerByItself}
 use Rattle.register.specs.Answer.{registerAnswer}
 use Rattle.register.specs.BeforeLengths.{inJobBeforeLengths, byItselfBeforeLengths}
@@ -26,10 +24,6 @@ use Rattle.soundness.specs.Calls.{RegisterCall, CostCall, JobCall, Listi
 use Rattle.soundness.specs.Parts.{Part4}
 use Rattle.soundness.specs.Jobs.{Accepted, Listed, shown, AcceptedJob}
 use Rattle.soundness.specs.Windows.{Feeding}
-
--- the length that part 1 says in its bytes: `10` takes five of them, `18` with a length may stand behind it, and else it is 1,440
-abbrev pub lengthIn : List ℕ → ℕ
-lengthIn s = cond (eqb (getD s 5 0) 0x18) (natAt 2 s 6) usualDay
 
 -- ---- what is accepted
 
