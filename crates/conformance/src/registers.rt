@@ -1,5 +1,5 @@
 // register.txt: name REG | number part position base n m, then n times: tank minute, then m times: mask coefficient,
-// then w, then w times: tank from to.
+// then w, then w times: tank from to, then the day length.
 use register::Register;
 use vectors::Cursor;
 
@@ -103,5 +103,6 @@ pub fn agrees(line: &[u8]) -> bool {
     let next = terms(next, line, register);
     let next = next.unsigned(line, register.windows as u64);
     let next = windows(next, line, register);
+    let next = next.unsigned(line, register.day_length as u64);
     next.ends(line)
 }
