@@ -9,25 +9,27 @@ use Rattle.wire.specs.Number.{Bytes}
 use Rattle.wire.specs.Part.{Reading, refused, accepted}
 use Rattle.wire.specs.Rows.{Progress}
 use Rattle.wire.specs.Encoding.{Command, Accepts}
+use Rattle.wire.specs.Grammar.{Only}
 use Rattle.wire.proofs.Encoding.{byItself-end}
-use Rattle.wire.proofs.Grammar.{lastFrom}
+use Rattle.wire.proofs.Grammar.{lastFrom, only-map, optional-map}
 use Rattle.wire.proofs.Accepting.{reached}
 use Rattle.wire.proofs.Acceptance as A
 use Rattle.wire.proofs.Ends.{ends-means}
 use Rattle.wire.proofs.Acceptance.{Means, said-accepts, front-valid, front-encodes, front-accepted, determines, whole-accepted, whole-iff}
 use Rattle.register.specs.declared.Register.{Register}
+use Rattle.register.specs.Limits.{usualDay}
 use Rattle.register.specs.Register.{fresh}
 use Rattle.register.specs.Format.{registerRows, registerPart, registerInJob, registerByItself}
 use Rattle.register.specs.Valid.{Valid}
-use Rattle.register.specs.Encoding.{Header, endCommand, kinds, Commands, Encodes}
+use Rattle.register.specs.Encoding.{baseCommand, lengthCommand, Header, endCommand, kinds, Commands, Encodes}
 use Rattle.register.specs.Answer.{registerAnswer}
-use Rattle.register.proofs.Laws.{HeaderWhere, Done, laws}
+use Rattle.register.proofs.Laws.{BaseWhere, LengthWhere, HeaderWhere, Done, laws}
 
 means : Means Done Valid Commands 0x1F
 means =
     ends-means Valid HeaderWhere kinds endCommand Header
-    (λ B r cs b h. record { command = h .command; form = h .form .1 b; whole = h .whole })
-    (λ B r cs h. record { command = h .command; form = (rw (h .form), λ b. h .form); whole = h .whole })
+    (λ B r cs b h. optional-map (Only (BaseWhere B r)) (Only (λ c. c ≡ baseCommand (r .base))) (r .«day_length» ≡ usualDay) (LengthWhere B r) (λ c. c ≡ lengthCommand (r .«day_length»)) (λ ds. only-map (BaseWhere B r) (λ c. c ≡ baseCommand (r .base)) (λ c f. f .1 b)) (λ c f. f .1 b) h)
+    (λ B r cs h. optional-map (Only (λ c. c ≡ baseCommand (r .base))) (Only (BaseWhere B r)) (r .«day_length» ≡ usualDay) (λ c. c ≡ lengthCommand (r .«day_length»)) (LengthWhere B r) (λ ds. only-map (λ c. c ≡ baseCommand (r .base)) (BaseWhere B r) (λ c f. (rw f, λ b. f))) (λ c f. (rw f, λ b. f)) h)
 
 pub commands-accepted : (r : Register) (cs : List Command) → Valid r → Commands r cs → Accepts registerPart (registerPart .start) cs (reached (lastFrom 0 cs) r)
 commands-accepted = said-accepts fresh registerRows laws means

@@ -1,9 +1,10 @@
--- A register with one choice, one term or one window more, and with one less: its entries, and that it stays within its limits.
+-- A register with a day length, with one choice, one term or one window more, and with one less: its entries, and that it stays within
+-- its limits.
 use Prim.Native.Nat.{ℕ, zero, suc, _-_, _<_, _≤_}
 use native.Mathlib.Omega.{arith}
 use native.Mathlib.Decide.{ℕ-discrete}
 use mathlib.Core.Path.{_≡_, refl, sym, _∙_, ap, subst}
-use mathlib.Core.Logic.{⊎-elim}
+use mathlib.Core.Logic.{inl, inr, ⊎-elim}
 use mathlib.Core.List.{List}
 use lib.ListN.{getD, set, replicate}
 use lib.Seq.{getD-set-same}
@@ -11,16 +12,17 @@ use lib.IntN.{ℤ, pos, natAbs}
 use Rattle.integers.specs.Lists.{Column}
 use Rattle.integers.proofs.Entries.{each-more, kept-set, column-none, column-empty, column-more, column-less, set-back, table-none, table-more, table-less}
 use Rattle.register.specs.declared.Register.{Register}
-use Rattle.register.specs.Limits.{maxChoices, maxTerms, maxWindows, maxBase}
-use Rattle.register.specs.Register.{tank, minute, mask, coefficient, windowTank, windowFrom, windowTo, fresh, setBase, setChoices, setTerms, setWindows, withBase, withChoice, withTerm, withWindow}
+use Rattle.register.specs.Limits.{maxChoices, maxTerms, maxWindows, maxBase, usualDay}
+use Rattle.register.specs.Register.{tank, minute, mask, coefficient, windowTank, windowFrom, windowTo, fresh, setBase, setLength, setChoices, setTerms, setWindows, withBase, withLength, withChoice, withTerm, withWindow}
 use Rattle.register.specs.Answer.{NoFall}
-use Rattle.register.specs.Valid.{Within, Choices, Terms, Windows, MayFeed, windowAt}
+use Rattle.register.specs.Valid.{DayLength, Within, Choices, Terms, Windows, MayFeed, windowAt}
 use Rattle.register.proofs.Passes.{NextChoice, NextTerm, NextWindow}
 
 pub fresh-within : Within fresh
 unfolding fresh
 fresh-within = record {
   base = omega arith;
+  day = inl refl;
   tanks = column-none maxChoices 0;
   minutes = column-none maxChoices 0;
   choices = table-none maxChoices _ _ _;
@@ -40,6 +42,7 @@ module _ (r : Register) (w : Within r) where
   in-base : (base : ℤ) → natAbs base ≤ maxBase → Within (setBase r base)
   in-base base h = record {
     base = h;
+    day = w .day;
     tanks = w .tanks;
     minutes = w .minutes;
     choices = w .choices;
@@ -53,11 +56,30 @@ module _ (r : Register) (w : Within r) where
     may-feed = w .may-feed;
   }
 
+  -- another day length, where there is no choice and no window
+  in-length : (length : ℕ) → DayLength length → r .choices ≡ 0 → r .windows ≡ 0 → Within (setLength r length)
+  in-length length d none no-window = record {
+    base = w .base;
+    day = inr d;
+    tanks = w .tanks;
+    minutes = w .minutes;
+    choices = rw none (table-none maxChoices _ _ _);
+    masks = w .masks;
+    coefficients = w .coefficients;
+    terms = w .terms;
+    window-tanks = w .window-tanks;
+    window-froms = w .window-froms;
+    window-tos = w .window-tos;
+    windows = rw no-window (table-none maxWindows _ _ _);
+    may-feed = w .may-feed;
+  }
+
   -- other choices, where there is no term
-  in-choices : {n : ℕ} {tanks minutes : List ℕ} → r .terms ≡ 0 → Column maxChoices n 0 tanks → Column maxChoices n 0 minutes → Choices n (λ i. (getD tanks i 0, getD minutes i 0))
+  in-choices : {n : ℕ} {tanks minutes : List ℕ} → r .terms ≡ 0 → Column maxChoices n 0 tanks → Column maxChoices n 0 minutes → Choices (r .«day_length») n (λ i. (getD tanks i 0, getD minutes i 0))
       → ((i : ℕ) → i < n → MayFeed (r .windows) (windowAt r) (getD tanks i 0) (getD minutes i 0)) → Within (setChoices r n tanks minutes)
   in-choices none a b c may = record {
     base = w .base;
+    day = w .day;
     tanks = a;
     minutes = b;
     choices = c;
@@ -74,6 +96,7 @@ module _ (r : Register) (w : Within r) where
   in-terms : {m : ℕ} {masks : List ℕ} {coefficients : List ℤ} → Column maxTerms m 0 masks → Column maxTerms m (pos 0) coefficients → Terms (r .choices) m (λ t. (getD masks t 0, getD coefficients t (pos 0))) → Within (setTerms r m masks coefficients)
   in-terms a b c = record {
     base = w .base;
+    day = w .day;
     tanks = w .tanks;
     minutes = w .minutes;
     choices = w .choices;
@@ -89,9 +112,10 @@ module _ (r : Register) (w : Within r) where
 
   -- other windows, where there is no choice
   in-windows : {k : ℕ} {tanks froms tos : List ℕ} → r .choices ≡ 0 → Column maxWindows k 0 tanks → Column maxWindows k 0 froms → Column maxWindows k 0 tos
-      → Windows k (λ j. (getD tanks j 0, getD froms j 0, getD tos j 0)) → Within (setWindows r k tanks froms tos)
+      → Windows (r .«day_length») k (λ j. (getD tanks j 0, getD froms j 0, getD tos j 0)) → Within (setWindows r k tanks froms tos)
   in-windows none a b c d = record {
     base = w .base;
+    day = w .day;
     tanks = w .tanks;
     minutes = w .minutes;
     choices = w .choices;
@@ -115,20 +139,24 @@ module _ (r : Register) where
   same-windows : {k : ℕ} {tanks froms tos : List ℕ} → k ≡ r .windows → tanks ≡ r .«window_tanks» → froms ≡ r .«window_froms» → tos ≡ r .«window_tos» → setWindows r k tanks froms tos ≡ r
   same-windows a b c d = rw (a, b, c, d)
 
--- ---- the base cost
+-- ---- the base cost and the day length
 
 abbrev noWindows : Register → Register
 noWindows r = setWindows r 0 (replicate maxWindows 0) (replicate maxWindows 0) (replicate maxWindows 0)
 
 module _ (r : Register) (w : Within r) where
-  pub base-more : (base : ℤ) → natAbs base ≤ maxBase → Within (withBase r base)
-  base-more = in-base r w
+  pub base-more : (base : ℤ) → natAbs base ≤ maxBase → r .choices ≡ 0 → r .windows ≡ 0 → Within (withBase r base)
+  base-more base h = in-length (setBase r base) (in-base r w base h) usualDay (inr (inl refl))
 
-  -- a register with no windows, choices or terms has only a base cost
-  pub base-back : r .windows ≡ 0 → r .choices ≡ 0 → r .terms ≡ 0 → withBase fresh (r .base) ≡ r
+  pub length-more : (length : ℕ) → DayLength length → r .choices ≡ 0 → r .windows ≡ 0 → Within (withLength r length)
+  length-more = in-length r w
+
+  -- a register of the usual length with no windows, choices or terms has only a base cost
+  pub base-back : r .«day_length» ≡ usualDay → r .windows ≡ 0 → r .choices ≡ 0 → r .terms ≡ 0 → withBase fresh (r .base) ≡ r
   unfolding fresh
-  base-back k c t =
-      ap (λ x. noWindows (setTerms x 0 (replicate maxTerms 0) (replicate maxTerms (pos 0)))) (same-choices r (sym c) (column-empty maxChoices _ 0 _ c (w .tanks)) (column-empty maxChoices _ 0 _ c (w .minutes)))
+  base-back d k c t =
+      ap (λ x. noWindows (setTerms (setChoices (setLength r x) 0 (replicate maxChoices 0) (replicate maxChoices 0)) 0 (replicate maxTerms 0) (replicate maxTerms (pos 0)))) (sym d)
+      ∙ ap (λ x. noWindows (setTerms x 0 (replicate maxTerms 0) (replicate maxTerms (pos 0)))) (same-choices r (sym c) (column-empty maxChoices _ 0 _ c (w .tanks)) (column-empty maxChoices _ 0 _ c (w .minutes)))
       ∙ ap noWindows (same-terms r (sym t) (column-empty maxTerms _ 0 _ t (w .masks)) (column-empty maxTerms _ (pos 0) _ t (w .coefficients)))
       ∙ same-windows r (sym k) (column-empty maxWindows _ 0 _ k (w .window-tanks)) (column-empty maxWindows _ 0 _ k (w .window-froms)) (column-empty maxWindows _ 0 _ k (w .window-tos))
 
@@ -147,7 +175,7 @@ module _ (r : Register) (w : Within r) (t m : ℕ) where
   pub choice-new : n < maxChoices → choiceAt (withChoice r t m) n ≡ (t, m)
   choice-new l = rw (getD-set-same (r .tanks) n t 0 (omega (arith, w .tanks .room)), getD-set-same (r .minutes) n m 0 (omega (arith, w .minutes .room)))
 
-  pub choice-more : r .terms ≡ 0 → NextChoice n (tank r (n - 1)) (minute r (n - 1)) t m → MayFeed (r .windows) (windowAt r) t m → Within (withChoice r t m)
+  pub choice-more : r .terms ≡ 0 → NextChoice (r .«day_length») n (tank r (n - 1)) (minute r (n - 1)) t m → MayFeed (r .windows) (windowAt r) t m → Within (withChoice r t m)
   choice-more none p may =
       in-choices r w none (column-more t (w .tanks)) (column-more m (w .minutes))
       (table-more (choiceAt r) (choiceAt (withChoice r t m)) n (t, m) choice-kept (choice-new (p .few)) (w .choices) p)
@@ -167,7 +195,7 @@ module _ (r : Register) (w : Within r) (n : ℕ) (e : r .choices ≡ suc n) wher
   pub choice-back : withChoice (lessChoice r n) (tank r n) (minute r n) ≡ r
   choice-back = same-choices r (sym e) (set-back (r .tanks) n 0) (set-back (r .minutes) n 0)
 
-  pub choice-next : r .terms ≡ 0 → Within (lessChoice r n) × NextChoice n (tank (lessChoice r n) (n - 1)) (minute (lessChoice r n) (n - 1)) (tank r n) (minute r n) × MayFeed (r .windows) (windowAt r) (tank r n) (minute r n)
+  pub choice-next : r .terms ≡ 0 → Within (lessChoice r n) × NextChoice (r .«day_length») n (tank (lessChoice r n) (n - 1)) (minute (lessChoice r n) (n - 1)) (tank r n) (minute r n) × MayFeed (r .windows) (windowAt r) (tank r n) (minute r n)
   choice-next none =
       let (t, p) = table-less (choiceAt (lessChoice r n)) (choiceAt r) n (choiceAt r n) choice-less refl (rw e at (w .choices)) in
       let may : (i : ℕ) → i < n → MayFeed (r .windows) (windowAt r) (tank (lessChoice r n) i) (minute (lessChoice r n) i) = λ i l. subst (λ c. MayFeed (r .windows) (windowAt r) (c .0) (c .1)) (choice-less i l) (w .may-feed i (omega arith)) in
@@ -229,7 +257,7 @@ module _ (r : Register) (w : Within r) (t f o : ℕ) where
         getD-set-same (r .«window_tos») h o 0 (omega (arith, w .window-tos .room)),
       )
 
-  pub window-more : r .choices ≡ 0 → NextWindow h (windowAt r (h - 1)) t f o → Within (withWindow r t f o)
+  pub window-more : r .choices ≡ 0 → NextWindow (r .«day_length») h (windowAt r (h - 1)) t f o → Within (withWindow r t f o)
   window-more none p =
       in-windows r w none (column-more t (w .window-tanks)) (column-more f (w .window-froms)) (column-more o (w .window-tos))
       (table-more (windowAt r) (windowAt (withWindow r t f o)) h (t, f, o) window-kept (window-new (p .few)) (w .windows) p)
@@ -248,7 +276,7 @@ module _ (r : Register) (w : Within r) (k : ℕ) (e : r .windows ≡ suc k) wher
   pub window-back : withWindow (lessWindow r k) (windowTank r k) (windowFrom r k) (windowTo r k) ≡ r
   window-back = same-windows r (sym e) (set-back (r .«window_tanks») k 0) (set-back (r .«window_froms») k 0) (set-back (r .«window_tos») k 0)
 
-  pub window-next : r .choices ≡ 0 → Within (lessWindow r k) × NextWindow k (windowAt (lessWindow r k) (k - 1)) (windowTank r k) (windowFrom r k) (windowTo r k)
+  pub window-next : r .choices ≡ 0 → Within (lessWindow r k) × NextWindow (r .«day_length») k (windowAt (lessWindow r k) (k - 1)) (windowTank r k) (windowFrom r k) (windowTo r k)
   window-next none =
       let (t, p) = table-less (windowAt (lessWindow r k)) (windowAt r) k (windowAt r k) window-less refl (rw e at (w .windows)) in
       (in-windows r w none (column-less fits (rw e at (w .window-tanks))) (column-less fits (rw e at (w .window-froms))) (column-less fits (rw e at (w .window-tos))) t, p)

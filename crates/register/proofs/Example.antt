@@ -17,6 +17,7 @@ registerBytes =
 abbrev pub exampleRegister : Register
 exampleRegister = record {
   base = pos 10;
+  «day_length» = 1_440;
   choices = 3;
   terms = 3;
   tanks = 4 ∷ 4 ∷ 7 ∷ replicate 29 0;

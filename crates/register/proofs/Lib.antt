@@ -12,4 +12,6 @@ pub mod Lowest
 pub mod Opened
 pub mod Prefix
 pub mod Position
-pub mod Before
+pub mod Lengths
+pub mod BeforeLengths
+pub mod BeforeWindows

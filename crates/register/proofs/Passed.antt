@@ -5,7 +5,7 @@ use mathlib.Core.Path.{_≡_, ap}
 use mathlib.Core.Logic.{_⊎_, ⊎-elim}
 use lib.IntN.{ℤ}
 use Rattle.register.specs.declared.Register.{Register}
-use Rattle.register.specs.Register.{tank, minute, windowTank, fresh, withBase, withChoice, withTerm, withWindow}
+use Rattle.register.specs.Register.{tank, minute, windowTank, fresh, withBase, withLength, withChoice, withTerm, withWindow}
 use Rattle.register.specs.Valid.{Within}
 use Rattle.register.proofs.Passes.{NextChoice}
 use Rattle.register.proofs.Entries.{choice-new, window-kept}
@@ -22,6 +22,9 @@ module _ (r : Register) (w : Within r) {k : ℕ} (p : Passed r k) where
   pub passed-base : (base : ℤ) → Passed (withBase r base) k
   passed-base base = record { within = p .within; earlier = p .earlier }
 
+  pub passed-length : (length : ℕ) → Passed (withLength r length) k
+  passed-length length = record { within = p .within; earlier = p .earlier }
+
   pub passed-term : (m : ℕ) (z : ℤ) → Passed (withTerm r m z) k
   passed-term m z = record { within = p .within; earlier = p .earlier }
 
@@ -32,7 +35,7 @@ module _ (r : Register) (w : Within r) {k : ℕ} (p : Passed r k) where
   }
 
   -- a choice more: its tank is not below the last one's
-  pub passed-choice : (t m : ℕ) → NextChoice (r .choices) (tank r (r .choices - 1)) (minute r (r .choices - 1)) t m → (k′ : ℕ) → k′ ≤ r .windows → ((j : ℕ) → j < k′ → (j < k) ⊎ (windowTank r j < t)) → Passed (withChoice r t m) k′
+  pub passed-choice : (t m : ℕ) → NextChoice (r .«day_length») (r .choices) (tank r (r .choices - 1)) (minute r (r .choices - 1)) t m → (k′ : ℕ) → k′ ≤ r .windows → ((j : ℕ) → j < k′ → (j < k) ⊎ (windowTank r j < t)) → Passed (withChoice r t m) k′
   passed-choice t m next k′ l h = record {
     within = l;
     earlier = λ j a.

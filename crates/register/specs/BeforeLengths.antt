@@ -1,6 +1,6 @@
--- How the register was read before it had a day length: no row for `18`, nothing that follows it, and in the checks a fixed last
--- minute and a fixed highest "to". The record is today's: `10` gives it the usual length, and no check looks at it.
-use Prim.Native.Nat.{ℕ, _-_}
+-- How the register was read before it had a day length: no row for `18`, nothing that follows it, and in the checks a
+-- fixed highest minute and a fixed highest "to". The record is today's: `10` gives it the usual length, and no check looks at it.
+use Prim.Native.Nat.{ℕ, suc, _-_}
 use mathlib.Core.Bool.{Bool, not, _||_}
 use mathlib.Core.List.{List, [], _∷_}
 use lib.Dec.{ltb, leb, eqb}
@@ -13,13 +13,13 @@ use Rattle.register.specs.Limits.{maxChoices, maxWindows, maxTank}
 use Rattle.register.specs.Register.{tank, minute, windowTank, windowFrom, fresh}
 use Rattle.register.specs.Format.{baseRow, mayFeed, choiceRow, termRow, windowRow, endRow}
 
--- the last minute, and the highest "to", as they were
+-- the highest minute and the highest "to", as they were
 
-abbrev pub lastMinute : ℕ
-lastMinute = 1_439
+abbrev pub maxMinuteBefore : ℕ
+maxMinuteBefore = 1_439
 
-abbrev pub lastTo : ℕ
-lastTo = 1_440
+abbrev pub maxToBefore : ℕ
+maxToBefore = suc maxMinuteBefore
 
 -- a row of today, with what it followed and its checks as they were
 abbrev pub rowBefore : Row Register → List ℕ → (Register → List ℕ → List Check) → Row Register
@@ -28,7 +28,7 @@ rowBefore row follows checks = record { byte = row .byte; follows = follows; wid
 unfoldable pub choiceChecksBeforeLengths : (n tank₀ minute₀ tank minute : ℕ) → (may : Bool) → List Check
 choiceChecksBeforeLengths n tank₀ minute₀ tank minute may =
     check 3 (leb maxChoices n)
-    ∷ check 4 (eqb tank 0 || ltb maxTank tank || ltb lastMinute minute)
+    ∷ check 4 (eqb tank 0 || ltb maxTank tank || ltb maxMinuteBefore minute)
     ∷ check 7 (not (eqb n 0 || comesBefore (tank₀ ∷ minute₀ ∷ []) (tank ∷ minute ∷ [])))
     ∷ check 13 (not may)
     ∷ []
@@ -43,7 +43,7 @@ termRowBeforeLengths = rowBefore termRow (0x10 ∷ 0x11 ∷ 0x12 ∷ 0x13 ∷ []
 unfoldable pub windowChecksBeforeLengths : (k tank₀ from₀ tank from to : ℕ) → List Check
 windowChecksBeforeLengths k tank₀ from₀ tank from to =
     check 3 (leb maxWindows k)
-    ∷ check 4 (eqb tank 0 || ltb maxTank tank || ltb lastMinute from || eqb to 0 || ltb lastTo to)
+    ∷ check 4 (eqb tank 0 || ltb maxTank tank || ltb maxMinuteBefore from || eqb to 0 || ltb maxToBefore to)
     ∷ check 6 (leb to from)
     ∷ check 7 (not (eqb k 0 || comesBefore (tank₀ ∷ from₀ ∷ []) (tank ∷ from ∷ [])))
     ∷ []

@@ -1,5 +1,5 @@
 -- How the register was read before it had windows, which was before it had a day length: no row for `13`, nothing that follows it,
--- and no check 13. The record is today's, with its windows as in a fresh one.
+-- and no check 13. The record is today's, with its windows as in a fresh one and the length that `10` gives it, at which no check looks.
 use Prim.Native.Nat.{ℕ, _-_}
 use mathlib.Core.Bool.{not, _||_}
 use mathlib.Core.List.{List, [], _∷_}
@@ -12,12 +12,12 @@ use Rattle.register.specs.declared.Register.{Register}
 use Rattle.register.specs.Limits.{maxChoices, maxTank}
 use Rattle.register.specs.Register.{tank, minute, fresh}
 use Rattle.register.specs.Format.{baseRow, choiceRow, termRow, endRow}
-use Rattle.register.specs.BeforeLengths.{lastMinute, rowBefore}
+use Rattle.register.specs.BeforeLengths.{maxMinuteBefore, rowBefore}
 
 unfoldable pub choiceChecksBeforeWindows : (n tank₀ minute₀ tank minute : ℕ) → List Check
 choiceChecksBeforeWindows n tank₀ minute₀ tank minute =
     check 3 (leb maxChoices n)
-    ∷ check 4 (eqb tank 0 || ltb maxTank tank || ltb lastMinute minute)
+    ∷ check 4 (eqb tank 0 || ltb maxTank tank || ltb maxMinuteBefore minute)
     ∷ check 7 (not (eqb n 0 || comesBefore (tank₀ ∷ minute₀ ∷ []) (tank ∷ minute ∷ [])))
     ∷ []
 

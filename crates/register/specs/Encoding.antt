@@ -29,6 +29,7 @@ baseCommand base = record { byte = 0x10; operands = ofZ w32 base ∷ [] }
 abbrev pub lengthCommand : ℕ → Command
 lengthCommand length = record { byte = 0x18; operands = length ∷ [] }
 
+-- `10`, and `18`, which may be missing where the length is the usual one
 abbrev pub Header : Register → List Command → Type 0
 Header r = Then (Only (λ c. c ≡ baseCommand (r .base))) (Optional (r .«day_length» ≡ usualDay) (λ c. c ≡ lengthCommand (r .«day_length»)))
 
@@ -69,7 +70,8 @@ Commands r = Then (Kinds r (Header r) kinds) (Only (λ c. c ≡ endCommand))
 abbrev pub Encodes : Register → List ℕ → Type 0
 Encodes r s = G.Encodes registerPart Commands r s
 
--- ---- byte by byte: with `18`, and without it, which are the encodings of a register (`soundness/specs/Written`)
+-- ---- byte by byte: with `18`, which is an encoding of every register, and without it, which is one of a register of the usual length;
+-- there are no others (`of-register` in `soundness/specs/Written`)
 
 -- `10` base cost i32
 unfoldable pub encodeBase : ℤ → List ℕ
@@ -116,7 +118,12 @@ encodeWithoutLength r = encodeAfter (encodeBase (r .base)) r
 unfoldable pub encodeRegister : Register → List ℕ
 encodeRegister r = cond (eqb (r .«day_length») usualDay) (encodeWithoutLength r) (encodeWithLength r)
 
--- ---- the day length that bytes say: `10` takes five of them, `18` with a length may stand behind it, and without it the length is the
--- usual one
+-- ---- the day length in bytes
+
+-- an `18` stands directly after `10`, which takes five bytes
+abbrev pub SaysLength : List ℕ → Type 0
+SaysLength s = (getD s 0 0 ≡ 0x10) × (getD s 5 0 ≡ 0x18)
+
+-- the length that `18` says there, and else the usual one
 abbrev pub lengthIn : List ℕ → ℕ
 lengthIn s = cond (eqb (getD s 5 0) 0x18) (natAt 2 s 6) usualDay

@@ -19,7 +19,7 @@ use Rattle.register.specs.Register.{tank, minute, mask, windowTank, wind
 unfoldable pub baseChecks : ℤ → List Check
 baseChecks base = check 4 (ltb maxBase (natAbs base)) ∷ []
 
--- `10` base cost i32, once, first
+-- `10` base cost i32, once, first. It gives the usual day length, in whose place `18` puts another
 abbrev pub baseRow : Row Register
 baseRow = record {
   byte = 0x10;
@@ -90,7 +90,7 @@ windowChecks length k tank₀ from₀ tank from to =
     ∷ check 7 (not (eqb k 0 || comesBefore (tank₀ ∷ from₀ ∷ []) (tank ∷ from ∷ [])))
     ∷ []
 
--- `13` window: tank u16, from u16, to u16. After `10` and `18`, before the first `11`
+-- `13` window: tank u16, from u16, to u16. After `10`, or `18` where there is one, and before the first `11`
 abbrev pub windowRow : Row Register
 windowRow = record {
   byte = 0x13;

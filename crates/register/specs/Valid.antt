@@ -74,6 +74,8 @@ windowAt r j = (windowTank r j, windowFrom r j, windowTo r j)
 -- within the limits, as far as commands other than the end say; entries past the counts are 0
 pub record Within (r : Register) : Type 0 where
   pub base : natAbs (r .base) ≤ maxBase
+  -- 0 before the first command
+  pub day : (r .«day_length» ≡ 0) ⊎ DayLength (r .«day_length»)
   pub tanks : Column maxChoices (r .choices) 0 (r .tanks)
   pub minutes : Column maxChoices (r .choices) 0 (r .minutes)
   pub choices : Choices (r .«day_length») (r .choices) (λ i. (tank r i, minute r i))
@@ -87,7 +89,7 @@ pub record Within (r : Register) : Type 0 where
   -- each choice's tank may be fed at its minute
   pub may-feed : (i : ℕ) → i < r .choices → MayFeed (r .windows) (windowAt r) (tank r i) (minute r i)
 
--- and the day has a length, which is there from the header on, and a first choice is there, which the end command asks for
+-- and the day's length is one of the three, and a first choice is there, which the end command asks for
 pub record Valid (r : Register) : Type 0 where
   pub within : Within r
   pub day-length : DayLength (r .«day_length»)

@@ -1,4 +1,4 @@
-// Part 1 of the job file, the register: the day, the choices of a plan, the terms of its cost and the windows of its tanks.
+// Part 1 of the job file, the register: the day's length, the choices of a plan, the terms of its cost and the windows of its tanks.
 
 mod checks;
 pub mod walk;

@@ -10,5 +10,5 @@ pub mod Writers
 pub mod Demand3
 pub mod Jobs
 pub mod Windows
-pub mod Lengths
+pub mod DayLengths
 pub mod Search

@@ -23,6 +23,7 @@ use Rattle.soundness.specs.Parts.{Part1}
 use Rattle.soundness.specs.Acceptance.{costAccepted}
 use Rattle.soundness.specs.Demand3.{registerOf, Plan, cost}
 use Rattle.soundness.specs.Windows.{KeepsWindows}
+use Rattle.soundness.specs.DayLengths.{FeedsOfDay}
 
 -- how many partial plans the rule visits
 abbrev pub visitsOf : Register → ℕ
@@ -46,6 +47,7 @@ pub record Cheapest (costCall : CostCall) (register : List ℕ) (limit : ℕ) (a
   pub smallest : (other : Plan register) → cost register other ≡ a .cost → a .plan ≤ other .fed
   -- it feeds inside the windows of each tank
   pub keeps : KeepsWindows (registerOf register) (a .plan)
+  pub of-day : FeedsOfDay (registerOf register) (a .plan)
   -- the cost call answers this cost for the plan's bytes, and no less for any bytes that it accepts
   pub costed : (bytes : List ℕ) → Encodes (registerOf register) (a .plan) bytes → costCall register bytes ≡ costAccepted (a .cost)
   pub costed-least : (bytes : List ℕ) → costCall register bytes .number ≡ 0 → a .cost ≤ℤ costCall register bytes .cost

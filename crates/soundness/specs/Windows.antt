@@ -15,7 +15,7 @@ use Rattle.register.specs.declared.Register.{Register}
 use Rattle.register.specs.Limits.{maxChoices, maxTerms, maxWindows, maxBase, usualDay}
 use Rattle.register.specs.Register.{tank, minute, mask, coefficient, windowTank, setWindows}
 use Rattle.register.specs.Valid.{Choices, Terms, Windows, Inside, windowAt}
-use Rattle.register.specs.Encoding.{Encodes, encodeBase, encodeChoices, encodeTerms, encodeRegister}
+use Rattle.register.specs.Encoding.{Encodes, encodeBase, encodeChoices, encodeTerms, encodeRegister, SaysLength}
 use Rattle.register.specs.Answer.{registerAnswer}
 use Rattle.register.specs.Format.{registerInJob, registerByItself}
 use Rattle.register.specs.BeforeWindows.{inJobBeforeWindows, byItselfBeforeWindows}
@@ -78,7 +78,7 @@ abbrev pub withoutWindows : Register → Register
 withoutWindows r = setWindows r 0 (replicate maxWindows 0) (replicate maxWindows 0) (replicate maxWindows 0)
 
 -- the conditions on a register before there were windows, when each day had the usual length
-pub record BeforeWindows (r : Register) : Type 0 where
+pub record ValidBeforeWindows (r : Register) : Type 0 where
   pub base : natAbs (r .base) ≤ maxBase
   pub day : r .«day_length» ≡ usualDay
   pub tanks : Column maxChoices (r .choices) 0 (r .tanks)
@@ -107,14 +107,14 @@ pub record WindowsKept (registerCall : RegisterCall) (costCall : CostCall) (jobC
   -- are right, and its choices lie inside
   pub nothing-more : (register : List ℕ) (reg : Register) → Encodes reg register → (registerCall register ≡ registerAccepted reg)
       ↔ ((registerCall (encodeRegister (withoutWindows reg)) ≡ registerAccepted (withoutWindows reg)) × WindowsRight reg × ChoicesInside reg)
-  -- bytes without a window and without `18`, which came later, are answered as they were, accepted or refused, with no window: the
-  -- first of either would stand at 5
-  pub read-as-before : (register : List ℕ) → (getD register 5 0 ≡ 0x13 → ⊥) → (getD register 5 0 ≡ 0x18 → ⊥) →
+  -- bytes without a window, whose `13` would stand at 5, are answered as they were, accepted or refused, with no window, where they
+  -- say no day length, which came later
+  pub read-as-before : (register : List ℕ) → (getD register 5 0 ≡ 0x13 → ⊥) → (SaysLength register → ⊥) →
       (registerCall register ≡ registerAnswer (byItselfBeforeWindows register)) × (withoutWindows (registerCall register .register) ≡ registerCall register .register)
 
--- A register without windows and without `18` is what it was, of no call in particular: each call reads part 1 at the front of a job
+-- A register without windows that says no day length is what it was, of no call in particular: each call reads part 1 at the front of a job
 -- or by itself, and what is said of part 1 has its earlier form.
-pub record AsBefore : Type 0 where
-  pub in-job : (s : List ℕ) → (getD s 5 0 ≡ 0x13 → ⊥) → (getD s 5 0 ≡ 0x18 → ⊥) → registerInJob s ≡ inJobBeforeWindows s
-  pub by-itself : (s : List ℕ) → (getD s 5 0 ≡ 0x13 → ⊥) → (getD s 5 0 ≡ 0x18 → ⊥) → registerByItself s ≡ byItselfBeforeWindows s
-  pub part-1 : (register : List ℕ) (reg : Register) → (getD register 5 0 ≡ 0x18 → ⊥) → Part1 register (withoutWindows reg) ↔ (BeforeWindows reg × (register ≡ bytesBeforeWindows reg))
+pub record AsBeforeWindows : Type 0 where
+  pub in-job : (s : List ℕ) → (getD s 5 0 ≡ 0x13 → ⊥) → (SaysLength s → ⊥) → registerInJob s ≡ inJobBeforeWindows s
+  pub by-itself : (s : List ℕ) → (getD s 5 0 ≡ 0x13 → ⊥) → (SaysLength s → ⊥) → registerByItself s ≡ byItselfBeforeWindows s
+  pub part-1 : (register : List ℕ) (reg : Register) → (SaysLength register → ⊥) → Part1 register (withoutWindows reg) ↔ (ValidBeforeWindows reg × (register ≡ bytesBeforeWindows reg))

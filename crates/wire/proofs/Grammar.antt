@@ -12,7 +12,7 @@ use Rattle.integers.specs.Lists.{All, joinBelow}
 use Rattle.integers.proofs.Lists.{T-true, or-either, flag}
 use Rattle.wire.specs.Rows.{isAmong}
 use Rattle.wire.specs.Encoding.{Command}
-use Rattle.wire.specs.Grammar.{Then, Each, Among, Kind, Form, Kinds}
+use Rattle.wire.specs.Grammar.{Only, Optional, Then, Each, Among, Kind, Form, Kinds}
 
 -- the byte of the last command, b where there is none
 abbrev pub lastFrom : ℕ → List Command → ℕ
@@ -112,6 +112,36 @@ pub record Last (X : List Command → Type 0) (F : Command → Type 0) (cs : Lis
   pub before : X front
   pub form : F last
   pub whole : cs ≡ front ++ (last ∷ [])
+
+pub only-map : (F G : Command → Type 0) {cs : List Command} → ((c : Command) → F c → G c) → Only F cs → Only G cs
+only-map F G h o = record { command = o .command; form = h _ (o .form); whole = o .whole }
+
+-- a command that may be missing: without it, with it, and which of these it is
+
+module _ (X : List Command → Type 0) (D : Type 0) (F : Command → Type 0) where
+  pub then-missing : {cs : List Command} → D → X cs → Then X (Optional D F) cs
+  then-missing {cs} d x = record { first = cs; second = []; is-first = x; is-second = inl (d, refl); whole = sym (append-nil cs) }
+
+  pub then-present : {cs : List Command} (c : Command) → X cs → F c → Then X (Optional D F) (cs ++ (c ∷ []))
+  then-present {cs} c x f = record { first = cs; second = c ∷ []; is-first = x; is-second = inr (record { command = c; form = f; whole = refl }); whole = refl }
+
+  pub optional-last : {cs : List Command} → Then X (Optional D F) cs → (D × X cs) ⊎ Last X F cs
+  optional-last {cs} t = ⊎-elim missing present (t .is-second)
+    where
+      missing : D × (t .second ≡ []) → (D × X cs) ⊎ Last X F cs
+      missing (d, e) = let q : t .first ≡ cs = sym (t .whole ∙ ap (λ x. t .first ++ x) e ∙ append-nil (t .first)) in inl (d, rw q at (t .is-first))
+
+      present : Only F (t .second) → (D × X cs) ⊎ Last X F cs
+      present o = inr (record { front = t .first; last = o .command; before = t .is-first; form = o .form; whole = t .whole ∙ ap (λ x. t .first ++ x) (o .whole) })
+
+pub optional-map : (X Y : List Command → Type 0) (D : Type 0) (F G : Command → Type 0) {cs : List Command} → ((ds : List Command) → X ds → Y ds) → ((c : Command) → F c → G c) → Then X (Optional D F) cs → Then Y (Optional D G) cs
+optional-map X Y D F G x f t = record {
+  first = t .first;
+  second = t .second;
+  is-first = x _ (t .is-first);
+  is-second = ⊎-elim (λ d. inl d) (λ o. inr (only-map F G f o)) (t .is-second);
+  whole = t .whole;
+}
 
 module _ (X : List Command → Type 0) (F : ℕ → Command → Type 0) where
   -- none of the entries, and one more of them

@@ -19,12 +19,12 @@ use Rattle.wire.proofs.Loop.{Here, here-at, Going, going-starts, going-missing,
 use Rattle.register.specs.declared.Register.{Register}
 use Rattle.register.specs.Limits.{maxChoices, maxTerms, maxWindows}
 use Rattle.register.specs.Register.{tank, minute, mask, fresh}
-use Rattle.register.specs.Format.{baseRow, choiceRow, termRow, windowRow, endRow, registerRows, registerPart, registerInJob}
+use Rattle.register.specs.Format.{baseRow, choiceRow, termRow, windowRow, lengthRow, endRow, registerRows, registerPart, registerInJob}
 use Rattle.register.specs.Valid.{Within, windowAt}
 use Rattle.register.specs.Answer.{Given, registerRead}
 use Rattle.register.proofs.Passes.{NextChoice, choice-iff, term-iff, window-iff}
 use Rattle.register.proofs.Entries.{termAt, windows-no-fall}
-use Rattle.register.proofs.Passed.{Passed, passed-starts, passed-base, passed-choice, passed-term, passed-window}
+use Rattle.register.proofs.Passed.{Passed, passed-starts, passed-base, passed-length, passed-choice, passed-term, passed-window}
 use Rattle.register.proofs.Laws.{Good, laws}
 use Rattle.register.proofs.read_register.Statement.{statement}
 use Rattle.register.proofs.read_register.Tie as tie
@@ -37,7 +37,7 @@ abbrev μ-loop : tie.MeasureT-loop
 
 -- what the loop has seen
 given-is : (previous : ℕ) (r : Register) {i t passed : ℕ} → Within r → Passed r passed → i ≡ r .choices - 1 → t ≡ r .terms - 1 → Given (reached previous r)
-    (record { previous = previous; choices = r .choices; terms = r .terms; tank = tank r i; minute = minute r i; mask = mask r t; windows = r .windows })
+    (record { previous = previous; choices = r .choices; terms = r .terms; tank = tank r i; minute = minute r i; mask = mask r t; windows = r .windows; «day_length» = r .«day_length» })
     passed (r .«window_tanks») (r .«window_froms») (r .«window_tos»)
 given-is previous r w p d e = record { seen-is = rw (d, e); tanks-are = refl; froms-are = refl; tos-are = refl; no-fall = windows-no-fall r w; earlier = λ k l. rw d (p .earlier k l) }
 
@@ -80,7 +80,7 @@ module _ (c : tie.Else1 Inv-loop μ-loop) where
 
   few : getD (bytes (c .before)) (at (c .before)) 0 ≡ 0x11 → r (c .before) .choices < maxChoices
   unfolding rowOf
-  few e = choice-iff _ _ _ _ _ _ .0 (here 0x11 e .allowed) .0 .few
+  few e = choice-iff _ _ _ _ _ _ _ .0 (here 0x11 e .allowed) .0 .few
 
   few-terms : getD (bytes (c .before)) (at (c .before)) 0 ≡ 0x12 → r (c .before) .terms < maxTerms
   unfolding rowOf
@@ -88,11 +88,11 @@ module _ (c : tie.Else1 Inv-loop μ-loop) where
 
   few-windows : getD (bytes (c .before)) (at (c .before)) 0 ≡ 0x13 → r (c .before) .windows < maxWindows
   unfolding rowOf
-  few-windows e = window-iff _ (windowAt (r (c .before)) (r (c .before) .windows - 1)) _ _ _ .0 (here 0x13 e .allowed) .few
+  few-windows e = window-iff _ _ (windowAt (r (c .before)) (r (c .before) .windows - 1)) _ _ _ .0 (here 0x13 e .allowed) .few
 
-  next-choice : getD (bytes (c .before)) (at (c .before)) 0 ≡ 0x11 → NextChoice (r (c .before) .choices) (tank (r (c .before)) (r (c .before) .choices - 1)) (minute (r (c .before)) (r (c .before) .choices - 1)) (natAt 2 (bytes (c .before)) (at (c .before) + 1)) (natAt 2 (bytes (c .before)) (at (c .before) + 1 + 2))
+  next-choice : getD (bytes (c .before)) (at (c .before)) 0 ≡ 0x11 → NextChoice (r (c .before) .«day_length») (r (c .before) .choices) (tank (r (c .before)) (r (c .before) .choices - 1)) (minute (r (c .before)) (r (c .before) .choices - 1)) (natAt 2 (bytes (c .before)) (at (c .before) + 1)) (natAt 2 (bytes (c .before)) (at (c .before) + 1 + 2))
   unfolding rowOf operandsAt
-  next-choice e = choice-iff _ _ _ _ _ _ .0 (here 0x11 e .allowed) .0
+  next-choice e = choice-iff _ _ _ _ _ _ _ .0 (here 0x11 e .allowed) .0
 
 fresh-requires : tie.Need-fresh-requires Inv-loop μ-loop
 fresh-requires c κs = search needs
@@ -231,8 +231,8 @@ i32-at-requires-2 : tie.Need-i32-at-requires-2 Inv-loop μ-loop
 unfolding rowOf total
 i32-at-requires-2 c κs = let e = c .before .before .before in omega (arith, here e 0x12 (c .before .match .keys3) .room)
 
-mul-t51 : tie.Need-mul-t51 Inv-loop μ-loop
-mul-t51 c = search needs
+mul-t52 : tie.Need-mul-t52 Inv-loop μ-loop
+mul-t52 c = search needs
 
 element-set-from-register : tie.Need-element-set-from-register Inv-loop μ-loop
 element-set-from-register c = few-terms (c .before .before .before .before) (c .before .before .match .keys3)
@@ -315,12 +315,31 @@ loop-again-4 c =
     let e = c .before .before .before .before .before in
     (rw (c .u16-at5 .ensures, c .before .u16-at4 .ensures, c .before .before .u16-at3 .ensures, add-one) (going-on fresh registerRows laws (turn (e .before) .loop .inv .0) (inside (e .before)) (judged e) 0x13 (c .before .before .before .match .keys4) refl), rw add-one (passed-window (r (e .before)) (within (e .before)) (turn (e .before) .loop .inv .1) _ _ _))
 
-add-t65 : tie.Need-add-t65 Inv-loop μ-loop
-add-t65 c = search needs
+add-u16-at-10 : tie.Need-add-u16-at-10 Inv-loop μ-loop
+add-u16-at-10 c = search needs
+
+u16-at-requires-6 : tie.Need-u16-at-requires-6 Inv-loop μ-loop
+unfolding rowOf total
+u16-at-requires-6 c κs = let e = c .before .before in omega (arith, here e 0x18 (c .match .keys5) .room)
+
+add-at-5 : tie.Need-add-at-5 Inv-loop μ-loop
+add-at-5 c = search needs
+
+loop-less-5 : tie.Need-loop-less-5 Inv-loop μ-loop
+loop-less-5 c = search needs
+
+loop-again-5 : tie.Need-loop-again-5 Inv-loop μ-loop
+unfolding rowOf total operandsAt
+loop-again-5 c =
+    let e = c .before .before .before in
+    (rw (c .u16-at6 .ensures) (going-on fresh registerRows laws (turn (e .before) .loop .inv .0) (inside (e .before)) (judged e) 0x18 (c .before .match .keys5) refl), passed-length (r (e .before)) (within (e .before)) (turn (e .before) .loop .inv .1) _)
+
+add-t68 : tie.Need-add-t68 Inv-loop μ-loop
+add-t68 c = search needs
 
 returns-2 : tie.Need-returns-2 Inv-loop μ-loop
 unfolding registerInJob rowOf total operandsAt
-returns-2 c = let e = c .before .before in let f = only-last endRow _ (baseRow ∷ choiceRow ∷ termRow ∷ windowRow ∷ []) (c .match .rest .0 .0 .0 .1 ▹ c .match .rest .0 .0 .1 ▹ c .match .rest .0 .1 ▹ c .match .rest .1 ▹ tt) _ (here e _ refl .place) in ap registerRead (sym (going-ends fresh registerRows laws (turn (e .before) .loop .inv .0) (inside (e .before)) (judged e) 0x1F f refl))
+returns-2 c = let e = c .before .before in let f = only-last endRow _ (baseRow ∷ choiceRow ∷ termRow ∷ windowRow ∷ lengthRow ∷ []) (c .match .rest .0 .0 .0 .0 .1 ▹ c .match .rest .0 .0 .0 .1 ▹ c .match .rest .0 .0 .1 ▹ c .match .rest .0 .1 ▹ c .match .rest .1 ▹ tt) _ (here e _ refl .place) in ap registerRead (sym (going-ends fresh registerRows laws (turn (e .before) .loop .inv .0) (inside (e .before)) (judged e) 0x1F f refl))
 
 refused-requires-2 : tie.Need-refused-requires-2 Inv-loop μ-loop
 refused-requires-2 c κs = search needs
@@ -375,7 +394,7 @@ read-register-spec =
     add-i32-at-2
     add-i32-at-3
     i32-at-requires-2
-    mul-t51
+    mul-t52
     element-set-from-register
     add-register-2
     add-at-3
@@ -400,7 +419,12 @@ read-register-spec =
     add-at-4
     loop-less-4
     loop-again-4
-    add-t65
+    add-u16-at-10
+    u16-at-requires-6
+    add-at-5
+    loop-less-5
+    loop-again-5
+    add-t68
     returns-2
     refused-requires-2
     returns-3)

@@ -6,7 +6,7 @@ use mathlib.Core.List.{[], _∷_}
 use Prim.Native.Nat.{suc}
 use Rattle.integers.proofs.Lists.{_▹_}
 use Rattle.wire.proofs.Rest.{total-last}
-use Rattle.register.specs.Format.{baseRow, choiceRow, termRow, windowRow, endRow}
+use Rattle.register.specs.Format.{baseRow, choiceRow, termRow, windowRow, lengthRow, endRow}
 use Rattle.register.proofs.checks.command_size.Statement.{statement}
 use Rattle.register.proofs.checks.command_size.Tie as tie
 
@@ -27,7 +27,11 @@ unfolding rowOf total
 returns-4 c = rw (c .match .keys4)
 
 returns-5 : tie.Need-returns-5
-returns-5 c = ap suc (sym (total-last endRow _ (baseRow ∷ choiceRow ∷ termRow ∷ windowRow ∷ []) (c .match .rest .0 .0 .0 .1 ▹ c .match .rest .0 .0 .1 ▹ c .match .rest .0 .1 ▹ c .match .rest .1 ▹ tt) refl))
+unfolding rowOf total
+returns-5 c = rw (c .match .keys5)
+
+returns-6 : tie.Need-returns-6
+returns-6 c = ap suc (sym (total-last endRow _ (baseRow ∷ choiceRow ∷ termRow ∷ windowRow ∷ lengthRow ∷ []) (c .match .rest .0 .0 .0 .0 .1 ▹ c .match .rest .0 .0 .0 .1 ▹ c .match .rest .0 .0 .1 ▹ c .match .rest .0 .1 ▹ c .match .rest .1 ▹ tt) refl))
 
 pub command-size-spec : {M : Type 1} → statement M
-command-size-spec = tie.close (tie.spec returns returns-2 returns-3 returns-4 returns-5)
+command-size-spec = tie.close (tie.spec returns returns-2 returns-3 returns-4 returns-5 returns-6)

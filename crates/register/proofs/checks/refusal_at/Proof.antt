@@ -18,7 +18,7 @@ use Rattle.wire.proofs.Loop.{operandsOf, common-refused, common-own}
 use Rattle.register.specs.declared.Register.{Register}
 use Rattle.register.specs.declared.Seen.{Seen}
 use Rattle.register.specs.Register.{fresh}
-use Rattle.register.specs.Format.{baseRow, choiceRow, termRow, windowRow, endRow, mayFeed, registerRows, registerPart}
+use Rattle.register.specs.Format.{baseRow, choiceRow, termRow, windowRow, lengthRow, endRow, mayFeed, registerRows, registerPart}
 use Rattle.register.specs.Answer.{seenOf}
 use Rattle.register.proofs.Passes.{choice-settled}
 use Rattle.register.proofs.checks.refusal_at.Statement.{statement}
@@ -175,6 +175,16 @@ element-copy-out-window-refusal-2 c = search needs
 window-refusal-requires : tie.Need-window-refusal-requires
 window-refusal-requires c κs = search needs
 
+add-u16-at-10 : tie.Need-add-u16-at-10
+add-u16-at-10 c = search needs
+
+u16-at-requires-6 : tie.Need-u16-at-requires-6
+unfolding rowOf total
+u16-at-requires-6 c κs = omega (arith, room (c .before) 0x18 3 (c .match .keys5) refl)
+
+length-refusal-requires : tie.Need-length-refusal-requires
+length-refusal-requires c κs = search needs
+
 end-refusal-requires : tie.Need-end-refusal-requires
 end-refusal-requires c κs = search needs
 
@@ -190,7 +200,7 @@ returns-3 c = λ p g.
     let tank = d .before .u16-at .result in
     let minute = d .u16-at2 .result in
     c .choice-refusal .ensures
-    ∙ choice-settled (a .seen .choices) (a .seen .tank) (a .seen .minute) tank minute (c .before .may-feed .result) (mayFeed (a .seen .windows) (a .tanks .now) (a .froms .now) (a .tos .now) tank minute) (λ h. c .before .may-feed .ensures (g .no-fall) (risen (a .tanks .now) h (g .earlier)))
+    ∙ choice-settled (a .seen .«day_length») (a .seen .choices) (a .seen .tank) (a .seen .minute) tank minute (c .before .may-feed .result) (mayFeed (a .seen .windows) (a .tanks .now) (a .froms .now) (a .tos .now) tank minute) (λ h. c .before .may-feed .ensures (g .no-fall) (risen (a .tanks .now) h (g .earlier)))
     ∙ rw (← (g .seen-is), ← (g .tanks-are), ← (g .froms-are), ← (g .tos-are), d .u16-at2 .ensures, d .before .u16-at .ensures) (own (d .before .before .before) p (g .seen-is) 0x11 (d .before .before .match .keys2))
 
 returns-4 : tie.Need-returns-4
@@ -207,7 +217,11 @@ returns-5 c = λ p g.
 
 returns-6 : tie.Need-returns-6
 unfolding rowOf operandsAt
-returns-6 c = λ p g. c .end-refusal .ensures ∙ rw (← (g .seen-is)) (own (c .before .before) p (g .seen-is) 0x1F (only-last endRow _ (baseRow ∷ choiceRow ∷ termRow ∷ windowRow ∷ []) (c .before .match .rest .0 .0 .0 .1 ▹ c .before .match .rest .0 .0 .1 ▹ c .before .match .rest .0 .1 ▹ c .before .match .rest .1 ▹ tt) _ (command-here _ _ _ [] _ (judged (c .before .before .before)) (c .before .before .if1 .left))))
+returns-6 c = λ p g. c .length-refusal .ensures ∙ rw (c .before .u16-at6 .ensures) (own (c .before .before .before) p (g .seen-is) 0x18 (c .before .before .match .keys5))
+
+returns-7 : tie.Need-returns-7
+unfolding rowOf operandsAt
+returns-7 c = λ p g. c .end-refusal .ensures ∙ rw (← (g .seen-is)) (own (c .before .before) p (g .seen-is) 0x1F (only-last endRow _ (baseRow ∷ choiceRow ∷ termRow ∷ windowRow ∷ lengthRow ∷ []) (c .before .match .rest .0 .0 .0 .0 .1 ▹ c .before .match .rest .0 .0 .0 .1 ▹ c .before .match .rest .0 .0 .1 ▹ c .before .match .rest .0 .1 ▹ c .before .match .rest .1 ▹ tt) _ (command-here _ _ _ [] _ (judged (c .before .before .before)) (c .before .before .if1 .left))))
 
 pub refusal-at-spec : {M : Type 1} → statement M
 refusal-at-spec =
@@ -250,9 +264,13 @@ refusal-at-spec =
     mul-window-refusal-2
     element-copy-out-window-refusal-2
     window-refusal-requires
+    add-u16-at-10
+    u16-at-requires-6
+    length-refusal-requires
     end-refusal-requires
     returns-2
     returns-3
     returns-4
     returns-5
-    returns-6)
+    returns-6
+    returns-7)

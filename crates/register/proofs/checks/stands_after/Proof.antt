@@ -32,10 +32,14 @@ returns-4 c = rw (c .match .keys4)
 
 returns-5 : tie.Need-returns-5
 unfolding rowOf
-returns-5 c = c .after-any2 .ensures ∙ rw (c .before .match .keys5)
+returns-5 c = rw (c .match .keys5)
 
 returns-6 : tie.Need-returns-6
-returns-6 c = rw (no-row registerRows _ (c .match .rest .0 .0 .0 .0 .1 ▹ c .match .rest .0 .0 .0 .1 ▹ c .match .rest .0 .0 .1 ▹ c .match .rest .0 .1 ▹ c .match .rest .1 ▹ tt))
+unfolding rowOf
+returns-6 c = c .after-any2 .ensures ∙ rw (c .before .match .keys6)
+
+returns-7 : tie.Need-returns-7
+returns-7 c = rw (no-row registerRows _ (c .match .rest .0 .0 .0 .0 .0 .1 ▹ c .match .rest .0 .0 .0 .0 .1 ▹ c .match .rest .0 .0 .0 .1 ▹ c .match .rest .0 .0 .1 ▹ c .match .rest .0 .1 ▹ c .match .rest .1 ▹ tt))
 
 pub stands-after-spec : {M : Type 1} → statement M
-stands-after-spec = tie.close (tie.spec after-any-requires after-any-requires-2 returns returns-2 returns-3 returns-4 returns-5 returns-6)
+stands-after-spec = tie.close (tie.spec after-any-requires after-any-requires-2 returns returns-2 returns-3 returns-4 returns-5 returns-6 returns-7)

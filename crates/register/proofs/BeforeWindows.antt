@@ -1,8 +1,9 @@
--- A register without windows is read as before there were any, in number, position and every field. The first window of a register
--- stands at 5, after the base cost; with no `13` there, one that stands where a command is due is refused 1, as it was.
+-- A register without windows that says no day length is read as before there were either, in number, position and every field. It is
+-- read as before there were day lengths, by `BeforeLengths`, and that reading is held here to the one before there were windows: the
+-- first window stood at 5, after the base cost; with no `13` there, one that stands where a command is due is refused 1, as it was.
 use Prim.Native.Nat.{ℕ, _<_}
 use native.Mathlib.Omega.{arith}
-use mathlib.Core.Path.{_≡_, refl, ap}
+use mathlib.Core.Path.{_≡_, refl, sym, _∙_, ap}
 use mathlib.Core.Bool.{or-false}
 use mathlib.Core.List.{List}
 use lib.ListN.{getD}
@@ -16,8 +17,11 @@ use Rattle.wire.proofs.Encoding.{byItself-accepted}
 use Rattle.wire.proofs.Alike.{Alike, Ended, neither, read-alike}
 use Rattle.register.specs.declared.Register.{Register}
 use Rattle.register.specs.Register.{fresh}
-use Rattle.register.specs.Format.{choiceChecks, registerRows, registerPart, registerInJob, registerByItself}
-use Rattle.register.specs.Before.{choiceChecksBefore, rowsBefore, partBefore, registerInJobBefore, registerByItselfBefore}
+use Rattle.register.specs.Format.{registerInJob, registerByItself}
+use Rattle.register.specs.Encoding.{SaysLength}
+use Rattle.register.specs.BeforeLengths.{choiceChecksBeforeLengths, rowsBeforeLengths, partBeforeLengths, inJobBeforeLengths}
+use Rattle.register.specs.BeforeWindows.{choiceChecksBeforeWindows, rowsBeforeWindows, partBeforeWindows, inJobBeforeWindows, byItselfBeforeWindows}
+use Rattle.register.proofs.BeforeLengths.{as-before-lengths-in-job}
 
 -- the fields that came with windows
 abbrev pub windowsOf : Register → ℕ × List ℕ × List ℕ × List ℕ
@@ -36,7 +40,7 @@ later b l d w = record { start = λ e. absurd (omega arith); base = λ e. absurd
 module _ (s : List ℕ) (none : getD s 5 0 ≡ 0x13 → ⊥) where
   module _ (p : Progress Register) (at : ℕ) (r : Reach p at) where
     abbrev AlikeAt : ℕ → Type 0
-    AlikeAt b = Alike registerPart partBefore Reach p at b
+    AlikeAt b = Alike partBeforeLengths partBeforeWindows Reach p at b
 
     base-alike : AlikeAt 0x10
     unfolding rowOf total
@@ -53,7 +57,7 @@ module _ (s : List ℕ) (none : getD s 5 0 ≡ 0x13 → ⊥) where
 
     -- where there is no window, check 13 does not fail
     choice-alike : AlikeAt 0x11
-    unfolding rowOf refusal choiceChecks choiceChecksBefore fresh
+    unfolding rowOf refusal choiceChecksBeforeLengths choiceChecksBeforeWindows fresh
     choice-alike = record {
       here = rw (ne-eqb (p .previous) 0x13 (r .no-window), or-false);
       same = λ h. record { widths = refl; checks = λ xs. rw (ap (λ w. w .0) (r .windows)); after = λ xs. refl; last = refl; moves = λ xs q. later 0x11 (omega arith) (λ e. omega arith) (r .windows) };
@@ -75,31 +79,33 @@ module _ (s : List ℕ) (none : getD s 5 0 ≡ 0x13 → ⊥) where
 
     window-alike : getD s at 0 ≡ 0x13 → AlikeAt 0x13
     unfolding rowOf
-    window-alike e = neither registerPart partBefore Reach (rw (ne-eqb (p .previous) 0x10 (λ b. none (rw (r .base b) at e)), ne-eqb (p .previous) 0x13 (r .no-window))) refl
+    window-alike e = neither partBeforeLengths partBeforeWindows Reach (rw (ne-eqb (p .previous) 0x10 (λ b. none (rw (r .base b) at e)), ne-eqb (p .previous) 0x13 (r .no-window))) refl
 
-    none-alike : (b : ℕ) → NoneOf registerRows b → AlikeAt b
+    none-alike : (b : ℕ) → NoneOf rowsBeforeLengths b → AlikeAt b
     none-alike b n =
-        neither registerPart partBefore Reach
-        (ap (λ row. isAmong (p .previous) (row .follows)) (no-row registerRows b n))
-        (ap (λ row. isAmong (p .previous) (row .follows)) (no-row rowsBefore b (n .0 ▹ n .1 .0 ▹ n .1 .1 .0 ▹ n .1 .1 .1 .1)))
+        neither partBeforeLengths partBeforeWindows Reach
+        (ap (λ row. isAmong (p .previous) (row .follows)) (no-row rowsBeforeLengths b n))
+        (ap (λ row. isAmong (p .previous) (row .follows)) (no-row rowsBeforeWindows b (n .0 ▹ n .1 .0 ▹ n .1 .1 .0 ▹ n .1 .1 .1 .1)))
 
     alike : AlikeAt (getD s at 0)
     alike =
-        by-bytes (λ b. getD s at 0 ≡ b → AlikeAt b) registerRows (getD s at 0) (λ n e. none-alike (getD s at 0) n)
+        by-bytes (λ b. getD s at 0 ≡ b → AlikeAt b) rowsBeforeLengths (getD s at 0) (λ n e. none-alike (getD s at 0) n)
         ((λ e. base-alike) ▹ (λ e. choice-alike) ▹ (λ e. term-alike) ▹ window-alike ▹ (λ e. end-alike) ▹ tt) refl
 
-  both : (registerInJob s ≡ registerInJobBefore s) × Ended Reach (registerInJob s)
-  unfolding registerInJob registerInJobBefore
-  both = read-alike registerPart partBefore Reach s alike refl (record { start = λ e. refl; base = λ e. absurd (omega arith); no-window = λ e. absurd (omega arith); windows = refl })
+  both : (inJobBeforeLengths s ≡ inJobBeforeWindows s) × Ended Reach (inJobBeforeLengths s)
+  unfolding inJobBeforeLengths inJobBeforeWindows
+  both = read-alike partBeforeLengths partBeforeWindows Reach s alike refl (record { start = λ e. refl; base = λ e. absurd (omega arith); no-window = λ e. absurd (omega arith); windows = refl })
 
-  pub as-before-in-job : registerInJob s ≡ registerInJobBefore s
-  as-before-in-job = both .0
+  module _ (no-length : SaysLength s → ⊥) where
+    pub as-before-windows-in-job : registerInJob s ≡ inJobBeforeWindows s
+    as-before-windows-in-job = as-before-lengths-in-job s no-length ∙ both .0
 
-  pub as-before : registerByItself s ≡ registerByItselfBefore s
-  unfolding registerByItself registerByItselfBefore
-  as-before = ap (byItself s) as-before-in-job
+    pub as-before-windows : registerByItself s ≡ byItselfBeforeWindows s
+    unfolding registerByItself byItselfBeforeWindows
+    as-before-windows = ap (byItself s) as-before-windows-in-job
 
-  -- and where it is accepted, the fields that came with windows are those of a fresh register, all 0
-  pub no-windows : {p : Progress Register} {end : ℕ} → registerByItself s ≡ accepted p end → windowsOf (p .parsed) ≡ windowsOf fresh
-  unfolding registerByItself
-  no-windows {p} {end} e = let q : Ended Reach (accepted p end) = rw (byItself-accepted s (registerInJob s) p end e .0) at (both .1) in q .windows
+    -- and where it is accepted, the fields that came with windows are those of a fresh register, all 0
+    pub no-windows : {p : Progress Register} {end : ℕ} → registerByItself s ≡ accepted p end → windowsOf (p .parsed) ≡ windowsOf fresh
+    unfolding registerByItself
+    no-windows {p} {end} e =
+        let q : Ended Reach (accepted p end) = rw (sym (as-before-lengths-in-job s no-length) ∙ byItself-accepted s (registerInJob s) p end e .0) at (both .1) in q .windows
