@@ -21,7 +21,7 @@ use Rattle.search.specs.Answer.{search, withinLimit, refusedSearch, acceptedSea
 use Rattle.console.specs.Cheapest.{cheapestLines}
 
 -- the bytes that can matter
-pub reach-is : registerReach ≡ 2_926
+pub reach-is : registerReach ≡ 2_929
 unfolding registerReach total
 reach-is = refl
 

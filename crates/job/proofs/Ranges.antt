@@ -19,7 +19,7 @@ use Rattle.wire.proofs.Outcome.{numberOf, positionOf}
 use Rattle.register.specs.declared.Register.{Register}
 use Rattle.register.specs.Register.{coefficient}
 use Rattle.register.specs.Register as R
-use Rattle.register.specs.Format.{baseChecks, choiceChecks, termChecks, windowChecks, registerRows, registerPart, registerInJob}
+use Rattle.register.specs.Format.{baseChecks, choiceChecks, termChecks, windowChecks, lengthChecks, registerRows, registerPart, registerInJob}
 use Rattle.register.specs.Format as RF
 use Rattle.scheme.specs.declared.Scheme.{Scheme}
 use Rattle.scheme.specs.Scheme as S
@@ -74,8 +74,8 @@ module _ {A : Type 0} where
   }) (P .start) 0
 
 register-small : (s : List ℕ) → numberOf (registerInJob s) ≤ highest
-unfolding registerInJob baseChecks choiceChecks termChecks windowChecks RF.endChecks
-register-small s = part-small R.fresh registerRows ((λ r xs. tt) ▹ (λ r xs. tt) ▹ (λ r xs. tt) ▹ (λ r xs. tt) ▹ (λ r xs. tt) ▹ tt) s
+unfolding registerInJob baseChecks choiceChecks termChecks windowChecks lengthChecks RF.endChecks
+register-small s = part-small R.fresh registerRows ((λ r xs. tt) ▹ (λ r xs. tt) ▹ (λ r xs. tt) ▹ (λ r xs. tt) ▹ (λ r xs. tt) ▹ (λ r xs. tt) ▹ tt) s
 
 scheme-small : (reg : Register) (s : List ℕ) → numberOf (schemeInJob reg s) ≤ highest
 unfolding schemeInJob productChecks splitChecks SF.endChecks

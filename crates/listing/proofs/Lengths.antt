@@ -13,9 +13,10 @@ use Rattle.integers.specs.Lists.{joinBelow}
 use Rattle.integers.proofs.Lists.{flag, cond-cases}
 use Rattle.integers.proofs.Machine.{signed-small}
 use Rattle.register.specs.declared.Register.{Register}
-use Rattle.register.specs.Limits.{maxChoices, maxTank, maxMinute}
+use Rattle.register.specs.Limits.{maxChoices, maxTank, longDay}
 use Rattle.register.specs.Register.{tank, minute}
 use Rattle.register.specs.Valid.{Within}
+use Rattle.register.proofs.Entries.{day-within}
 use Rattle.sets.specs.Sets.{isMember}
 use Rattle.text.specs.Text.{digitsTo, digits, decimal, line}
 use Rattle.text.proofs.Lines.{line-no-longer, natural-no-longer, integer-no-longer}
@@ -55,20 +56,23 @@ joins-short (suc n) f b h (suc m) l =
     rw (length-append (joinBelow n f) (f n), suc-mul) (omega (arith, joins-short n f b (λ i l. h i (omega arith)) m (omega arith), h n (omega arith)))
 
 module _ (r : Register) (w : Within r) where
-  choices-short : length (choiceLines r) ≤ maxChoices * length (choiceLine maxChoices maxTank maxMinute)
+  last-minute : (i : ℕ) → i < r .choices → minute r i ≤ longDay - 1
+  last-minute i l = omega (arith, w .choices .each i l .minute-below, day-within r w)
+
+  choices-short : length (choiceLines r) ≤ maxChoices * length (choiceLine maxChoices maxTank (longDay - 1))
   unfolding choiceLines
   choices-short = joins-short (r .choices) _ _ (λ i l.
       let c = w .choices .each i l in
-      line-no-longer 0x54 0x54 (pos i ∷ pos (tank r i) ∷ pos (minute r i) ∷ []) (pos maxChoices ∷ pos maxTank ∷ pos maxMinute ∷ [])
-      (natural-no-longer _ _ (omega (arith, w .choices .few)), (natural-no-longer _ _ (c .tank-within), (natural-no-longer _ _ (c .minute-within), tt))))
+      line-no-longer 0x54 0x54 (pos i ∷ pos (tank r i) ∷ pos (minute r i) ∷ []) (pos maxChoices ∷ pos maxTank ∷ pos (longDay - 1) ∷ [])
+      (natural-no-longer _ _ (omega (arith, w .choices .few)), (natural-no-longer _ _ (c .tank-within), (natural-no-longer _ _ (last-minute i l), tt))))
       maxChoices (w .choices .few)
 
-  pub fed-short : (plan : ℕ) → length (fedLines r plan) ≤ maxChoices * length (fedLine maxTank maxMinute)
+  pub fed-short : (plan : ℕ) → length (fedLines r plan) ≤ maxChoices * length (fedLine maxTank (longDay - 1))
   unfolding fedLines
   fed-short plan = joins-short (r .choices) _ _ (λ i l.
       let c = w .choices .each i l in
-      cond-cases (λ x. length x ≤ length (fedLine maxTank maxMinute)) (isMember i plan) (fedLine (tank r i) (minute r i)) []
-      (λ _. line-no-longer 0x46 0x46 (pos (tank r i) ∷ pos (minute r i) ∷ []) (pos maxTank ∷ pos maxMinute ∷ []) (natural-no-longer _ _ (c .tank-within), (natural-no-longer _ _ (c .minute-within), tt)))
+      cond-cases (λ x. length x ≤ length (fedLine maxTank (longDay - 1))) (isMember i plan) (fedLine (tank r i) (minute r i)) []
+      (λ _. line-no-longer 0x46 0x46 (pos (tank r i) ∷ pos (minute r i) ∷ []) (pos maxTank ∷ pos (longDay - 1) ∷ []) (natural-no-longer _ _ (c .tank-within), (natural-no-longer _ _ (last-minute i l), tt)))
       (λ _. omega arith))
       maxChoices (w .choices .few)
 

@@ -3,7 +3,7 @@ use Prim.Native.Nat.{ℕ, zero, suc, _+_, _*_, _<_}
 use native.Mathlib.Nat.{mul-one}
 use native.Mathlib.Omega.{arith}
 use mathlib.Core.Path.{_≡_, refl, sym, ap, ap₂, _∙_, subst}
-use mathlib.Core.Logic.{_↔_, inl, ⊎-elim}
+use mathlib.Core.Logic.{_↔_, inl, inr, ⊎-elim}
 use mathlib.Core.Bool.{Bool, true, false, cond, true≢false}
 use mathlib.Core.List.{List, [], _∷_, _++_}
 use lib.Dec.{ltb}
@@ -19,9 +19,8 @@ use Rattle.text.specs.Text.{line, Starts, HasLine}
 use Rattle.text.proofs.Unique.{line-without, texts, texts-append, texts-join, texts-one, texts-none, texts-determine}
 use Rattle.text.proofs.Standing.{starts-line, starts-join, stands-alone, stands-first, stands-second, stands-join, stands-among}
 use Rattle.register.specs.declared.Register.{Register}
-use Rattle.register.specs.Limits.{maxMinute}
 use Rattle.register.specs.Register.{tank, minute}
-use Rattle.register.specs.Valid.{Valid}
+use Rattle.register.specs.Valid.{Before, Valid}
 use Rattle.register.specs.Encoding as RE
 use Rattle.register.proofs.Accept.{encodes-determines}
 use Rattle.plan.specs.Encoding as PE
@@ -109,33 +108,37 @@ module _ (r r′ : Register) (e : choices r ≡ choices r′) where
       ∙ ap (λ x. getD x (i * 1 + 0) none) e
       ∙ getD-join (r′ .choices) 1 (λ i. choice r′ i ∷ []) (λ i. refl) i 0 none (omega (arith, count)) (omega arith)
 
--- ---- different choices are at different places of the order by tank, then minute
+-- ---- different choices differ in tank or minute: each comes before all later ones
+
+before-all : (c d e : ℕ × ℕ) → Before c d → Before d e → Before c e
+before-all c d e (inl a) (inl b) = inl (omega (arith, a, b))
+before-all c d e (inl a) (inr b) = inl (omega (arith, a, b .0))
+before-all c d e (inr a) (inl b) = inl (omega (arith, a .0, b))
+before-all c d e (inr a) (inr b) = inr (a .0 ∙ b .0, omega (arith, a .1, b .1))
+
+not-before : (c d : ℕ × ℕ) → c .0 ≡ d .0 → c .1 ≡ d .1 → Before c d → ⊥
+not-before c d t m (inl a) = omega (arith, t, a)
+not-before c d t m (inr a) = omega (arith, m, a .1)
 
 module _ (r : Register) (v : Valid r) where
-  abbrev place : ℕ → ℕ
-  place i = tank r i * (maxMinute + 1) + minute r i
+  abbrev at : ℕ → ℕ × ℕ
+  at i = (tank r i, minute r i)
 
-  next : (i : ℕ) → suc i < r .choices → place i < place (suc i)
-  next i l =
-      ⊎-elim
-      (λ (h : tank r i < tank r (suc i)). omega (arith, v .within .choices .each i (omega arith) .minute-within))
-      (λ h. omega (arith, h .0, h .1))
-      (v .within .choices .rise i l)
-
-  rises : (j i : ℕ) → i < j → j < r .choices → place i < place j
+  rises : (j i : ℕ) → i < j → j < r .choices → Before (at i) (at j)
   rises zero i l h = absurd (omega arith)
   rises (suc j) i l h =
+      let next = v .within .choices .rise j h in
       ⊎-elim
-      (λ (k : i < j). omega (arith, rises j i k (omega arith), next j h))
-      (λ (k : i ≡ j). rw k (next j h))
+      (λ (k : i < j). before-all (at i) (at j) (at (suc j)) (rises j i k (omega arith)) next)
+      (λ (k : i ≡ j). rw k next)
       (below-or-last i j l)
 
   one-choice : (i j : ℕ) → i < r .choices → j < r .choices → tank r i ≡ tank r j → minute r i ≡ minute r j → i ≡ j
   one-choice i j l h t m =
       flag (ltb i j)
-      (λ a. absurd (omega (arith, rises j i (ltb-true i j a) h)))
+      (λ a. absurd (not-before (at i) (at j) t m (rises j i (ltb-true i j a) h)))
       (λ a. flag (ltb j i)
-      (λ b. absurd (omega (arith, rises i j (ltb-true j i b) l)))
+      (λ b. absurd (not-before (at j) (at i) (sym t) (sym m) (rises i j (ltb-true j i b) l)))
       (λ b. omega (arith, ltb-false i j a, ltb-false j i b)))
 
 -- ---- the fed choices of equal `F` lines

@@ -12,11 +12,11 @@ use lib.IntN.{ℤ, pos, natAbs}
 use Rattle.integers.specs.Lists.{Column}
 use Rattle.integers.proofs.Entries.{each-more, kept-set, column-none, column-empty, column-more, column-less, set-back, table-none, table-more, table-less}
 use Rattle.register.specs.declared.Register.{Register}
-use Rattle.register.specs.Limits.{maxChoices, maxTerms, maxWindows, maxBase, usualDay}
+use Rattle.register.specs.Limits.{maxChoices, maxTerms, maxWindows, maxBase, usualDay, longDay}
 use Rattle.register.specs.Register.{tank, minute, mask, coefficient, windowTank, windowFrom, windowTo, fresh, setBase, setLength, setChoices, setTerms, setWindows, withBase, withLength, withChoice, withTerm, withWindow}
 use Rattle.register.specs.Answer.{NoFall}
 use Rattle.register.specs.Valid.{DayLength, Within, Choices, Terms, Windows, MayFeed, windowAt}
-use Rattle.register.proofs.Passes.{NextChoice, NextTerm, NextWindow}
+use Rattle.register.proofs.Passes.{NextChoice, NextTerm, NextWindow, length-within}
 
 pub fresh-within : Within fresh
 unfolding fresh
@@ -35,6 +35,10 @@ fresh-within = record {
   windows = table-none maxWindows _ _ _;
   may-feed = λ i l. absurd (omega arith);
 }
+
+-- no day is longer than the longest
+pub day-within : (r : Register) → Within r → r .«day_length» ≤ longDay
+day-within r w = ⊎-elim (λ z. omega (arith, z)) length-within (w .day)
 
 -- ---- a register with other values of one group stays within its limits, and is the same where they are
 

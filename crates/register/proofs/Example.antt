@@ -4,6 +4,7 @@ use Prim.Native.Nat.{ℕ}
 use lib.IntN.{pos, negsuc}
 use lib.ListN.{replicate}
 use Rattle.register.specs.declared.Register.{Register}
+use Rattle.register.specs.Limits.{usualDay}
 
 abbrev pub registerBytes : List ℕ
 registerBytes =
@@ -17,7 +18,7 @@ registerBytes =
 abbrev pub exampleRegister : Register
 exampleRegister = record {
   base = pos 10;
-  «day_length» = 1_440;
+  «day_length» = usualDay;
   choices = 3;
   terms = 3;
   tanks = 4 ∷ 4 ∷ 7 ∷ replicate 29 0;
