@@ -11,7 +11,7 @@ import sys
 
 sys.dont_write_bytecode = True
 
-from job_text import COMMANDS, SQUARE, operands, size
+from job_text import COMMANDS, DAYS, SQUARE, USUAL_DAY, operands, size
 
 
 class Refused(Exception):
@@ -40,18 +40,23 @@ class Job:
     def register(self):
         _, v = self.take(0x10)
         self.need(abs(v["cost"]) <= 1_000_000_000, 4)
-        self.base, self.windows, self.choices, self.terms = v["cost"], [], [], []
+        self.base, self.day, self.windows, self.choices, self.terms = v["cost"], USUAL_DAY, [], [], []
+        after_base = [0x18]  # what may stand only directly after `10`
         while True:
-            byte, v = self.take(0x12, 0x1F, *([] if self.terms else [0x11]), *([] if self.choices else [0x13]))
-            if byte == 0x13:
+            byte, v = self.take(0x12, 0x1F, *after_base, *([] if self.terms else [0x11]), *([] if self.choices else [0x13]))
+            after_base = []
+            if byte == 0x18:
+                self.need(v["length"] in DAYS, 4)
+                self.day = v["length"]
+            elif byte == 0x13:
                 self.need(len(self.windows) < 64, 3)
-                self.need(1 <= v["tank"] <= 9_999 and v["from"] <= 1_439 and 1 <= v["to"] <= 1_440, 4)
+                self.need(1 <= v["tank"] <= 9_999 and v["from"] < self.day and 1 <= v["to"] <= self.day, 4)
                 self.need(v["from"] < v["to"], 6)
                 self.need(not self.windows or self.windows[-1][:2] < (v["tank"], v["from"]), 7)
                 self.windows.append((v["tank"], v["from"], v["to"]))
             elif byte == 0x11:
                 self.need(len(self.choices) < 32, 3)
-                self.need(1 <= v["tank"] <= 9_999 and v["minute"] <= 1_439, 4)
+                self.need(1 <= v["tank"] <= 9_999 and v["minute"] < self.day, 4)
                 choice = v["tank"], v["minute"]
                 self.need(not self.choices or self.choices[-1] < choice, 7)
                 windows = [range(start, end) for tank, start, end in self.windows if tank == v["tank"]]

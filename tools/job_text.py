@@ -8,11 +8,16 @@
 A line is a command: position, part, command byte, name, operands, and in parentheses what they mean. `make` looks only at the
 command byte and the operands, so positions need not be mended after a change, and in lines written by hand `-` may stand in their
 place; it passes over empty lines and lines that begin with `#`. A square's entries are c for the constant and z0 to z63 for the
-variables; those that are 0 are left out.
+variables; those that are 0 are left out. A time is hours and minutes since the day began, 24:59 for the last minute of a day of 25
+hours; it is left out where the minute is not one of the day, whose length is that of the `18` directly after `10`, or the usual one.
 From the first byte that is no command, or begins a command that is cut off, or stands after the plan, the bytes are shown as
 they are, after `raw`. `register` looks only for the end of part 1, not whether what stands before it is right.
 """
 import sys
+
+# the lengths that a day may have, in minutes: where the clocks go forward, as usual, where they go back
+SHORT_DAY, USUAL_DAY, LONG_DAY = 1_380, 1_440, 1_500
+DAYS = SHORT_DAY, USUAL_DAY, LONG_DAY
 
 # command byte: part, name, operands; an operand is a name, a width in bytes and whether it is signed
 U8, U16, U32, I16, I32, I64 = (1, False), (2, False), (4, False), (2, True), (4, True), (8, True)
@@ -22,6 +27,7 @@ COMMANDS = {
     0x11: (1, "choice", [("tank", U16), ("minute", U16)]),
     0x12: (1, "term", [("mask", U32), ("coefficient", I32)]),
     0x13: (1, "window", [("tank", U16), ("from", U16), ("to", U16)]),
+    0x18: (1, "day", [("length", U16)]),
     0x1F: (1, "end", []),
     0x21: (2, "product", [("l", U8), ("r", U8)]),
     0x22: (2, "split", [("l", U8), ("r", U8)]),
@@ -73,7 +79,8 @@ def choices_of(mask):
     return "choices " + " ".join(str(i) for i in range(32) if mask >> i & 1) if mask else "no choice"
 
 
-def clock(minute):
+def time_of(minute):
+    """Hours and minutes since the day began. Where the clocks change it is not what they show."""
     return f"{minute // 60:02}:{minute % 60:02}"
 
 
@@ -82,10 +89,11 @@ def product_of(l, r):
 
 
 class Meaning:
-    """What the commands so far have named: the windows, the sets of the variables, the operands of the products, how many terms and
-    splits."""
+    """What the commands so far have named: the day's length, 0 where it is none of those that a day may have, the windows, the sets of
+    the variables, the operands of the products, how many terms and splits; and the last command."""
 
     def __init__(self):
+        self.last, self.day = None, USUAL_DAY
         self.windows, self.sets, self.products, self.terms, self.splits = [], [], {}, 0, 0
 
     def outside(self, tank, minute):
@@ -115,9 +123,10 @@ class Meaning:
 
     def after(self, byte, v):
         """What a command means, and what it adds to what is named."""
+        before, self.last = self.last, byte
         if byte == 0x11:
             self.sets.append(1 << len(self.sets))
-            time = f", {clock(v['minute'])}" if v["minute"] < 1_440 else ""
+            time = f", {time_of(v['minute'])}" if v["minute"] < self.day else ""
             outside = ", in no window of its tank" if self.outside(v["tank"], v["minute"]) else ""
             return f"choice {len(self.sets) - 1}{time}{outside}"
         if byte == 0x12:
@@ -125,8 +134,11 @@ class Meaning:
             return f"term {self.terms - 1}: {choices_of(v['mask'])}"
         if byte == 0x13:
             self.windows.append((v["tank"], v["from"], v["to"]))
-            times = f", {clock(v['from'])} to {clock(v['to'])}" if v["from"] < v["to"] <= 1_440 else ""
+            times = f", {time_of(v['from'])} to {time_of(v['to'])}" if v["from"] < v["to"] <= self.day else ""
             return f"window {len(self.windows) - 1}{times}"
+        if byte == 0x18 and before == 0x10:
+            self.day = v["length"] if v["length"] in DAYS else 0
+            return f"{self.day // 60} hours" if self.day else ""
         if byte == 0x21:
             k = len(self.sets)
             self.products[k] = v["l"], v["r"]
