@@ -1,6 +1,7 @@
 // Times `feedcheck_register` on a full register of 32 choices and 256 terms: without windows; with two windows for each of the 32
-// tanks that the choices have; and with 64 windows of the one tank that all choices have. A choice is in the last window of its
-// tank and in no other, so that all windows of the tank are looked at.
+// tanks that the choices have, on a day whose length is not said and on a long day; and with 64 windows of the one tank that all
+// choices have. A choice is in the last window of its tank, which goes to the end of the day, and in no other, so that all
+// windows of the tank are looked at.
 #include <stdio.h>
 #include <time.h>
 
@@ -8,7 +9,7 @@
 
 enum { CHOICES = FEEDCHECK_MAX_CHOICES, TERMS = FEEDCHECK_MAX_TERMS, WINDOWS = FEEDCHECK_MAX_WINDOWS, ROUNDS = 200000 };
 
-typedef enum { NONE, TWO_EACH, ONE_TANK } Shape;
+typedef enum { NONE, TWO_EACH, TWO_EACH_LONG, ONE_TANK } Shape;
 
 static size_t put(uint8_t *to, uint32_t value, size_t width) {
     for (size_t i = 0; i < width; i++)
@@ -29,20 +30,22 @@ static size_t put_window(uint8_t *to, uint32_t tank, uint32_t first, uint32_t af
 static uint32_t minute(uint32_t i) { return WINDOWS + 10 * i; }
 
 static size_t put_windows(uint8_t *to, Shape shape) {
+    uint32_t day = shape == TWO_EACH_LONG ? FEEDCHECK_LONG_DAY : FEEDCHECK_USUAL_DAY;
     size_t at = 0;
     switch (shape) {
     case NONE:
         break;
     case TWO_EACH:
+    case TWO_EACH_LONG:
         for (uint32_t i = 0; i < CHOICES; i++) {
             at += put_window(to + at, 1 + i, 0, minute(i));
-            at += put_window(to + at, 1 + i, minute(i), 1440);
+            at += put_window(to + at, 1 + i, minute(i), day);
         }
         break;
     case ONE_TANK:
         for (uint32_t w = 0; w < WINDOWS - 1; w++)
             at += put_window(to + at, 1, w, w + 1);
-        at += put_window(to + at, 1, WINDOWS - 1, 1440);
+        at += put_window(to + at, 1, WINDOWS - 1, day);
         break;
     }
     return at;
@@ -52,6 +55,10 @@ static size_t full(uint8_t *to, Shape shape) {
     size_t at = 0;
     to[at++] = 0x10;
     at += put(to + at, 7, 4);
+    if (shape == TWO_EACH_LONG) {
+        to[at++] = 0x18;
+        at += put(to + at, FEEDCHECK_LONG_DAY, 2);
+    }
     at += put_windows(to + at, shape);
     for (uint32_t i = 0; i < CHOICES; i++) {
         to[at++] = 0x11;
@@ -87,6 +94,7 @@ static void run(const char *name, Shape shape) {
 int main(void) {
     run("no windows", NONE);
     run("two windows for each tank", TWO_EACH);
+    run("two windows for each tank, long day", TWO_EACH_LONG);
     run("all windows of one tank", ONE_TANK);
     return 0;
 }

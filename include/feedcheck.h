@@ -25,18 +25,23 @@ enum {
     FEEDCHECK_MAX_TERMS = 256,
     FEEDCHECK_MAX_WINDOWS = 64,
     FEEDCHECK_MAX_PRODUCTS = 32,
+    FEEDCHECK_SHORT_DAY = 1380,     /* the lengths of a day in minutes: when the clocks go forward, */
+    FEEDCHECK_USUAL_DAY = 1440,     /* when they are left alone, and where a register says no length, */
+    FEEDCHECK_LONG_DAY = 1500,      /* when they go back */
     FEEDCHECK_TABLE_NUMBERS = 4225, /* numbers of a working table */
     FEEDCHECK_MAX_BUILT = 865,      /* a buffer of so many bytes is enough for every scheme that is built */
     FEEDCHECK_MAX_PLAIN = 1294,     /* for every certificate of our own */
     FEEDCHECK_MAX_LISTING = 4096,   /* for every listing */
-    FEEDCHECK_MAX_JOB = 25754,      /* no job of more bytes is accepted */
-    FEEDCHECK_MAX_JOB_READ = 25883  /* a longer job is answered as its first so many bytes are */
+    FEEDCHECK_MAX_JOB = 25757,      /* no job of more bytes is accepted */
+    FEEDCHECK_MAX_JOB_READ = 25886  /* a longer job is answered as its first so many bytes are */
 };
 
-/* Window number w is of the tank window_tanks[w]: window_froms[w] is its first minute, window_tos[w] the first minute after it.
+/* day_length is FEEDCHECK_SHORT_DAY, FEEDCHECK_USUAL_DAY or FEEDCHECK_LONG_DAY, and 0 on a refusal; every minute is below it.
+ * Window number w is of the tank window_tanks[w]: window_froms[w] is its first minute, window_tos[w] the first minute after it.
  * Where a tank has no window, every minute is allowed. Entries past the counts are 0. */
 typedef struct {
     int32_t base;
+    uint16_t day_length;
     size_t choices, terms;
     uint16_t tanks[FEEDCHECK_MAX_CHOICES], minutes[FEEDCHECK_MAX_CHOICES];
     uint32_t masks[FEEDCHECK_MAX_TERMS];

@@ -21,6 +21,15 @@ pub const MAX_TERMS: usize = 256;
 /// The most windows of a register.
 pub const MAX_WINDOWS: usize = 64;
 
+/// The minutes of the day on which the clocks go forward.
+pub const SHORT_DAY: u16 = 1_380;
+
+/// The minutes of a day on which the clocks are left alone, and of a register's day where it says no length.
+pub const USUAL_DAY: u16 = 1_440;
+
+/// The minutes of the day on which the clocks go back.
+pub const LONG_DAY: u16 = 1_500;
+
 /// The most products of a scheme.
 pub const MAX_PRODUCTS: usize = 32;
 
@@ -37,10 +46,10 @@ pub const MAX_PLAIN: usize = 1_294;
 pub const MAX_LISTING: usize = 4_096;
 
 /// No job of more bytes is accepted.
-pub const MAX_JOB: usize = 25_754;
+pub const MAX_JOB: usize = 25_757;
 
 /// A longer job is answered as its first so many bytes are.
-pub const MAX_JOB_READ: usize = 25_883;
+pub const MAX_JOB_READ: usize = 25_886;
 
 /// A refusal: its number in the table of docs/REFUSALS.md, the part (1 register, 2 scheme, 3 certificate, 4 plan) and the
 /// position of the command that is refused; part and position are 0 where no command causes it.

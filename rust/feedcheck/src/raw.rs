@@ -4,13 +4,14 @@
 
 use crate::{MAX_CHOICES, MAX_PRODUCTS, MAX_TERMS, MAX_WINDOWS};
 
-/// The record of a register. Window number w is of the tank window_tanks[w]: window_froms[w] is its first minute, window_tos[w]
-/// the first minute after it. Where a tank has no window, every minute is allowed. Entries past the counts
-/// are 0.
+/// The record of a register. Its day_length is SHORT_DAY, USUAL_DAY or LONG_DAY, and 0 on a refusal; every minute is below it.
+/// Window number w is of the tank window_tanks[w]: window_froms[w] is its first minute, window_tos[w] the first minute after it.
+/// Where a tank has no window, every minute is allowed. Entries past the counts are 0.
 #[derive(Clone, Copy, Debug, PartialEq, Eq)]
 #[repr(C)]
 pub struct Register {
     pub base: i32,
+    pub day_length: u16,
     pub choices: usize,
     pub terms: usize,
     pub tanks: [u16; MAX_CHOICES],

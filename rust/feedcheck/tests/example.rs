@@ -14,7 +14,8 @@ const PLAN: [u8; 5] = [0x40, 3, 0, 0, 0];
 #[test]
 fn register() {
     let register = feedcheck::register(&REGISTER).unwrap();
-    assert_eq!((register.base, register.choices, register.terms), (10, 3, 3));
+    assert_eq!((register.base, register.day_length), (10, feedcheck::USUAL_DAY));
+    assert_eq!((register.choices, register.terms), (3, 3));
     assert_eq!(register.tanks[..4], [4, 4, 7, 0]);
     assert_eq!(register.minutes[..4], [480, 720, 480, 0]);
     assert_eq!(register.masks[..4], [1, 2, 7, 0]);

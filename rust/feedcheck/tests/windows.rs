@@ -30,7 +30,7 @@ fn accepted() {
     assert_eq!(register.minutes[..4], [480, 720, 480, 0]);
     assert_eq!(register.window_tanks[..3], [4, 4, 9]);
     assert_eq!(register.window_froms[..3], [480, 650, 0]);
-    assert_eq!(register.window_tos[..3], [600, 721, 1440]);
+    assert_eq!(register.window_tos[..3], [600, 721, feedcheck::USUAL_DAY]);
     for past in [&register.window_tanks[3..], &register.window_froms[3..], &register.window_tos[3..]] {
         assert_eq!(past, [0; 61]);
     }
@@ -58,7 +58,7 @@ fn outside_the_windows() {
 
 #[test]
 fn window_refused() {
-    // "to" 1,441; "from" and "to" both 480; the second window begins at 480 as the first does.
+    // "to" 1,441, a minute more than the day has; "from" and "to" both 480; the second window begins at 480 as the first does.
     assert_eq!(refused(&with(&[(24, 0xA1)])), (4, 1, 19));
     assert_eq!(refused(&with(&[(10, 0xE0), (11, 1)])), (6, 1, 5));
     assert_eq!(refused(&with(&[(15, 0xE0), (16, 1)])), (7, 1, 12));
@@ -66,12 +66,12 @@ fn window_refused() {
     assert_eq!(refused(&[&REGISTER[..41], &REGISTER[19..]].concat()), (1, 1, 41));
 }
 
-/// A register of windows 1,000 + w to 1,440, all of tank 9,999, and of one choice of that tank in the last minute.
+/// A register of windows 1,000 + w to the day's end, all of tank 9,999, and of one choice of that tank in the last minute.
 fn many(windows: u16) -> Vec<u8> {
     let mut bytes = vec![0x10, 0, 0, 0, 0];
     for w in 0..windows {
         bytes.push(0x13);
-        for number in [9_999, 1_000 + w, 1_440] {
+        for number in [9_999, 1_000 + w, feedcheck::USUAL_DAY] {
             bytes.extend(number.to_le_bytes());
         }
     }
@@ -85,7 +85,7 @@ fn limit() {
     assert_eq!((register.windows, register.choices), (feedcheck::MAX_WINDOWS, 1));
     for w in 0..feedcheck::MAX_WINDOWS {
         let window = (register.window_tanks[w], register.window_froms[w], register.window_tos[w]);
-        assert_eq!(window, (9_999, 1_000 + w as u16, 1_440));
+        assert_eq!(window, (9_999, 1_000 + w as u16, feedcheck::USUAL_DAY));
     }
     assert_eq!(refused(&many(65)), (3, 1, 5 + 64 * 7));
 }
