@@ -4,7 +4,7 @@ use crate::generate;
 use crate::random::Random;
 use crate::timing::{self, Parts};
 use reference::certificate::{self, Certificate, Square, ENTRIES, MAX_SQUARES};
-use reference::register::{self, Choice, Register, Term, MAX_CHOICES};
+use reference::register::{self, Choice, Register, Term, MAX_CHOICES, USUAL_DAY};
 use reference::scheme::{self, Scheme, MAX_PRODUCTS};
 
 /// The heading of the times.
@@ -48,6 +48,7 @@ fn register_and_scheme(random: &mut Random) -> (Register, Scheme) {
     let mut term = |mask| Term { mask, coefficient: random.within(1, 1_000_000) as i32, position: 0 };
     let register = Register {
         base: 0,
+        day_length: USUAL_DAY,
         windows: Vec::new(),
         choices: (1..=MAX_CHOICES as u16).map(|tank| Choice { tank, minute: 0 }).collect(),
         terms: sets.iter().map(|&(mask, _)| term(mask)).collect(),

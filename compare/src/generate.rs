@@ -2,7 +2,9 @@
 
 use crate::random::Random;
 use reference::certificate::{self, Certificate, Multiplier, Square};
-use reference::register::{Choice, Register, Term, Window, MAX_CHOICES, MAX_MINUTE, MAX_TERMS, MAX_TO, MAX_WINDOWS};
+use reference::register::{
+    Choice, Register, Term, Window, DAY_LENGTHS, LONG_DAY, MAX_CHOICES, MAX_TERMS, MAX_WINDOWS, SHORT_DAY, USUAL_DAY,
+};
 use reference::scheme::{Scheme, MAX_PRODUCTS};
 use reference::{builder, plain};
 use std::collections::BTreeMap;
@@ -31,7 +33,7 @@ pub enum Size {
 }
 
 pub fn input(random: &mut Random, seeds: &[Whole]) -> Input {
-    let whole = if !seeds.is_empty() && random.chance(3) {
+    let mut whole = if !seeds.is_empty() && random.chance(3) {
         seeds[random.below(seeds.len())].clone()
     } else {
         let size = random.pick(&[
@@ -46,6 +48,11 @@ pub fn input(random: &mut Random, seeds: &[Whole]) -> Input {
         ]);
         whole(random, size)
     };
+    // The usual length may be said too.
+    let commands = &mut whole.parts[0];
+    if commands.iter().all(|command| command[0] != 0x18) && random.chance(30) {
+        commands.insert(1, day_command(USUAL_DAY));
+    }
     damaged(random, whole)
 }
 
@@ -53,7 +60,12 @@ pub fn input(random: &mut Random, seeds: &[Whole]) -> Input {
 pub fn whole(random: &mut Random, size: Size) -> Whole {
     let (mut register, scheme) =
         if size != Size::Full && random.chance(40) { built(random, size) } else { products_first(random, size) };
-    register.windows = windows(random, &register.choices);
+    let length = random.pick(&[SHORT_DAY, USUAL_DAY, USUAL_DAY, LONG_DAY]);
+    // Choices up to the end of the day, or up to the first minute that a shorter day doesn't have.
+    let end = random.pick(&[length, length, SHORT_DAY + 1, USUAL_DAY + 1]).min(length);
+    register.day_length = length;
+    register.choices = choices(random, register.choices.len(), end);
+    register.windows = windows(random, &register);
     let certificate = any_certificate(random, size, &register, &scheme);
     let plan = random.next() as u32 & register.all();
     Whole {
@@ -94,13 +106,14 @@ fn choice_count(random: &mut Random, size: Size) -> usize {
     }
 }
 
-fn choices(random: &mut Random, count: usize) -> Vec<Choice> {
+/// Choices at minutes before `end`.
+fn choices(random: &mut Random, count: usize, end: u16) -> Vec<Choice> {
     let mut all: Vec<(u16, u16)> = Vec::new();
     let one_tank = random.chance(20);
     while all.len() < count {
-        let (any_tank, any_minute) = (1 + random.below(9_999) as u16, random.below(1_440) as u16);
+        let (any_tank, any_minute) = (1 + random.below(9_999) as u16, random.below(end as usize) as u16);
         let tank = if one_tank { 1 } else { random.pick(&[1, 2, 3, 9_998, 9_999, any_tank]) };
-        let minute = random.pick(&[0, 1, 1_438, 1_439, any_minute, any_minute]);
+        let minute = random.pick(&[0, 1, end - 2, end - 1, any_minute, any_minute]);
         if !all.contains(&(tank, minute)) {
             all.push((tank, minute));
         }
@@ -110,7 +123,8 @@ fn choices(random: &mut Random, count: usize) -> Vec<Choice> {
 }
 
 /// Windows of some of the tanks that have choices, each choice of theirs inside one, and of tanks that have none.
-fn windows(random: &mut Random, choices: &[Choice]) -> Vec<Window> {
+fn windows(random: &mut Random, register: &Register) -> Vec<Window> {
+    let (choices, length) = (&register.choices, register.day_length);
     let wanted = match random.below(10) {
         0..=3 => return Vec::new(),
         4..=6 => 1 + random.below(6),
@@ -129,11 +143,11 @@ fn windows(random: &mut Random, choices: &[Choice]) -> Vec<Window> {
             let before = random.below(minute as usize + 1) as u16;
             let from = random.pick(&[minute, minute, 0, before]);
             let to = found.entry((tank, from)).or_insert(0);
-            *to = (*to).max(later(random, minute));
+            *to = (*to).max(later(random, minute, length));
         }
     }
     while found.len() < wanted {
-        let (any_tank, any_minute) = (1 + random.below(9_999) as u16, random.below(1_440) as u16);
+        let (any_tank, any_minute) = (1 + random.below(9_999) as u16, random.below(length as usize) as u16);
         let tank = if !tanks.is_empty() && random.chance(60) {
             random.pick(&tanks)
         } else {
@@ -145,19 +159,23 @@ fn windows(random: &mut Random, choices: &[Choice]) -> Vec<Window> {
         }
         // It touches a window before it, begins inside that one, or stands anywhere.
         let from = match found.range((tank, 0)..(tank, any_minute)).next_back() {
-            Some((_, &to)) if to <= MAX_MINUTE && random.chance(30) => to,
+            Some((_, &to)) if to < length && random.chance(30) => to,
             Some((&(_, from), &to)) if from + 1 < to && random.chance(30) => from + 1,
-            _ => random.pick(&[0, 1, MAX_MINUTE - 1, MAX_MINUTE, any_minute, any_minute]),
+            _ => {
+                let shorter = random.pick(&[SHORT_DAY, USUAL_DAY]).min(length - 1);
+                random.pick(&[0, 1, length - 2, length - 1, shorter, any_minute, any_minute])
+            }
         };
-        found.entry((tank, from)).or_insert(later(random, from));
+        found.entry((tank, from)).or_insert(later(random, from, length));
     }
     found.into_iter().map(|((tank, from), to)| Window { tank, from, to }).collect()
 }
 
-/// A "to" after the minute: the least, the greatest, or any.
-fn later(random: &mut Random, minute: u16) -> u16 {
-    let any = random.within(minute as i64 + 1, MAX_TO as i64) as u16;
-    random.pick(&[minute + 1, minute + 1, MAX_TO, any])
+/// A "to" after the minute: the least, the greatest, the end of a shorter day, or any.
+fn later(random: &mut Random, minute: u16, length: u16) -> u16 {
+    let any = random.within(minute as i64 + 1, length as i64) as u16;
+    let shorter = random.pick(&[SHORT_DAY, USUAL_DAY]).clamp(minute + 1, length);
+    random.pick(&[minute + 1, minute + 1, length, shorter, any])
 }
 
 fn coefficient(random: &mut Random) -> i32 {
@@ -191,7 +209,7 @@ fn base(random: &mut Random) -> i32 {
     random.pick(&[0, 10, -10, 1_000_000_000, -1_000_000_000, any])
 }
 
-/// A register of masks, each once, in any order; without windows.
+/// A register of masks, each once, in any order; on a day of the usual length, without windows.
 fn register_of(random: &mut Random, choice_count: usize, mut masks: Vec<u32>) -> Register {
     masks.sort();
     masks.dedup();
@@ -200,8 +218,9 @@ fn register_of(random: &mut Random, choice_count: usize, mut masks: Vec<u32>) ->
     let term = |(mask, coefficient)| Term { mask, coefficient, position: 0 };
     Register {
         base: base(random),
+        day_length: USUAL_DAY,
         windows: Vec::new(),
-        choices: choices(random, choice_count),
+        choices: choices(random, choice_count, USUAL_DAY),
         terms: masks.into_iter().zip(coefficients).map(term).collect(),
     }
 }
@@ -451,8 +470,12 @@ fn command(byte: u8, operands: &[&[u8]]) -> Vec<u8> {
     bytes
 }
 
+/// The commands of a register; the usual length of the day is not said.
 pub fn register_commands(register: &Register) -> Vec<Vec<u8>> {
     let mut commands = vec![command(0x10, &[&register.base.to_le_bytes()])];
+    if register.day_length != USUAL_DAY {
+        commands.push(day_command(register.day_length));
+    }
     for window in &register.windows {
         commands.push(window_command(window));
     }
@@ -464,6 +487,10 @@ pub fn register_commands(register: &Register) -> Vec<Vec<u8>> {
     }
     commands.push(vec![0x1F]);
     commands
+}
+
+fn day_command(length: u16) -> Vec<u8> {
+    command(0x18, &[&length.to_le_bytes()])
 }
 
 fn choice_command(choice: &Choice) -> Vec<u8> {
@@ -517,6 +544,7 @@ fn widths(byte: u8) -> Vec<usize> {
         0x11 => vec![2, 2],
         0x12 => vec![4, 4],
         0x13 => vec![2, 2, 2],
+        0x18 => vec![2],
         0x21 | 0x22 => vec![1, 1],
         0x30 => vec![4, 8],
         0x31 | 0x35..=0x39 => vec![1, 8],
@@ -528,9 +556,9 @@ fn widths(byte: u8) -> Vec<usize> {
     }
 }
 
-const COMMANDS: [u8; 22] = [
-    0x10, 0x11, 0x12, 0x13, 0x1F, 0x21, 0x22, 0x2F, 0x30, 0x31, 0x32, 0x33, 0x34, 0x35, 0x36, 0x37, 0x38, 0x39, 0x3A, 0x3F, 0x40,
-    0x00,
+const COMMANDS: [u8; 23] = [
+    0x10, 0x11, 0x12, 0x13, 0x18, 0x1F, 0x21, 0x22, 0x2F, 0x30, 0x31, 0x32, 0x33, 0x34, 0x35, 0x36, 0x37, 0x38, 0x39, 0x3A, 0x3F,
+    0x40, 0x00,
 ];
 
 // Damage.
@@ -571,6 +599,9 @@ fn damage_commands(random: &mut Random, whole: &mut Whole, part: usize) {
     }
     if commands.iter().any(|command| command.first() == Some(&0x13)) && random.chance(40) {
         return damage_windows(random, commands);
+    }
+    if part == 0 && random.chance(20) {
+        return damage_day(random, commands);
     }
     let at = random.below(commands.len());
     match random.below(14) {
@@ -634,10 +665,11 @@ fn damage_commands(random: &mut Random, whole: &mut Whole, part: usize) {
             let kind = random.pick(&kinds);
             let last = commands.iter().rposition(|command| command[0] == kind).unwrap();
             let mut more = commands[last].clone();
+            let length = length_of(commands);
             match more[0] {
-                0x11 => more[3..5].copy_from_slice(&1_439u16.to_le_bytes()),
+                0x11 => more[3..5].copy_from_slice(&(length - 1).to_le_bytes()),
                 0x12 => more[1..5].copy_from_slice(&(((1u64 << n) - 1) as u32).to_le_bytes()),
-                0x13 => more = window_command(&Window { tank: 9_999, from: MAX_MINUTE, to: MAX_TO }),
+                0x13 => more = window_command(&Window { tank: 9_999, from: length - 1, to: length }),
                 0x21 => more[1..3].copy_from_slice(&[random.below(all) as u8, all as u8 - 1]),
                 _ => {}
             }
@@ -652,10 +684,7 @@ fn damage_commands(random: &mut Random, whole: &mut Whole, part: usize) {
 
 /// Changes a window, or a choice, in one way that windows bear on.
 fn damage_windows(random: &mut Random, commands: &mut Vec<Vec<u8>>) {
-    let places = |byte, length| -> Vec<usize> {
-        (0..commands.len()).filter(|&at| commands[at][0] == byte && commands[at].len() == length).collect()
-    };
-    let (windows, choices) = (places(0x13, 7), places(0x11, 5));
+    let (windows, choices) = (places(commands, 0x13), places(commands, 0x11));
     if windows.is_empty() || choices.is_empty() {
         return;
     }
@@ -665,6 +694,7 @@ fn damage_windows(random: &mut Random, commands: &mut Vec<Vec<u8>>) {
         if pairs.is_empty() || random.chance(30) { (random.pick(&windows), random.pick(&choices)) } else { random.pick(&pairs) };
     let [tank, from, to] = [0, 1, 2].map(|i| operand(&commands[at], i));
     let [fed, minute] = [0, 1].map(|i| operand(&commands[choice], i));
+    let length = length_of(commands);
     let edge = random.pick(&[from.wrapping_sub(1), from, to.wrapping_sub(1), to]);
     match random.below(15) {
         // The choice at an end of the window, inside or just outside; or one more choice there, rising or not.
@@ -689,7 +719,7 @@ fn damage_windows(random: &mut Random, commands: &mut Vec<Vec<u8>>) {
         // One more window of the choice's tank, in its place: it ends before the choice, begins after it, or contains it.
         7 => {
             let next = minute.wrapping_add(1);
-            let (from, to) = random.pick(&[(0, minute), (next, MAX_TO), (minute, next)]);
+            let (from, to) = random.pick(&[(0, minute), (next, length), (minute, next)]);
             let after = windows.iter().find(|&&at| [0, 1].map(|i| operand(&commands[at], i)) > [fed, from]);
             let place = after.map_or(windows[windows.len() - 1] + 1, |&at| at);
             commands.insert(place, window_command(&Window { tank: fed, from, to }));
@@ -702,7 +732,7 @@ fn damage_windows(random: &mut Random, commands: &mut Vec<Vec<u8>>) {
         }
         // The same tank and "from" again.
         9 => {
-            let to = random.pick(&[to, to.wrapping_add(1), MAX_TO, from]);
+            let to = random.pick(&[to, to.wrapping_add(1), length, from]);
             commands.insert(at + random.below(2), window_command(&Window { tank, from, to }));
         }
         // Two windows exchanged, or one put anywhere.
@@ -714,22 +744,86 @@ fn damage_windows(random: &mut Random, commands: &mut Vec<Vec<u8>>) {
         // One number out of range, or two.
         11 => {
             for _ in 0..1 + random.below(2) {
-                let (i, value) = random.pick(&[(0, 0), (0, 10_000), (1, MAX_MINUTE + 1), (2, 0), (2, MAX_TO + 1)]);
+                let (i, value) = random.pick(&[(0, 0), (0, 10_000), (1, length), (2, 0), (2, length + 1)]);
                 set_operand(&mut commands[at], i, value);
             }
         }
         // Windows of the greatest tank up to the limit or past it, the last of them perhaps wrong in another way too.
         _ => {
             let count = (MAX_WINDOWS + random.below(2)).saturating_sub(windows.len()) as u16;
-            let froms = MAX_TO - count..MAX_TO;
-            let mut more: Vec<_> = froms.map(|from| window_command(&Window { tank: 9_999, from, to: MAX_TO })).collect();
+            let froms = length - count..length;
+            let mut more: Vec<_> = froms.map(|from| window_command(&Window { tank: 9_999, from, to: length })).collect();
             if let Some(last) = more.last_mut().filter(|_| random.chance(50)) {
-                set_operand(last, random.below(3), random.pick(&[0, 1, MAX_MINUTE, 10_000]));
+                set_operand(last, random.below(3), random.pick(&[0, 1, length - 1, 10_000]));
             }
             let end = windows[windows.len() - 1] + 1;
             commands.splice(end..end, more);
         }
     }
+}
+
+/// Changes the length of the day, the place of its command, what stands after it, or a minute that it bears on, in one way.
+fn damage_day(random: &mut Random, commands: &mut Vec<Vec<u8>>) {
+    let length = length_of(commands);
+    let (other, any) = (random.pick(&DAY_LENGTHS), random.next() as u16);
+    let near = random.pick(&[other - 1, other + 1]);
+    let wrong = random.pick(&[0, near, near, near, other ^ 0x100, other.swap_bytes(), u16::MAX, any]);
+    let day = day_command(random.pick(&[length, other, wrong]));
+    // Where `18` stands, or would.
+    let place = commands.iter().position(|command| command[0] == 0x18).map_or(1..1, |at| at..at + 1);
+    let kind = random.pick(&[0x10, 0x11, 0x12, 0x13, 0x1F]);
+    match random.below(13) {
+        // Of any length, whatever the minutes are; left out; twice.
+        0..=2 => drop(commands.splice(place, [day])),
+        3 => commands.retain(|command| command[0] != 0x18),
+        4 => drop(commands.splice(place, [day_command(length), day])),
+        // Elsewhere, once more or alone: first, after the last command of a kind, or anywhere. At times it is cut off there.
+        5..=7 => {
+            if random.chance(50) {
+                commands.retain(|command| command[0] != 0x18);
+            }
+            let anywhere = random.below(commands.len() + 1);
+            let after = commands.iter().rposition(|command| command[0] == kind).map_or(anywhere, |at| at + 1);
+            let at = random.pick(&[0, anywhere, after, after]);
+            commands.insert(at, day);
+            if random.chance(15) {
+                commands.truncate(at + 1);
+                commands[at].truncate(1 + random.below(2));
+            }
+        }
+        // Cut off in its place: the register ends there, or goes on.
+        8 => {
+            let end = if random.chance(70) { commands.len() } else { place.end };
+            commands.splice(place.start..end, [day[..1 + random.below(2)].to_vec()]);
+        }
+        // A command of the register stands directly after it once more.
+        9 => {
+            if let Some(command) = commands.iter().rfind(|command| command[0] == kind).cloned() {
+                commands.splice(place, [day_command(length), command]);
+            }
+        }
+        // A minute, a "from" or a "to" at the end of this day or of another.
+        _ => {
+            let (choices, windows) = (places(commands, 0x11), places(commands, 0x13));
+            let (of, i) = if windows.is_empty() || random.chance(50) { (choices, 1) } else { (windows, 1 + random.below(2)) };
+            if !of.is_empty() {
+                let value = random.pick(&[length, length, other]) + random.below(3) as u16 - 1;
+                set_operand(&mut commands[random.pick(&of)], i, value);
+            }
+        }
+    }
+}
+
+/// The length of the day that a register's commands say, the usual one where they say none that is right.
+fn length_of(commands: &[Vec<u8>]) -> u16 {
+    let said = places(commands, 0x18).first().map(|&at| operand(&commands[at], 0));
+    said.filter(|length| DAY_LENGTHS.contains(length)).unwrap_or(USUAL_DAY)
+}
+
+/// Where whole commands of this byte stand.
+fn places(commands: &[Vec<u8>], byte: u8) -> Vec<usize> {
+    let size = 1 + widths(byte).iter().sum::<usize>();
+    (0..commands.len()).filter(|&at| commands[at][0] == byte && commands[at].len() == size).collect()
 }
 
 /// Operand i of a command whose operands are u16.
@@ -751,7 +845,10 @@ fn notable_operand(random: &mut Random, command: &mut [u8], n: usize, all: usize
     let near = random.within(-1, 1);
     let value = match widths[which] {
         1 => random.pick(&[0, n as i64 - 1, n as i64, all as i64 - 1, all as i64, 63, 64, 255]),
-        2 => random.pick(&[0, 1, 9_999, 1_439, 1_440, 10_000, -10_000, 32_767, -32_768]) + near,
+        2 => {
+            let length = random.pick(&DAY_LENGTHS) as i64;
+            random.pick(&[0, 1, 9_999, length, length, 10_000, -10_000, 32_767, -32_768]) + near
+        }
         4 => random.pick(&[0, 1, 1 << (n - 1), 1 << n, 1_000_000, -1_000_000, 1_000_000_000, -1_000_000_000, 1 << 31]) + near,
         _ => {
             let limit = random.pick(&[0, 1_000_000_000_000, 4_000_000_000_000_000, i64::MAX - 1]);

@@ -4,11 +4,12 @@
 //!     compare [COUNT [SEED [FOLDER..]]]
 //!
 //! The folders have jobs, `*.job`, of which a part of the inputs is made. Exit status 1: a difference, or a refusal number that
-//! the scope gives a call or a command and that no input led to.
+//! the scope gives a call or a command and that no input led to, or a length of the day that no accepted register had.
 
 use compare::generate::{input, seed, Input, Whole};
 use compare::random::Random;
 use feedcheck::raw;
+use reference::register::{LONG_DAY, SHORT_DAY, USUAL_DAY};
 use reference::search::Found;
 use reference::{Answer, Refusal};
 use std::collections::BTreeMap;
@@ -31,11 +32,12 @@ const CALLS: [(&str, &[u8]); 10] = [
 const NUMBERS: usize = 15;
 
 /// Each command, by its part and byte, with the refusal numbers that the scope gives it there; 1 where it stands out of place.
-const COMMANDS: [(u8, u8, &[u8]); 21] = [
+const COMMANDS: [(u8, u8, &[u8]); 22] = [
     (1, 0x10, &[1, 2, 4]),
     (1, 0x11, &[1, 2, 3, 4, 7, 13]),
     (1, 0x12, &[1, 2, 3, 4, 5, 7]),
     (1, 0x13, &[1, 2, 3, 4, 6, 7]),
+    (1, 0x18, &[1, 2, 4]),
     (1, 0x1F, &[1, 3]),
     (2, 0x21, &[1, 2, 3, 5, 6, 8]),
     (2, 0x22, &[2, 3, 5, 6, 8]),
@@ -55,6 +57,9 @@ const COMMANDS: [(u8, u8, &[u8]); 21] = [
     (4, 0x40, &[2, 5]),
 ];
 
+/// The lengths of the day, and whether `18` says them.
+const DAYS: [(u16, bool); 4] = [(USUAL_DAY, false), (SHORT_DAY, true), (USUAL_DAY, true), (LONG_DAY, true)];
+
 /// Numbers or bytes on either side of what is lent.
 const MARGIN: usize = 16;
 
@@ -66,6 +71,8 @@ struct Comparison {
     numbers: BTreeMap<&'static str, [u64; NUMBERS]>,
     /// For each part and command byte, how often the check or the cost refused it with each number.
     commands: BTreeMap<(u8, Option<u8>), [u64; NUMBERS]>,
+    /// How many registers were accepted, by the length of the day and whether `18` says it.
+    days: BTreeMap<(u16, bool), u64>,
     /// What lent tables and buffers hold at first.
     contents: Vec<i64>,
 }
@@ -144,6 +151,9 @@ impl Comparison {
 
         let library = raw::register(part1);
         let answer = register_answer(reference::register(part1));
+        if answer.number == 0 {
+            *self.days.entry((answer.register.day_length, part1[5] == 0x18)).or_default() += 1;
+        }
         self.count_answer("register", answer.number, library == answer, input, || format!("{library:?} {answer:?}"));
 
         let library = raw::scheme(part1, part2);
@@ -294,7 +304,7 @@ impl Comparison {
         });
     }
 
-    /// Prints the counts; how many of the scope's refusal numbers no input led to.
+    /// Prints the counts; how many of the scope's refusal numbers and lengths of the day no input led to.
     fn report(&self) -> usize {
         let mut missing = 0;
         println!("{} inputs, each to every call; how often each number was answered (0: accepted)", self.inputs);
@@ -310,6 +320,12 @@ impl Comparison {
                 println!("{call}: refusal {number} did not occur");
                 missing += 1;
             }
+        }
+        println!("accepted registers by the length of the day");
+        for day in DAYS {
+            let count = self.days.get(&day).copied().unwrap_or_default();
+            println!("{} minutes, {}: {count}", day.0, if day.1 { "said by 18" } else { "not said" });
+            missing += (count == 0) as usize;
         }
         println!("commands refused by the check, and those of part 4 by the cost (--: no byte there, or bytes after the end)");
         for ((part, byte), numbers) in &self.commands {
@@ -352,6 +368,7 @@ fn written(answer: Answer<usize>) -> raw::WriterAnswer {
 fn register_answer(answer: Answer<reference::register::Register>) -> raw::RegisterAnswer {
     let mut record = raw::Register {
         base: 0,
+        day_length: 0,
         choices: 0,
         terms: 0,
         tanks: [0; 32],
@@ -366,6 +383,7 @@ fn register_answer(answer: Answer<reference::register::Register>) -> raw::Regist
     let refusal = answer.as_ref().err().copied().unwrap_or_default();
     if let Ok(register) = answer {
         record.base = register.base;
+        record.day_length = register.day_length;
         record.choices = register.choices.len();
         record.terms = register.terms.len();
         for (i, choice) in register.choices.iter().enumerate() {
@@ -422,7 +440,8 @@ fn main() {
     let mut random = Random(start);
     let contents = (0..5_000 + 2 * MARGIN).map(|_| random.next() as i64).collect();
     let numbers = CALLS.map(|(call, _)| (call, [0; NUMBERS])).into();
-    let mut comparison = Comparison { random, inputs: 0, differences: 0, numbers, commands: BTreeMap::new(), contents };
+    let (commands, days) = (BTreeMap::new(), BTreeMap::new());
+    let mut comparison = Comparison { random, inputs: 0, differences: 0, numbers, commands, days, contents };
     let mut random = Random(start ^ 0x5EED);
     for _ in 0..count {
         comparison.compare(&input(&mut random, &seeds));

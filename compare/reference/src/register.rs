@@ -7,9 +7,14 @@ pub const MAX_WINDOWS: usize = 64;
 pub const MAX_CHOICES: usize = 32;
 pub const MAX_TERMS: usize = 256;
 pub const TANKS: RangeInclusive<u16> = 1..=9_999;
-pub const MAX_MINUTE: u16 = 1_439;
-/// The greatest "to"; the last minute stands before it.
-pub const MAX_TO: u16 = MAX_MINUTE + 1;
+
+/// The minutes of the day on which the clocks go forward.
+pub const SHORT_DAY: u16 = 1_380;
+/// The minutes of a day on which the clocks are left alone.
+pub const USUAL_DAY: u16 = 1_440;
+/// The minutes of the day on which the clocks go back.
+pub const LONG_DAY: u16 = 1_500;
+pub const DAY_LENGTHS: [u16; 3] = [SHORT_DAY, USUAL_DAY, LONG_DAY];
 
 /// Minutes at which a tank may be fed: `from` and those after it, before `to`.
 #[derive(Clone, Copy, Debug, PartialEq, Eq)]
@@ -42,6 +47,8 @@ pub struct Term {
 #[derive(Clone, Debug, PartialEq, Eq)]
 pub struct Register {
     pub base: i32,
+    /// How many minutes the day has: every minute is below it, and a window's `to` at most it.
+    pub day_length: u16,
     pub windows: Vec<Window>,
     pub choices: Vec<Choice>,
     pub terms: Vec<Term>,
@@ -65,7 +72,8 @@ pub fn read(bytes: &[u8]) -> Read<Register> {
     let first = commands.next(|byte| (byte == 0x10).then_some(4))?;
     let base = first.i32(0);
     first.refuse(4, base.unsigned_abs() > 1_000_000_000)?;
-    let mut register = Register { base, windows: Vec::new(), choices: Vec::new(), terms: Vec::new() };
+    let mut register = Register { base, day_length: USUAL_DAY, windows: Vec::new(), choices: Vec::new(), terms: Vec::new() };
+    let mut previous = first.byte;
     loop {
         // Where there is no choice there is no term either: a mask names choices.
         let (no_choice_yet, no_term_yet) = (register.choices.is_empty(), register.terms.is_empty());
@@ -73,14 +81,16 @@ pub fn read(bytes: &[u8]) -> Read<Register> {
             0x11 if no_term_yet => Some(4),
             0x12 => Some(8),
             0x13 if no_choice_yet => Some(6),
+            0x18 if previous == 0x10 => Some(2),
             0x1F => Some(0),
             _ => None,
         })?;
+        previous = command.byte;
         match command.byte {
             0x11 => {
                 let (tank, minute) = (command.u16(0), command.u16(2));
                 command.refuse(3, register.choices.len() == MAX_CHOICES)?;
-                command.refuse(4, !TANKS.contains(&tank) || minute > MAX_MINUTE)?;
+                command.refuse(4, !TANKS.contains(&tank) || minute >= register.day_length)?;
                 command.refuse(7, register.choices.last().is_some_and(|last| (last.tank, last.minute) >= (tank, minute)))?;
                 command.refuse(13, !register.may_feed(tank, minute))?;
                 register.choices.push(Choice { tank, minute });
@@ -95,11 +105,17 @@ pub fn read(bytes: &[u8]) -> Read<Register> {
             }
             0x13 => {
                 let (tank, from, to) = (command.u16(0), command.u16(2), command.u16(4));
+                let length = register.day_length;
                 command.refuse(3, register.windows.len() == MAX_WINDOWS)?;
-                command.refuse(4, !TANKS.contains(&tank) || from > MAX_MINUTE || !(1..=MAX_TO).contains(&to))?;
+                command.refuse(4, !TANKS.contains(&tank) || from >= length || !(1..=length).contains(&to))?;
                 command.refuse(6, from >= to)?;
                 command.refuse(7, register.windows.last().is_some_and(|last| (last.tank, last.from) >= (tank, from)))?;
                 register.windows.push(Window { tank, from, to });
+            }
+            0x18 => {
+                let length = command.u16(0);
+                command.refuse(4, !DAY_LENGTHS.contains(&length))?;
+                register.day_length = length;
             }
             _ => {
                 command.refuse(3, register.choices.is_empty())?;

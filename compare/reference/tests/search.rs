@@ -6,7 +6,7 @@ mod random;
 
 use random::Random;
 use reference::plan;
-use reference::register::{Choice, Register, Term, MAX_CHOICES};
+use reference::register::{Choice, Register, Term, MAX_CHOICES, USUAL_DAY};
 use reference::search::{search, word_for_word};
 
 /// A register of n choices and at most so many terms. Most have many plans of the same cost, or many sums that are a best cost.
@@ -31,7 +31,8 @@ fn register(random: &mut Random, n: usize, terms: usize) -> Register {
     let term = |mask| Term { mask, coefficient: random.within(1, reach) as i32 * random.pick(signs), position: 0 };
     let terms = masks.into_iter().map(term).collect();
     let choices = (1..=n as u16).map(|tank| Choice { tank, minute: 0 }).collect();
-    Register { base: random.within(-1_000_000_000, 1_000_000_000) as i32, windows: Vec::new(), choices, terms }
+    let base = random.within(-1_000_000_000, 1_000_000_000) as i32;
+    Register { base, day_length: USUAL_DAY, windows: Vec::new(), choices, terms }
 }
 
 #[test]
@@ -79,7 +80,7 @@ fn no_branch_left() {
     for n in 1..=16 {
         let choices = (1..=n as u16).map(|tank| Choice { tank, minute: 0 }).collect();
         let terms = (0..n).map(|i| Term { mask: 1 << i, coefficient: -(1 << i), position: 0 }).collect();
-        let register = Register { base: 0, windows: Vec::new(), choices, terms };
+        let register = Register { base: 0, day_length: USUAL_DAY, windows: Vec::new(), choices, terms };
         let found = search(&register, u32::MAX).unwrap();
         assert_eq!((found.plan, found.cost, found.visits), (register.all(), -(register.all() as i64), (2 << n) - 1));
     }

@@ -86,14 +86,15 @@ fn register() {
             return false;
         }
         match answer {
-            Err(_) => [0, 0, 0, 0].iter().all(|&zero| zero == f.number()),
+            Err(_) => [0; 5].iter().all(|&zero| zero == f.number()),
             Ok(register) => {
                 let counts = [register.base as i64, register.choices.len() as i64, register.terms.len() as i64];
                 let choices = register.choices.iter().flat_map(|choice| [choice.tank as i64, choice.minute as i64]);
                 let terms = register.terms.iter().flat_map(|term| [term.mask as i64, term.coefficient as i64]);
                 let windows = register.windows.iter().flat_map(|window| [window.tank, window.from, window.to].map(i64::from));
                 let windows = std::iter::once(register.windows.len() as i64).chain(windows);
-                counts.into_iter().chain(choices).chain(terms).chain(windows).all(|number| number == f.number())
+                let length = [register.day_length as i64];
+                counts.into_iter().chain(choices).chain(terms).chain(windows).chain(length).all(|number| number == f.number())
             }
         }
     });

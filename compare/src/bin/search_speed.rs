@@ -8,7 +8,7 @@
 use compare::generate;
 use compare::random::Random;
 use compare::timing::{processor_seconds, summary};
-use reference::register::{self, Choice, Register, Term, MAX_CHOICES};
+use reference::register::{self, Choice, Register, Term, MAX_CHOICES, USUAL_DAY};
 use reference::search::Found;
 use std::collections::BTreeMap;
 use std::hint::black_box;
@@ -42,7 +42,8 @@ fn generated(random: &mut Random, terms: usize, degree: u32) -> Vec<u8> {
     let term = |mask| Term { mask, coefficient: (random.within(1, 1_000_000) * random.pick(&[1, -1])) as i32, position: 0 };
     let terms = masks.into_iter().map(term).collect();
     let choices = (1..=MAX_CHOICES as u16).map(|tank| Choice { tank, minute: 0 }).collect();
-    generate::register_commands(&Register { base: 0, windows: Vec::new(), choices, terms }).concat()
+    let register = Register { base: 0, day_length: USUAL_DAY, windows: Vec::new(), choices, terms };
+    generate::register_commands(&register).concat()
 }
 
 /// What library and reference both answer: the search, or `None` where its visits pass the limit.

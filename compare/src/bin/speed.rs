@@ -8,7 +8,7 @@ use compare::generate::{self, Size};
 use compare::random::Random;
 use compare::timing::{self, spread, Parts};
 use reference::certificate::{self, Certificate, MAX_MULTIPLIERS, MAX_SQUARES};
-use reference::register::{self, Choice, Register, Term};
+use reference::register::{self, Choice, Register, Term, USUAL_DAY};
 use reference::scheme::{self, Scheme};
 use reference::table::NUMBERS;
 
@@ -114,6 +114,7 @@ fn deep_scheme() -> [Vec<u8>; 2] {
     println!("deep scheme: {total} steps of the test whether a term uses a product");
     let register = Register {
         base: 0,
+        day_length: USUAL_DAY,
         windows: Vec::new(),
         choices: (1..33).map(|tank| Choice { tank, minute: 0 }).collect(),
         terms: splits.iter().map(|&(mask, _, _)| Term { mask, coefficient: 1_000_000, position: 0 }).collect(),
