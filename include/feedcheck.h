@@ -38,7 +38,7 @@ enum {
 
 /* day_length is FEEDCHECK_SHORT_DAY, FEEDCHECK_USUAL_DAY or FEEDCHECK_LONG_DAY, and 0 on a refusal; every minute is below it.
  * Window number w is of the tank window_tanks[w]: window_froms[w] is its first minute, window_tos[w] the first minute after it.
- * Where a tank has no window, every minute is allowed. Entries past the counts are 0. */
+ * Where a tank has no window, every minute of the day is allowed. Entries past the counts are 0. */
 typedef struct {
     int32_t base;
     uint16_t day_length;
