@@ -1,29 +1,39 @@
 -- The day length that a register's bytes say is the one that it is accepted with, and the one by which its commands are refused 4.
-use Prim.Native.Nat.{ℕ, _+_, _-_, _<_, _≤_}
+use Prim.Native.Nat.{ℕ, _+_, _-_, _^_, _<_, _≤_}
 use native.Mathlib.Omega.{arith}
 use native.Mathlib.Decide.{ℕ-discrete}
 use mathlib.Core.Path.{_≡_, refl, sym, _∙_, ap}
 use mathlib.Core.Logic.{_⊎_, inl, inr, ⊎-elim}
 use mathlib.Core.Bool.{Bool, true, false, false≢true, true≢false, _||_}
-use mathlib.Core.List.{List, [], _∷_}
+use mathlib.Core.List.{List, [], _∷_, _++_, append-nil, append-assoc, flatMap}
 use lib.Dec.{eqb, ltb}
+use lib.IntN.{ℤ, natAbs}
 use lib.ListN.{length, getD}
-use borrow.Author.Tests.{eqb-true, ltb-true, leb-true, eq-eqb, ne-eqb, not-true}
+use mir.Syntax.{w32}
+use mir.Val.{ofZ, toZ, hbits}
+use mir.Facts.{fits-ofZ}
+use borrow.Author.Tests.{eqb-true, ltb-true, leb-true, eq-eqb, ne-eqb, le-ltb, not-true}
 use Rattle.integers.specs.Lists.{All}
 use Rattle.integers.proofs.Lists.{_▹_, flag, or-either}
-use Rattle.wire.specs.Number.{natAt}
+use Rattle.integers.proofs.Machine.{read-signed, fits-signed}
+use Rattle.wire.specs.Number.{bytesOf, natAt}
 use Rattle.wire.specs.Checks.{Check, refusal, Fails, commandChecks}
 use Rattle.wire.specs.Part.{Part, Reading, refused, accepted, operandsAt, total, size, checksAt, afterAt, readPart}
 use Rattle.wire.specs.Rows.{Progress, isAmong, rowOf}
+use Rattle.wire.specs.Encoding.{Allowed, fields, encodeCommand, encode}
+use Rattle.wire.proofs.Number.{natAt-front}
 use Rattle.wire.proofs.Checks.{refusal-fails}
-use Rattle.wire.proofs.Part.{own, own-at, Ways, by-ways}
+use Rattle.wire.proofs.Part.{own, own-at, readFrom-refused, Ways, by-ways}
+use Rattle.wire.proofs.Encoding.{reads-through}
+use Rattle.wire.proofs.Accepting.{reached}
 use Rattle.wire.proofs.Rest.{no-row, by-bytes}
 use Rattle.register.specs.declared.Register.{Register}
-use Rattle.register.specs.Limits.{maxTank, usualDay}
-use Rattle.register.specs.Format.{choiceChecks, windowChecks, lengthChecks, registerRows, registerPart, registerInJob}
+use Rattle.register.specs.Limits.{maxBase, maxTank, usualDay}
+use Rattle.register.specs.Register.{fresh, withBase}
+use Rattle.register.specs.Format.{choiceChecks, windowChecks, isLength, lengthChecks, registerRows, registerPart, registerInJob}
 use Rattle.register.specs.Valid.{DayLength}
-use Rattle.register.specs.Encoding.{lengthIn}
-use Rattle.register.proofs.Passes.{length-known}
+use Rattle.register.specs.Encoding.{baseCommand, encodeBase, encodeLength, lengthIn}
+use Rattle.register.proofs.Passes.{base-iff, length-known}
 
 -- a command that is refused by a check of its own stands where it may
 own-refused : {S : Type 0} (P : Part S) (s : List ℕ) (read : S) (at n : ℕ) → 2 < n → refusal (checksAt P s read at) ≡ n → (P .here read (getD s at 0) ≡ true) × (refusal (own P s read at) ≡ n)
@@ -175,3 +185,33 @@ module _ (s : List ℕ) where
     pub length-out : getD s at 0 ≡ 0x18 → DayLength (natAt 2 s (at + 1)) → ⊥
     unfolding rowOf operandsAt lengthChecks
     length-out b d = by-refusal _ 4 (checks-at 0x18 b) (λ z. omega arith) ((λ n t. true≢false (sym (length-known (natAt 2 s (at + 1)) .1 d) ∙ not-true _ t)) ▹ tt)
+
+-- ---- a length that is none of the three
+
+module _ (base : ℤ) (n : ℕ) (rest : List ℕ) (within : natAbs base ≤ maxBase) (small : n < 2 ^ 16) (other : DayLength n → ⊥) where
+  abbrev bytes : List ℕ
+  bytes = encodeBase base ++ encodeLength n ++ rest
+
+  base-allowed : Allowed registerPart (registerPart .start) (baseCommand base)
+  unfolding rowOf
+  base-allowed =
+      let s : natAbs base < 2 ^ hbits w32 = omega arith in
+      record { byte = omega arith; here = refl; operands = (fits-ofZ (fits-signed w32 base s) .fits, tt); passes = rw (read-signed w32 base s) (base-iff base .1 within) }
+
+  base-bytes : encode registerPart (baseCommand base ∷ []) ≡ encodeBase base
+  unfolding encode flatMap encodeCommand fields rowOf encodeBase
+  base-bytes = rw (append-nil, append-nil)
+
+  -- what has been read before `18`
+  abbrev read : Progress Register
+  read = reached 0x10 (withBase fresh (toZ w32 (ofZ w32 base)))
+
+  length-fails : refusal (checksAt registerPart bytes read 5) ≡ 4
+  unfolding checksAt commandChecks refusal rowOf operandsAt total lengthChecks encodeBase encodeLength bytesOf
+  length-fails = rw (le-ltb (length bytes - 5) 3 (omega arith), natAt-front 2 bytes 6 n rest refl small, flag (isLength n) (λ t. absurd (other (length-known n .0 t))) (λ t. t))
+
+  pub other-length : registerInJob bytes ≡ refused 4 5
+  unfolding registerInJob readPart encodeBase encodeLength bytesOf rowOf
+  other-length =
+      reads-through registerPart (baseCommand base ∷ []) bytes (registerPart .start) 0 read (encodeLength n ++ rest) (base-allowed, (refl, refl)) (append-assoc (encodeBase base) (encodeLength n) rest ∙ ap (λ x. x ++ (encodeLength n ++ rest)) (sym base-bytes))
+      ∙ rw base-bytes (readFrom-refused registerPart bytes read 5 4 (omega arith) length-fails (λ z. omega arith))

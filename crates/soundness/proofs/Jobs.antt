@@ -40,7 +40,7 @@ before-first byte (x ∷ xs) ys h = rw (ne-eqb x byte (h .0), before-first byte 
 not-negative : (b c : ℤ) → b ≤ℤ c → pos 0 ≤ℤ (c -ℤ b)
 not-negative = diff₂ _ λ p q r s. simp diffs (omega arith)
 
-accepted-job : (job : List ℕ) (table : List ℤ) (tally : Tally) → jobAnswer job table tally .number ≡ 0 → AcceptedJob jobCall listingCall job table tally
+pub accepted-job : (job : List ℕ) (table : List ℤ) (tally : Tally) → jobAnswer job table tally .number ≡ 0 → AcceptedJob jobCall listingCall job table tally
 unfolding listing acceptedLines
 accepted-job job table tally z =
     let r = Job.answered job table tally z in
@@ -60,6 +60,11 @@ accepted-job job table tally z =
       gap-not-negative = rw a (not-negative (boundOf p) (costOf p) (bounds (p .plan)));
       lines = λ lent buffer h. handed-back job lent buffer h .front ∙ ap listing e ∙ rw a;
     }
+
+-- its parts are those that reading it leads to
+pub accepted-leads : (job : List ℕ) (table : List ℤ) (tally : Tally) (z : jobAnswer job table tally .number ≡ 0) → outcome job ≡ accepts (accepted-job job table tally z .parts)
+unfolding accepted-job
+accepted-leads job table tally z = Job.answered job table tally z .leads
 
 -- ---- two accepted jobs
 

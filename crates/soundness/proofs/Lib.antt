@@ -7,4 +7,5 @@ pub mod Refusals
 pub mod Writers
 pub mod Written
 pub mod Windows
+pub mod DayLengths
 pub mod Search

@@ -39,6 +39,7 @@ use Rattle.soundness.specs.Calls.{searchCall, costCall, checkCall}
 use Rattle.soundness.specs.Parts.{Part1}
 use Rattle.soundness.specs.Demand3.{registerOf}
 use Rattle.soundness.proofs.Windows.{keeps}
+use Rattle.soundness.proofs.DayLengths.{feeds-of-day}
 use Rattle.soundness.specs.Search.{visitsOf, limitPassed, Cheapest, SearchSound, SumSound}
 
 -- the register that is read is the one answered
@@ -88,6 +89,7 @@ module _ (t : List ℕ) (limit : ℕ) (z : searchAnswer t limit .number ≡ 0) w
         least = λ other. best .least (other .fed) (other .inside);
         smallest = λ other. best .smallest (other .fed) (other .inside);
         keeps = keeps reg (w .plan) (found .first .valid);
+        of-day = feeds-of-day reg (found .first .valid) (w .plan);
         costed = λ bytes e. cost-read t bytes reg (w .plan) (found .first) (best .plan-below) e ∙ ap acceptedCost (sym (best .cost-is));
         costed-least = cost-least;
         visits-are = refl;

@@ -11,21 +11,21 @@ use lib.ListN.{getD}
 use borrow.Author.Tests.{eqb-true, eq-eqb}
 use Rattle.integers.specs.Lists.{anyBelow, joinBelow}
 use Rattle.integers.proofs.Lists.{flag}
-use Rattle.integers.proofs.Entries.{column-none}
+use Rattle.integers.proofs.Entries.{column-none, table-none}
 use Rattle.integers.proofs.Any.{any-found, any-at}
 use Rattle.wire.specs.Number.{Bytes}
 use Rattle.wire.specs.Part.{Reading, refused, accepted}
 use Rattle.wire.specs.Rows.{Progress}
 use Rattle.register.specs.declared.Register.{Register}
-use Rattle.register.specs.Limits.{maxWindows}
+use Rattle.register.specs.Limits.{maxWindows, usualDay}
 use Rattle.register.specs.Register.{tank, minute, windowTank, fresh, setWindows}
 use Rattle.register.specs.Format.{registerByItself}
 use Rattle.register.specs.Answer.{registerAnswer}
 use Rattle.register.specs.Valid.{Valid, MayFeed, windowAt}
-use Rattle.register.specs.Encoding.{Encodes, encodeRegister}
+use Rattle.register.specs.Encoding.{Encodes, encodeRegister, encodeWithoutLength, SaysLength}
 use Rattle.register.proofs.Accept.{encoding-accepted}
-use Rattle.register.proofs.Canonical.{canonical, only-canonical}
-use Rattle.register.proofs.Before.{windowsOf, as-before-in-job, as-before, no-windows}
+use Rattle.register.proofs.Canonical.{canonical}
+use Rattle.register.proofs.BeforeWindows.{as-before-windows-in-job, as-before-windows, no-windows}
 use Rattle.register.proofs.Opened.{opened}
 use Rattle.plan.proofs.Answers.{costed, costed-named, costed-plan}
 use Rattle.job.specs.declared.Tally.{Tally}
@@ -33,11 +33,12 @@ use Rattle.text.specs.Text.{HasLine}
 use Rattle.listing.specs.Listing.{fedLine}
 use Rattle.listing.proofs.Lines.{fed-shown, shown-fed}
 use Rattle.soundness.specs.Calls.{registerCall, costCall, jobCall, listingCall}
-use Rattle.soundness.specs.Parts.{Part1, Part4}
+use Rattle.soundness.specs.Parts.{Part4}
 use Rattle.soundness.specs.Acceptance.{registerAccepted}
 use Rattle.soundness.specs.Jobs.{Accepted, Listed, shown, AcceptedJob}
-use Rattle.soundness.specs.Windows.{InWindow, ChoicesInside, Feeding, KeepsWindows, JobInside, WindowsRight, withoutWindows, BeforeWindows, bytesBeforeWindows, WindowsKept, AsBefore}
-use Rattle.soundness.proofs.Jobs.{jobs-sound}
+use Rattle.soundness.specs.Windows.{InWindow, ChoicesInside, Feeding, KeepsWindows, JobInside, WindowsRight, withoutWindows, ValidBeforeWindows, bytesBeforeWindows, WindowsKept, AsBeforeWindows}
+use Rattle.soundness.proofs.Written.{unsaid}
+use Rattle.soundness.proofs.Jobs.{accepted-job}
 
 -- ---- where a tank may be fed
 
@@ -63,7 +64,7 @@ inside reg v i l = in-window reg (tank reg i) (minute reg i) (v .within .may-fee
 pub keeps : (reg : Register) (plan : ℕ) → Valid reg → KeepsWindows reg plan
 keeps reg plan v t m f = subst (λ x. InWindow reg x m) (f .tank-is) (subst (InWindow reg (tank reg (f .choice))) (f .minute-is) (inside reg v (f .choice) (f .there)))
 
-register-valid : (register : List ℕ) → registerCall register .number ≡ 0 → Valid (registerCall register .register)
+pub register-valid : (register : List ℕ) → registerCall register .number ≡ 0 → Valid (registerCall register .register)
 register-valid register z = opened register (registerCall register) refl z .valid
 
 plan-keeps : (register plan : List ℕ) → Bytes plan → costCall register plan .number ≡ 0 →
@@ -89,7 +90,7 @@ module _ (job : List ℕ) (table : List ℤ) (tally : Tally) (j : AcceptedJob jo
   abbrev Shows : List ℕ → Type 0
   Shows line = HasLine line (shown jobCall listingCall job lent buffer)
 
-  fed-lines : Shows (fedLine t m) ↔ Fed t m
+  pub fed-lines : Shows (fedLine t m) ↔ Fed t m
   fed-lines = (to, from)
     where
       to : Shows (fedLine t m) → Fed t m
@@ -104,34 +105,79 @@ module _ (job : List ℕ) (table : List ℤ) (tally : Tally) (j : AcceptedJob jo
 
 job-inside : (job : List ℕ) (table : List ℤ) (tally : Tally) → Accepted jobCall listingCall job table tally → JobInside jobCall listingCall job table tally
 job-inside job table tally z =
-    let j = jobs-sound .accepted job table tally z in
+    let j = accepted-job job table tally z in
     record { accepted = j; keeps = keeps (j .parts .register) (j .parts .plan) (j .conditions .register); lines = fed-lines job table tally j }
 
 -- ---- the same register with other windows
 
-module _ (r : Register) (k : ℕ) (tanks froms tos : List ℕ) where
+module _ (r : Register) (v : Valid r) (k : ℕ) (tanks froms tos : List ℕ) where
   abbrev other : Register
   other = setWindows r k tanks froms tos
 
-  before-windows : Valid other → BeforeWindows r
-  before-windows v = record {
+  with-windows : WindowsRight other → ChoicesInside other → Valid other
+  with-windows w h = record {
+    within = record {
+      base = v .within .base;
+      day = v .within .day;
+      tanks = v .within .tanks;
+      minutes = v .within .minutes;
+      choices = v .within .choices;
+      masks = v .within .masks;
+      coefficients = v .within .coefficients;
+      terms = v .within .terms;
+      window-tanks = w .tanks;
+      window-froms = w .froms;
+      window-tos = w .tos;
+      windows = w .windows;
+      may-feed = λ i l. may-feed other (tank r i) (minute r i) (h i l);
+    };
+    day-length = v .day-length;
+    some-choice = v .some-choice;
+  }
+
+module _ (r : Register) where
+  right : Valid r → WindowsRight r
+  right v = record { tanks = v .within .window-tanks; froms = v .within .window-froms; tos = v .within .window-tos; windows = v .within .windows }
+
+  right-none : WindowsRight (withoutWindows r)
+  right-none =
+      let column = column-none {A = ℕ} maxWindows 0 in
+      record { tanks = column; froms = column; tos = column; windows = table-none maxWindows _ _ _ }
+
+  inside-none : ChoicesInside (withoutWindows r)
+  inside-none i l w = absurd (omega (arith, w .there))
+
+  -- without its windows, and with them again
+
+  none-valid : Valid r → Valid (withoutWindows r)
+  none-valid v = with-windows r v 0 _ _ _ right-none inside-none
+
+  own-valid : Valid (withoutWindows r) → WindowsRight r → ChoicesInside r → Valid r
+  own-valid v = with-windows (withoutWindows r) v (r .windows) (r .«window_tanks») (r .«window_froms») (r .«window_tos»)
+
+  -- the conditions before there were windows, on a day of the usual length
+
+  before-none : r .«day_length» ≡ usualDay → Valid (withoutWindows r) → ValidBeforeWindows r
+  before-none day v = record {
     base = v .within .base;
+    day = day;
     tanks = v .within .tanks;
     minutes = v .within .minutes;
-    choices = v .within .choices;
+    choices = rw day at (v .within .choices);
     masks = v .within .masks;
     coefficients = v .within .coefficients;
     terms = v .within .terms;
     some-choice = v .some-choice;
   }
 
-  with-windows : BeforeWindows r → WindowsRight other → ChoicesInside other → Valid other
-  with-windows b w h = record {
+  with-none : ValidBeforeWindows r → Valid (withoutWindows r)
+  with-none b = let w = right-none in record {
     within = record {
       base = b .base;
+      day = inr (inr (inl (b .day)));
       tanks = b .tanks;
       minutes = b .minutes;
-      choices = b .choices;
+      choices = rw (b .day) (b .choices);
       masks = b .masks;
       coefficients = b .coefficients;
       terms = b .terms;
@@ -139,52 +185,31 @@ module _ (r : Register) (k : ℕ) (tanks froms tos : List ℕ) where
       window-froms = w .froms;
       window-tos = w .tos;
       windows = w .windows;
-      may-feed = λ i l. may-feed other (tank r i) (minute r i) (h i l);
+      may-feed = λ i l. may-feed (withoutWindows r) (tank r i) (minute r i) (inside-none i l);
     };
+    day-length = inr (inl (b .day));
     some-choice = b .some-choice;
   }
 
-module _ (r : Register) where
-  before-own : Valid r → BeforeWindows r
-  before-own = before-windows r (r .windows) (r .«window_tanks») (r .«window_froms») (r .«window_tos»)
-
-  with-own : BeforeWindows r → WindowsRight r → ChoicesInside r → Valid r
-  with-own = with-windows r (r .windows) (r .«window_tanks») (r .«window_froms») (r .«window_tos»)
-
-  right : Valid r → WindowsRight r
-  right v = record { tanks = v .within .window-tanks; froms = v .within .window-froms; tos = v .within .window-tos; windows = v .within .windows }
-
-  -- none
-
-  before-none : Valid (withoutWindows r) → BeforeWindows r
-  before-none = before-windows r 0 _ _ _
-
-  with-none : BeforeWindows r → Valid (withoutWindows r)
-  with-none b =
-      let column = column-none {A = ℕ} maxWindows 0 in
-      with-windows r 0 _ _ _ b
-      (record { tanks = column; froms = column; tos = column; windows = record { few = omega arith; each = λ j l. absurd (omega arith); rise = λ j l. absurd (omega arith) } })
-      (λ i l w. absurd (omega (arith, w .there)))
-
-  bytes-none : encodeRegister (withoutWindows r) ≡ bytesBeforeWindows r
-  unfolding encodeRegister joinBelow
+  bytes-none : encodeWithoutLength (withoutWindows r) ≡ bytesBeforeWindows r
+  unfolding joinBelow
   bytes-none = rw append-nil
 
--- ---- bytes without a window
+-- ---- bytes without a window that say no length
 
-module _ (s : List ℕ) (none : getD s 5 0 ≡ 0x13 → ⊥) where
+module _ (s : List ℕ) (none : getD s 5 0 ≡ 0x13 → ⊥) (no-length : SaysLength s → ⊥) where
   answered-without : withoutWindows (registerCall s .register) ≡ registerCall s .register
   unfolding fresh
   answered-without = go (registerByItself s) refl
     where
       go : (x : Reading (Progress Register)) → registerByItself s ≡ x → withoutWindows (registerAnswer x .register) ≡ registerAnswer x .register
       go (refused n at) e = refl
-      go (accepted p end) e = ap (λ w. setWindows (p .parsed) (w .0) (w .1) (w .2) (w .3)) (sym (no-windows s none e))
+      go (accepted p end) e = ap (λ w. setWindows (p .parsed) (w .0) (w .1) (w .2) (w .3)) (sym (no-windows s none no-length e))
 
 -- ---- acceptance
 
 -- of bytes that are an encoding
-accepted-valid : (register : List ℕ) (reg : Register) → Encodes reg register → (registerCall register ≡ registerAccepted reg) ↔ Valid reg
+pub accepted-valid : (register : List ℕ) (reg : Register) → Encodes reg register → (registerCall register ≡ registerAccepted reg) ↔ Valid reg
 accepted-valid register reg x = (
   (λ e. subst Valid (ap (λ a. a .register) e) (register-valid register (ap (λ a. a .number) e))),
   λ v. ap registerAnswer (encoding-accepted register reg v x),
@@ -198,18 +223,19 @@ windows-kept = record {
   nothing-more = λ register reg x.
       let own = accepted-valid register reg x in
       let none = accepted-valid (encodeRegister (withoutWindows reg)) (withoutWindows reg) (canonical (withoutWindows reg)) in (
-        (λ e. let v = own .0 e in (none .1 (with-none reg (before-own reg v)), right reg v, inside reg v)),
-        (λ (e, w, h). own .1 (with-own reg (before-none reg (none .0 e)) w h)),
+        (λ e. let v = own .0 e in (none .1 (none-valid reg v), right reg v, inside reg v)),
+        (λ (e, w, h). own .1 (own-valid reg (none .0 e) w h)),
       );
-  read-as-before = λ register none. (ap registerAnswer (as-before register none), answered-without register none);
+  read-as-before = λ register none no-length. (ap registerAnswer (as-before-windows register none no-length), answered-without register none no-length);
 }
 
-pub kept-before : AsBefore
-kept-before = record {
-  in-job = as-before-in-job;
-  by-itself = as-before;
-  part-1 = λ register reg. (
-    (λ p. (before-none reg (p .conditions), only-canonical (withoutWindows reg) register (p .bytes) ∙ bytes-none reg)),
-    (λ (b, e). record { conditions = with-none reg b; bytes = subst (Encodes (withoutWindows reg)) (bytes-none reg ∙ sym e) (canonical (withoutWindows reg)) }),
-  );
+pub kept-before-windows : AsBeforeWindows
+kept-before-windows = record {
+  in-job = as-before-windows-in-job;
+  by-itself = as-before-windows;
+  part-1 = λ register reg no-length.
+      let one = unsaid (withoutWindows reg) register no-length in (
+        (λ p. let (day, e) = one .0 (p .bytes) in (before-none reg day (p .conditions), e ∙ bytes-none reg)),
+        (λ (b, e). record { conditions = with-none reg b; bytes = one .1 (b .day, e ∙ sym (bytes-none reg)) }),
+      );
 }

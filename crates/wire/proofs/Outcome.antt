@@ -2,7 +2,9 @@
 use Prim.Native.Nat.{ℕ, _+_, _≤_, _<_}
 use native.Mathlib.Omega.{arith}
 use mathlib.Core.Path.{_≡_, refl, sym, _∙_, ap, subst}
+use mathlib.Core.Bool.{Bool, true, false, cond}
 use mathlib.Core.List.{List}
+use lib.Dec.{ltb}
 use lib.ListN.{length}
 use borrow.Author.Tests.{lt-ltb, le-ltb}
 use Rattle.wire.specs.Part.{Reading, refused, accepted, byItself}
@@ -109,6 +111,16 @@ module _ {S : Type 0} (s : List ℕ) {x : Reading S} where
   pub itself-whole : {read : S} {end : ℕ} → x ≡ accepted read end → length s ≤ end → byItself s x ≡ accepted read end
   unfolding byItself
   itself-whole {read} {end} e l = rw (e, le-ltb end (length s) l)
+
+-- a refusal by itself is that in a job, but for 12
+pub refused-itself : {S : Type 0} (s : List ℕ) (x : Reading S) {n at : ℕ} → (n ≡ 12 → ⊥) → byItself s x ≡ refused n at → x ≡ refused n at
+unfolding byItself
+refused-itself s (refused k j) d e = e
+refused-itself {S} s (accepted read end) {n} {at} d e = by (ltb end (length s)) e
+  where
+    by : (t : Bool) → _≡_ {A = Reading S} (cond t (refused 12 end) (accepted read end)) (refused n at) → _≡_ {A = Reading S} (accepted read end) (refused n at)
+    by true q = let z : 12 ≡ n = cc in absurd (d (sym z))
+    by false q = q
 
 -- ---- the number of a refusal is not 0
 
