@@ -5,11 +5,9 @@ use mathlib.Core.Logic.{_⊎_, inl, inr, ⊎-elim}
 use mathlib.Core.List.{List, [], _∷_, _++_, append-nil, flatMap}
 use lib.Dec.{eqb}
 use lib.IntN.{ℤ}
-use lib.ListN.{getD}
 use borrow.Author.Tests.{eqb-true}
 use Rattle.integers.specs.Lists.{joinBelow}
 use Rattle.integers.proofs.Lists.{flag}
-use Rattle.wire.specs.Number.{bytesOf}
 use Rattle.wire.specs.Rows.{rowOf}
 use Rattle.wire.specs.Encoding.{Command, fields, encodeCommand, encode}
 use Rattle.wire.specs.Grammar.{Only, Form}
@@ -23,7 +21,7 @@ use Rattle.register.specs.Encoding.{baseCommand, lengthCommand, Header, 
 
 -- ---- the bytes of a command
 
-base-bytes : (z : ℤ) → encodeCommand registerPart (baseCommand z) ≡ encodeBase z
+pub base-bytes : (z : ℤ) → encodeCommand registerPart (baseCommand z) ≡ encodeBase z
 unfolding encodeCommand fields rowOf encodeBase
 base-bytes z = rw append-nil
 
@@ -182,8 +180,3 @@ module _ (r : Register) where
       (λ w. inl (same ∙ ap (λ h. encodeAfter (encode registerPart h) r) w ∙ ap (λ x. encodeAfter x r) with-bytes))
       (λ (u, w). inr (u, same ∙ ap (λ h. encodeAfter (encode registerPart h) r) w ∙ ap (λ x. encodeAfter x r) without-bytes))
       (header-forms x)
-
-  -- the sixth byte tells them apart
-  pub with-byte : getD (encodeWithLength r) 5 0 ≡ 0x18
-  unfolding encodeBase encodeLength bytesOf
-  with-byte = refl

@@ -107,9 +107,12 @@ module _ (B : Type 0) where
           let r′ = withBase r (toZ w32 (getD xs 0 0)) in
           record {
             within = base-more r (g .within) (toZ w32 (getD xs 0 0)) (base-iff _ .0 q) (ap (λ r. r .choices) a) (ap (λ r. r .windows) a);
-            body = inr (inr (inl refl), none-kinds r′ (HeaderWhere B r′) (underAll B kinds) _ (ap (λ r. r .windows) a, (ap (λ r. r .choices) a, (ap (λ r. r .terms) a, tt)))
-                (then-missing (Only (BaseWhere B r′)) (usualDay ≡ usualDay) (LengthWhere B r′) refl
-                (record { command = record { byte = 0x10; operands = xs }; form = (refl, λ b. let (f, l) = fit-one 4 xs (fit b) in said 0x10 {ys = ofZ w32 (toZ w32 (getD xs 0 0)) ∷ []} (f ∙ rw (ofZ-toZ (record { fits = l })))); whole = rw b })));
+            body = inr (
+              inr (inl refl),
+              none-kinds r′ (HeaderWhere B r′) (underAll B kinds) _ (ap (λ r. r .windows) a, (ap (λ r. r .choices) a, (ap (λ r. r .terms) a, tt)))
+                  (then-missing (Only (BaseWhere B r′)) (usualDay ≡ usualDay) (LengthWhere B r′) refl
+                  (record { command = record { byte = 0x10; operands = xs }; form = (refl, λ b. let (f, l) = fit-one 4 xs (fit b) in said 0x10 {ys = ofZ w32 (toZ w32 (getD xs 0 0)) ∷ []} (f ∙ rw (ofZ-toZ (record { fits = l })))); whole = rw b })),
+            );
           }
 
   choice-grows : Grows B (Good B) (Done B) 0x11 choiceRow
@@ -122,9 +125,12 @@ module _ (B : Type 0) where
         let (p, may) = choice-iff (r .«day_length») (r .choices) _ _ t m _ .0 q in
         record {
           within = choice-more r (g .within) t m (none .0) p (may-iff (r .«window_tanks») (r .«window_froms») (r .«window_tos») t m (r .windows) .0 may);
-          body = inr (d, kinds-more (ToWindows r) r (withChoice r t m) (under B choiceKind) afterChoices none none cs (record { byte = 0x11; operands = xs }) refl
-              (λ i d l h b. h b ∙ ap (λ c. choiceCommand (c .0) (c .1)) (sym (choice-kept r (g .within) t m i l)))
-              (inl refl, λ b. said 0x11 (fit-two 2 2 xs (fit b) .0) ∙ ap (λ c. choiceCommand (c .0) (c .1)) (sym (choice-new r (g .within) t m (p .few)))) b);
+          body = inr (
+            d,
+            kinds-more (ToWindows r) r (withChoice r t m) (under B choiceKind) afterChoices none none cs (record { byte = 0x11; operands = xs }) refl
+                (λ i d l h b. h b ∙ ap (λ c. choiceCommand (c .0) (c .1)) (sym (choice-kept r (g .within) t m i l)))
+                (inl refl, λ b. said 0x11 (fit-two 2 2 xs (fit b) .0) ∙ ap (λ c. choiceCommand (c .0) (c .1)) (sym (choice-new r (g .within) t m (p .few)))) b,
+          );
         };
   }
 
@@ -137,9 +143,12 @@ module _ (B : Type 0) where
         let (d, b) = followed (termRow .follows) refl e g in
         record {
           within = term-more r (g .within) m z p;
-          body = inr (d, kinds-more (ToChoices r) r (withTerm r m z) (under B termKind) [] tt tt cs (record { byte = 0x12; operands = xs }) refl
-              (λ i d l h b. h b ∙ ap (λ c. termCommand (c .0) (c .1)) (sym (term-kept r (g .within) m z i l)))
-              (inl refl, λ b. let (f, _, l) = fit-two 4 4 xs (fit b) in said 0x12 {ys = m ∷ ofZ w32 z ∷ []} (f ∙ rw (ofZ-toZ (record { fits = l }))) ∙ ap (λ c. termCommand (c .0) (c .1)) (sym (term-new r (g .within) m z (p .few)))) b);
+          body = inr (
+            d,
+            kinds-more (ToChoices r) r (withTerm r m z) (under B termKind) [] tt tt cs (record { byte = 0x12; operands = xs }) refl
+                (λ i d l h b. h b ∙ ap (λ c. termCommand (c .0) (c .1)) (sym (term-kept r (g .within) m z i l)))
+                (inl refl, λ b. let (f, _, l) = fit-two 4 4 xs (fit b) in said 0x12 {ys = m ∷ ofZ w32 z ∷ []} (f ∙ rw (ofZ-toZ (record { fits = l }))) ∙ ap (λ c. termCommand (c .0) (c .1)) (sym (term-new r (g .within) m z (p .few)))) b,
+          );
         };
   }
 
@@ -154,9 +163,12 @@ module _ (B : Type 0) where
         let p = window-iff (r .«day_length») (r .windows) (windowAt r (r .windows - 1)) t f o .0 q in
         record {
           within = window-more r (g .within) t f o (none .0) p;
-          body = inr (d, kinds-more (HeaderWhere B r) r (withWindow r t f o) (under B windowKind) afterWindows none none cs (record { byte = 0x13; operands = xs }) refl
-              (λ i d l h b. h b ∙ ap (λ c. windowCommand (c .0) (c .1) (c .2)) (sym (window-kept r (g .within) t f o i l)))
-              (inl refl, λ b. said 0x13 (fit-three 2 2 2 xs (fit b)) ∙ ap (λ c. windowCommand (c .0) (c .1) (c .2)) (sym (window-new r (g .within) t f o (p .few)))) b);
+          body = inr (
+            d,
+            kinds-more (HeaderWhere B r) r (withWindow r t f o) (under B windowKind) afterWindows none none cs (record { byte = 0x13; operands = xs }) refl
+                (λ i d l h b. h b ∙ ap (λ c. windowCommand (c .0) (c .1) (c .2)) (sym (window-kept r (g .within) t f o i l)))
+                (inl refl, λ b. said 0x13 (fit-three 2 2 2 xs (fit b)) ∙ ap (λ c. windowCommand (c .0) (c .1) (c .2)) (sym (window-new r (g .within) t f o (p .few)))) b,
+          );
         };
   }
 
@@ -173,8 +185,11 @@ module _ (B : Type 0) where
           let r′ = withLength r (getD xs 0 0) in
           record {
             within = length-more r (g .within) (getD xs 0 0) (length-iff (getD xs 0 0) .0 q) (none .1 .0) (none .0);
-            body = inr (length-iff (getD xs 0 0) .0 q, none-kinds r′ (HeaderWhere B r′) (underAll B kinds) _ none
-                (then-present (Only (BaseWhere B r′)) (getD xs 0 0 ≡ usualDay) (LengthWhere B r′) (record { byte = 0x18; operands = xs }) x (refl, λ b. said 0x18 (fit-one 2 xs (fit b) .0))));
+            body = inr (
+              length-iff (getD xs 0 0) .0 q,
+              none-kinds r′ (HeaderWhere B r′) (underAll B kinds) _ none
+                  (then-present (Only (BaseWhere B r′)) (getD xs 0 0 ≡ usualDay) (LengthWhere B r′) (record { byte = 0x18; operands = xs }) x (refl, λ b. said 0x18 (fit-one 2 xs (fit b) .0))),
+            );
           }
 
       again : (r : Register) (cs : List Command) → isAmong (lastFrom 0 cs) (0x10 ∷ []) ≡ true → Header18 B r cs → ⊥

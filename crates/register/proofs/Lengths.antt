@@ -20,7 +20,7 @@ use Rattle.wire.specs.Number.{bytesOf, natAt}
 use Rattle.wire.specs.Checks.{Check, refusal, Fails, commandChecks}
 use Rattle.wire.specs.Part.{Part, Reading, refused, accepted, operandsAt, total, size, checksAt, afterAt, readPart}
 use Rattle.wire.specs.Rows.{Progress, isAmong, rowOf}
-use Rattle.wire.specs.Encoding.{Allowed, fields, encodeCommand, encode}
+use Rattle.wire.specs.Encoding.{Allowed, encode}
 use Rattle.wire.proofs.Number.{natAt-front}
 use Rattle.wire.proofs.Checks.{refusal-fails}
 use Rattle.wire.proofs.Part.{own, own-at, readFrom-refused, Ways, by-ways}
@@ -34,6 +34,7 @@ use Rattle.register.specs.Format.{choiceChecks, windowChecks, isLength, 
 use Rattle.register.specs.Valid.{DayLength}
 use Rattle.register.specs.Encoding.{baseCommand, encodeBase, encodeLength, lengthIn}
 use Rattle.register.proofs.Passes.{base-iff, length-known}
+use Rattle.register.proofs.Canonical.{base-bytes}
 
 -- a command that is refused by a check of its own stands where it may
 own-refused : {S : Type 0} (P : Part S) (s : List ℕ) (read : S) (at n : ℕ) → 2 < n → refusal (checksAt P s read at) ≡ n → (P .here read (getD s at 0) ≡ true) × (refusal (own P s read at) ≡ n)
@@ -198,9 +199,9 @@ module _ (base : ℤ) (n : ℕ) (rest : List ℕ) (within : natAbs base ≤ maxB
       let s : natAbs base < 2 ^ hbits w32 = omega arith in
       record { byte = omega arith; here = refl; operands = (fits-ofZ (fits-signed w32 base s) .fits, tt); passes = rw (read-signed w32 base s) (base-iff base .1 within) }
 
-  base-bytes : encode registerPart (baseCommand base ∷ []) ≡ encodeBase base
-  unfolding encode flatMap encodeCommand fields rowOf encodeBase
-  base-bytes = rw (append-nil, append-nil)
+  front-bytes : encode registerPart (baseCommand base ∷ []) ≡ encodeBase base
+  unfolding encode flatMap
+  front-bytes = rw (base-bytes, append-nil)
 
   -- what has been read before `18`
   abbrev read : Progress Register
@@ -213,5 +214,5 @@ module _ (base : ℤ) (n : ℕ) (rest : List ℕ) (within : natAbs base ≤ maxB
   pub other-length : registerInJob bytes ≡ refused 4 5
   unfolding registerInJob readPart encodeBase encodeLength bytesOf rowOf
   other-length =
-      reads-through registerPart (baseCommand base ∷ []) bytes (registerPart .start) 0 read (encodeLength n ++ rest) (base-allowed, (refl, refl)) (append-assoc (encodeBase base) (encodeLength n) rest ∙ ap (λ x. x ++ (encodeLength n ++ rest)) (sym base-bytes))
-      ∙ rw base-bytes (readFrom-refused registerPart bytes read 5 4 (omega arith) length-fails (λ z. omega arith))
+      reads-through registerPart (baseCommand base ∷ []) bytes (registerPart .start) 0 read (encodeLength n ++ rest) (base-allowed, (refl, refl)) (append-assoc (encodeBase base) (encodeLength n) rest ∙ ap (λ x. x ++ (encodeLength n ++ rest)) (sym front-bytes))
+      ∙ rw front-bytes (readFrom-refused registerPart bytes read 5 4 (omega arith) length-fails (λ z. omega arith))
