@@ -116,6 +116,10 @@ pub record Next {A : Type 0} (limit n : ℕ) (last : A) (Q : A → Type 0) (Rise
 pub table-none : {A : Type 0} (limit : ℕ) (f : ℕ → A) (Q : A → Type 0) (Rise : A → A → Type 0) → Table limit 0 f Q Rise
 table-none limit f Q Rise = record { few = omega arith; each = λ i l. absurd (omega arith); rise = λ i l. absurd (omega arith) }
 
+-- other conditions on each entry
+pub table-each : {A : Type 0} {limit n : ℕ} {f : ℕ → A} {P Q : A → Type 0} {Rise : A → A → Type 0} → ((i : ℕ) → i < n → P (f i) → Q (f i)) → Table limit n f P Rise → Table limit n f Q Rise
+table-each h t = record { few = t .few; each = λ i l. h i l (t .each i l); rise = t .rise }
+
 module _ {A : Type 0} (f g : ℕ → A) (n : ℕ) (v : A) (kept : (i : ℕ) → i < n → g i ≡ f i) (new : g n ≡ v) {limit : ℕ} {Q : A → Type 0} {Rise : A → A → Type 0} where
   pub table-more : Table limit n f Q Rise → Next limit n (f (n - 1)) Q Rise v → Table limit (suc n) g Q Rise
   table-more t p = record {

@@ -12,6 +12,6 @@ pub mod Lowest
 pub mod Opened
 pub mod Prefix
 pub mod Position
-pub mod Lengths
+pub mod DayLengths
 pub mod BeforeLengths
 pub mod BeforeWindows

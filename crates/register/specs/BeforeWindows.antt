@@ -1,5 +1,5 @@
--- How the register was read before it had windows, which was before it had a day length: no row for `13`, nothing that follows it,
--- and no check 13. The record is today's, with its windows as in a fresh one and the length that `10` gives it, at which no check looks.
+-- How the register was read before it had windows, which was before it had a day length: no row for `13` or `18`, nothing that follows
+-- them, no check 13, and a fixed highest minute. The record is today's, with its windows as in a fresh one and the length that `10` gives it, at which no check looks.
 use Prim.Native.Nat.{ℕ, _-_}
 use mathlib.Core.Bool.{not, _||_}
 use mathlib.Core.List.{List, [], _∷_}

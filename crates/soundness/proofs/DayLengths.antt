@@ -8,7 +8,8 @@ use mathlib.Core.List.{List, [], _∷_, _++_, append-nil}
 use lib.Dec.{ltb}
 use lib.IntN.{ℤ, pos, natAbs}
 use lib.ListN.{length, drop}
-use Rattle.integers.specs.Lists.{joinBelow, Table}
+use Rattle.integers.specs.Lists.{joinBelow}
+use Rattle.integers.proofs.Entries.{table-each}
 use Rattle.wire.specs.Part.{Reading, refused}
 use Rattle.wire.specs.Rows.{Progress}
 use Rattle.wire.specs.Outcome.{Outcome, refuses, accepts, next, andThen, startingAt, addedBy}
@@ -20,6 +21,7 @@ use Rattle.register.specs.Limits.{maxBase, maxTank, usualDay, longDay}
 use Rattle.register.specs.Register.{tank, minute, coefficient, fresh, setLength, withBase, withLength, withChoice}
 use Rattle.register.specs.Valid.{DayLength, Within, Valid}
 use Rattle.register.specs.Encoding.{encodeBase, encodeLength, encodeChoice, encodeWithLength, encodeWithoutLength, encodeRegister, SaysLength, lengthIn}
+use Rattle.register.specs.Ranges.{OutOfRange}
 use Rattle.register.specs.Format.{registerInJob, registerByItself}
 use Rattle.register.specs.Answer.{registerAnswer}
 use Rattle.register.specs.Answer as R
@@ -28,7 +30,7 @@ use Rattle.register.proofs.Entries.{fresh-within, base-more, length-more, choic
 use Rattle.register.proofs.Accept.{encoding-accepted}
 use Rattle.register.proofs.Canonical.{canonical, encodes-with, encodes-without}
 use Rattle.register.proofs.Opened.{opened, opened-refused}
-use Rattle.register.proofs.Lengths.{length-said, choice-out, window-out, length-out, other-length}
+use Rattle.register.proofs.DayLengths.{length-said, out-of-range, other-length}
 use Rattle.register.proofs.BeforeLengths.{as-before-lengths-in-job, as-before-lengths, usual-day}
 use Rattle.scheme.specs.Format.{schemeInJob}
 use Rattle.bound.specs.Format.{certificateInJob}
@@ -39,15 +41,12 @@ use Rattle.job.specs.Rest.{rest, fromScheme}
 use Rattle.job.specs.Answer.{refusedAnswer, afterJob, jobAnswer}
 use Rattle.soundness.specs.Calls.{registerCall, costCall, jobCall, listingCall}
 use Rattle.soundness.specs.Jobs.{Accepted}
-use Rattle.soundness.specs.DayLengths.{OfDay, KeepsLength, FeedsOfDay, JobOfDay, OutOfRange, UsualDay, ValidBeforeLengths, LengthsKept, AsBeforeLengths}
+use Rattle.soundness.specs.DayLengths.{OfDay, KeepsLength, FeedsOfDay, JobOfDay, UsualDay, ValidBeforeLengths, LengthsKept, AsBeforeLengths}
 use Rattle.soundness.proofs.Written.{unsaid}
 use Rattle.soundness.proofs.Jobs.{accepted-job, accepted-leads}
 use Rattle.soundness.proofs.Windows.{register-valid, accepted-valid, fed-lines, windows-kept}
 
 -- ---- a valid register
-
-table-each : {A : Type 0} {limit n : ℕ} {f : ℕ → A} {P Q : A → Type 0} {Rise : A → A → Type 0} → ((i : ℕ) → i < n → P (f i) → Q (f i)) → Table limit n f P Rise → Table limit n f Q Rise
-table-each h t = record { few = t .few; each = λ i l. h i l (t .each i l); rise = t .rise }
 
 module _ (reg : Register) (v : Valid reg) where
   of-day : OfDay (reg .«day_length») reg
@@ -188,9 +187,6 @@ job-of-day job table tally z =
     }
 
 -- ---- what is refused
-
-out-of-range : (s : List ℕ) (at : ℕ) → registerInJob s ≡ refused 4 at → OutOfRange s at
-out-of-range s at e = record { choice = choice-out s at e; window = window-out s at e; length = length-out s at e }
 
 register-refused : (s : List ℕ) → registerCall s .number ≡ 4 → OutOfRange s (registerCall s .position)
 unfolding registerByItself

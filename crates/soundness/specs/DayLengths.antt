@@ -1,20 +1,20 @@
 -- R-4, the day's length: what a farm is promised of it, as a predicate of any such calls. No minute that the day does not have is
 -- accepted, and none that it has is out of range. The other calls take a register just where the register call does: `Acceptance`,
 -- `Refusals` and `Writers` say it of parts that meet their conditions.
-use Prim.Native.Nat.{ℕ, _+_, _^_, _<_, _≤_}
+use Prim.Native.Nat.{ℕ, _^_, _<_, _≤_}
 use mathlib.Core.Path.{_≡_}
-use mathlib.Core.Logic.{_⊎_, _↔_}
+use mathlib.Core.Logic.{_↔_}
 use mathlib.Core.List.{List, [], _∷_, _++_}
 use lib.IntN.{ℤ, pos, natAbs}
-use lib.ListN.{getD}
 use Rattle.integers.specs.Lists.{Column, Table}
-use Rattle.wire.specs.Number.{Bytes, natAt}
+use Rattle.wire.specs.Number.{Bytes}
 use Rattle.register.specs.declared.Register.{Register}
 use Rattle.register.specs.declared.RegisterAnswer.{RegisterAnswer}
 use Rattle.register.specs.Limits.{maxChoices, maxTerms, maxWindows, maxBase, maxTank, usualDay, longDay}
 use Rattle.register.specs.Register.{tank, minute, mask, coefficient, windowFrom, windowTo, setLength}
 use Rattle.register.specs.Valid.{DayLength, Before, Terms, MayFeed, windowAt}
 use Rattle.register.specs.Encoding.{Encodes, encodeBase, encodeLength, encodeChoice, encodeWithLength, encodeWithoutLength, encodeRegister, SaysLength, lengthIn}
+use Rattle.register.specs.Ranges.{OutOfRange}
 use Rattle.register.specs.Format.{registerInJob, registerByItself}
 use Rattle.register.specs.Answer.{refusedAnswer, registerAnswer}
 use Rattle.register.specs.BeforeLengths.{maxMinuteBefore, maxToBefore, inJobBeforeLengths, byItselfBeforeLengths}
@@ -53,18 +53,6 @@ pub record JobOfDay (jobCall : JobCall) (listingCall : ListingCall) (job : List 
   -- each `F` line that a farm reads has a minute of the day
   pub lines : (lent : List ℤ) (buffer : List ℕ) → Listed jobCall listingCall job lent buffer →
       (t m : ℕ) → HasLine (fedLine t m) (shown jobCall listingCall job lent buffer) → m < lengthIn job
-
--- ---- what is refused
-
-abbrev pub TankOut : ℕ → Type 0
-TankOut t = (t ≡ 0) ⊎ (maxTank < t)
-
--- what is out of range at a position of part 1. Of a choice: its tank, or its minute is none of the day. Of a window: its tank, its
--- "from" is no minute of the day, its "to" is 0 or past the end of the day. Of `18`: it is none of the three lengths
-pub record OutOfRange (s : List ℕ) (at : ℕ) : Type 0 where
-  pub choice : getD s at 0 ≡ 0x11 → TankOut (natAt 2 s (at + 1)) ⊎ (lengthIn s ≤ natAt 2 s (at + 3))
-  pub window : getD s at 0 ≡ 0x13 → TankOut (natAt 2 s (at + 1)) ⊎ ((lengthIn s ≤ natAt 2 s (at + 3)) ⊎ ((natAt 2 s (at + 5) ≡ 0) ⊎ (lengthIn s < natAt 2 s (at + 5))))
-  pub length : getD s at 0 ≡ 0x18 → DayLength (natAt 2 s (at + 1)) → ⊥
 
 -- ---- where no length is said
 
@@ -108,13 +96,13 @@ pub record ValidBeforeLengths (r : Register) : Type 0 where
 pub record LengthsKept (registerCall : RegisterCall) (costCall : CostCall) (jobCall : JobCall) (listingCall : ListingCall) : Type 0 where
   -- an accepted register has the length that it says, and no minute that the day does not have
   pub of-register : (register : List ℕ) → registerCall register .number ≡ 0 → KeepsLength register (registerCall register .register)
-  -- so a plan that is accepted with it feeds in no other
+  -- so a plan that is accepted with it feeds only in minutes of the day
   pub of-plan : (register plan : List ℕ) → Bytes plan → costCall register plan .number ≡ 0 →
       (registerCall register .number ≡ 0) × (fed : ℕ) × Part4 (registerCall register .register) plan fed × FeedsOfDay (registerCall register .register) fed
   -- and so does the plan of an accepted job
   pub of-job : (job : List ℕ) (table : List ℤ) (tally : Tally) → Accepted jobCall listingCall job table tally → JobOfDay jobCall listingCall job table tally
-  -- the length refuses nothing else: a register is accepted just where it is with the longest day, its length is one of the three, and
-  -- its minutes are of the day
+  -- the length refuses nothing more: a register is accepted just where it is with the longest day, its length is one of the three, and
+  -- its minutes and windows are of the day
   pub nothing-more : (register : List ℕ) (reg : Register) → Encodes reg register → (registerCall register ≡ registerAccepted reg)
       ↔ ((registerCall (encodeRegister (setLength reg longDay)) ≡ registerAccepted (setLength reg longDay)) × DayLength (reg .«day_length») × OfDay (reg .«day_length») reg)
   -- so no choice and no window is out of range for a minute that the day has, by itself and in a job

@@ -45,7 +45,7 @@ pub record Cheapest (costCall : CostCall) (register : List ℕ) (limit : ℕ) (a
   -- no plan of the register costs less, and one that costs as much has no smaller number
   pub least : (other : Plan register) → a .cost ≤ℤ cost register other
   pub smallest : (other : Plan register) → cost register other ≡ a .cost → a .plan ≤ other .fed
-  -- it feeds inside the windows of each tank
+  -- it feeds inside the windows of each tank, and only in minutes of the day
   pub keeps : KeepsWindows (registerOf register) (a .plan)
   pub of-day : FeedsOfDay (registerOf register) (a .plan)
   -- the cost call answers this cost for the plan's bytes, and no less for any bytes that it accepts

@@ -63,6 +63,15 @@ refusal-fails (c ∷ cs) n e h = by (c .fails) (c .number) (λ q. refusal-fails 
     by true m rest q = inl (refl, q)
     by false m rest q = inr (rest q)
 
+-- what holds wherever a check with the refused number fails
+pub by-refusal : {G : Type 0} (cs : List Check) (n : ℕ) → refusal cs ≡ n → (n ≡ 0 → ⊥) → All (λ c. c .number ≡ n → c .fails ≡ true → G) cs → G
+by-refusal {G} cs n e d h = go cs (refusal-fails cs n e d) h
+  where
+    go : (cs : List Check) → Fails n cs → All (λ c. c .number ≡ n → c .fails ≡ true → G) cs → G
+    go [] f h = absurd f
+    go (c ∷ cs) (inl (t, e)) h = h .0 e t
+    go (c ∷ cs) (inr f) h = go cs f (h .1)
+
 -- checks whose numbers start at m or above
 above : (m k : ℕ) → k ≤ m → (cs : List Check) → T (risingFrom m cs) → NoLower k cs
 above m k l [] r = tt

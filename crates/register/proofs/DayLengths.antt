@@ -13,17 +13,16 @@ use mir.Syntax.{w32}
 use mir.Val.{ofZ, toZ, hbits}
 use mir.Facts.{fits-ofZ}
 use borrow.Author.Tests.{eqb-true, ltb-true, leb-true, eq-eqb, ne-eqb, le-ltb, not-true}
-use Rattle.integers.specs.Lists.{All}
 use Rattle.integers.proofs.Lists.{_▹_, flag, or-either}
 use Rattle.integers.proofs.Machine.{read-signed, fits-signed}
 use Rattle.wire.specs.Number.{bytesOf, natAt}
-use Rattle.wire.specs.Checks.{Check, refusal, Fails, commandChecks}
+use Rattle.wire.specs.Checks.{refusal, commandChecks}
 use Rattle.wire.specs.Part.{Part, Reading, refused, accepted, operandsAt, total, size, checksAt, afterAt, readPart}
 use Rattle.wire.specs.Rows.{Progress, isAmong, rowOf}
 use Rattle.wire.specs.Encoding.{Allowed, encode}
 use Rattle.wire.proofs.Number.{natAt-front}
-use Rattle.wire.proofs.Checks.{refusal-fails}
-use Rattle.wire.proofs.Part.{own, own-at, readFrom-refused, Ways, by-ways}
+use Rattle.wire.proofs.Checks.{by-refusal}
+use Rattle.wire.proofs.Part.{own, own-at, own-refused, readFrom-refused, Ways, by-ways}
 use Rattle.wire.proofs.Encoding.{reads-through}
 use Rattle.wire.proofs.Accepting.{reached}
 use Rattle.wire.proofs.Rest.{no-row, by-bytes}
@@ -33,33 +32,14 @@ use Rattle.register.specs.Register.{fresh, withBase}
 use Rattle.register.specs.Format.{choiceChecks, windowChecks, isLength, lengthChecks, registerRows, registerPart, registerInJob}
 use Rattle.register.specs.Valid.{DayLength}
 use Rattle.register.specs.Encoding.{baseCommand, encodeBase, encodeLength, lengthIn}
+use Rattle.register.specs.Ranges.{TankOut, OutOfRange}
 use Rattle.register.proofs.Passes.{base-iff, length-known}
 use Rattle.register.proofs.Canonical.{base-bytes}
-
--- a command that is refused by a check of its own stands where it may
-own-refused : {S : Type 0} (P : Part S) (s : List ℕ) (read : S) (at n : ℕ) → 2 < n → refusal (checksAt P s read at) ≡ n → (P .here read (getD s at 0) ≡ true) × (refusal (own P s read at) ≡ n)
-unfolding checksAt commandChecks refusal
-own-refused P s read at n l e =
-    flag (P .here read (getD s at 0))
-    (λ t. flag (ltb (length s - at) (size P (getD s at 0))) (λ u. absurd (omega (arith, rw (t, u) at e))) (λ u. (t, rw (t, u) at e)))
-    (λ t. absurd (omega (arith, rw t at e)))
-
--- what holds wherever a check with the refused number fails
-by-refusal : {G : Type 0} (cs : List Check) (n : ℕ) → refusal cs ≡ n → (n ≡ 0 → ⊥) → All (λ c. c .number ≡ n → c .fails ≡ true → G) cs → G
-by-refusal {G} cs n e d h = go cs (refusal-fails cs n e d) h
-  where
-    go : (cs : List Check) → Fails n cs → All (λ c. c .number ≡ n → c .fails ≡ true → G) cs → G
-    go [] f h = absurd f
-    go (c ∷ cs) (inl (t, e)) h = h .0 e t
-    go (c ∷ cs) (inr f) h = go cs f (h .1)
 
 -- ---- tests of ranges
 
 either : {A B : Type 0} (a b : Bool) → (a ≡ true → A) → (b ≡ true → B) → (a || b) ≡ true → A ⊎ B
 either a b f g e = ⊎-elim (λ t. inl (f t)) (λ t. inr (g t)) (or-either a b e)
-
-abbrev pub TankOut : ℕ → Type 0
-TankOut t = (t ≡ 0) ⊎ (maxTank < t)
 
 tank-out : (t : ℕ) → (eqb t 0 || ltb maxTank t) ≡ true → TankOut t
 tank-out t = either (eqb t 0) (ltb maxTank t) (eqb-true t 0) (ltb-true maxTank t)
@@ -158,7 +138,7 @@ module _ (s : List ℕ) where
     length-at b first d e = length-here (refuses .read) at (refuses .reach) (λ z. false≢true (sym first ∙ rw (e, z) at (refuses .here))) (λ f. d (sym e ∙ f))
 
     -- a choice: its tank, or its minute is none of the day
-    pub choice-out : getD s at 0 ≡ 0x11 → TankOut (natAt 2 s (at + 1)) ⊎ (lengthIn s ≤ natAt 2 s (at + 3))
+    choice-out : getD s at 0 ≡ 0x11 → TankOut (natAt 2 s (at + 1)) ⊎ (lengthIn s ≤ natAt 2 s (at + 3))
     unfolding rowOf operandsAt choiceChecks
     choice-out b =
         let minute : at + 1 + 2 ≡ at + 3 = omega arith in
@@ -170,7 +150,7 @@ module _ (s : List ℕ) where
         ▹ tt)
 
     -- a window: its tank, its "from" is no minute of the day, its "to" is 0 or past the end of the day
-    pub window-out : getD s at 0 ≡ 0x13 → TankOut (natAt 2 s (at + 1)) ⊎ ((lengthIn s ≤ natAt 2 s (at + 3)) ⊎ ((natAt 2 s (at + 5) ≡ 0) ⊎ (lengthIn s < natAt 2 s (at + 5))))
+    window-out : getD s at 0 ≡ 0x13 → TankOut (natAt 2 s (at + 1)) ⊎ ((lengthIn s ≤ natAt 2 s (at + 3)) ⊎ ((natAt 2 s (at + 5) ≡ 0) ⊎ (lengthIn s < natAt 2 s (at + 5))))
     unfolding rowOf operandsAt windowChecks
     window-out b =
         let from : at + 1 + 2 ≡ at + 3 = omega arith in
@@ -183,9 +163,12 @@ module _ (s : List ℕ) where
         ▹ tt)
 
     -- `18`: it is none of the three lengths
-    pub length-out : getD s at 0 ≡ 0x18 → DayLength (natAt 2 s (at + 1)) → ⊥
+    length-out : getD s at 0 ≡ 0x18 → DayLength (natAt 2 s (at + 1)) → ⊥
     unfolding rowOf operandsAt lengthChecks
     length-out b d = by-refusal _ 4 (checks-at 0x18 b) (λ z. omega arith) ((λ n t. true≢false (sym (length-known (natAt 2 s (at + 1)) .1 d) ∙ not-true _ t)) ▹ tt)
+
+    pub out-of-range : OutOfRange s at
+    out-of-range = record { choice = choice-out; window = window-out; length = length-out }
 
 -- ---- a length that is none of the three
 
