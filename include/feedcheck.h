@@ -36,7 +36,8 @@ enum {
     FEEDCHECK_MAX_JOB_READ = 25886  /* a longer job is answered as its first so many bytes are */
 };
 
-/* day_length is FEEDCHECK_SHORT_DAY, FEEDCHECK_USUAL_DAY or FEEDCHECK_LONG_DAY, and 0 on a refusal; every minute is below it.
+/* day_length is FEEDCHECK_SHORT_DAY, FEEDCHECK_USUAL_DAY or FEEDCHECK_LONG_DAY, and 0 on a refusal; every minute is below it,
+ * and no window ends after it.
  * Window number w is of the tank window_tanks[w]: window_froms[w] is its first minute, window_tos[w] the first minute after it.
  * Where a tank has no window, every minute of the day is allowed. Entries past the counts are 0. */
 typedef struct {

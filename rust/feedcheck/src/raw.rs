@@ -4,7 +4,8 @@
 
 use crate::{MAX_CHOICES, MAX_PRODUCTS, MAX_TERMS, MAX_WINDOWS};
 
-/// The record of a register. Its day_length is SHORT_DAY, USUAL_DAY or LONG_DAY, and 0 on a refusal; every minute is below it.
+/// The record of a register. Its day_length is SHORT_DAY, USUAL_DAY or LONG_DAY, and 0 on a refusal; every minute is below
+/// it, and no window ends after it.
 /// Window number w is of the tank window_tanks[w]: window_froms[w] is its first minute, window_tos[w] the first minute after it.
 /// Where a tank has no window, every minute of the day is allowed. Entries past the counts are 0.
 #[derive(Clone, Copy, Debug, PartialEq, Eq)]
