@@ -22,7 +22,8 @@ use Rattle.wire.specs.Rows.{Progress, isAmong, rowOf}
 use Rattle.wire.specs.Encoding.{Allowed, encode}
 use Rattle.wire.proofs.Number.{natAt-front}
 use Rattle.wire.proofs.Checks.{by-refusal}
-use Rattle.wire.proofs.Part.{own, own-at, own-refused, readFrom-refused, Ways, by-ways}
+use Rattle.wire.proofs.Part.{own, own-at, readFrom-refused, Ways, by-ways}
+use Rattle.wire.proofs.Lowest.{own-refused}
 use Rattle.wire.proofs.Encoding.{reads-through}
 use Rattle.wire.proofs.Accepting.{reached}
 use Rattle.wire.proofs.Rest.{no-row, by-bytes}

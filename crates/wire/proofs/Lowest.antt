@@ -1,6 +1,6 @@
 -- Where a part is refused and with which number, once for all parts: as `Refused` says, where the numbers of a command's checks do
--- not fall.
-use Prim.Native.Nat.{ℕ, _+_, _≤_}
+-- not fall; and what a number above 2 tells of the command.
+use Prim.Native.Nat.{ℕ, _+_, _-_, _≤_, _<_}
 use native.Mathlib.Nat.{zero-add}
 use native.Mathlib.Omega.{arith}
 use mathlib.Core.Path.{_≡_, refl, sym, ap, _∙_}
@@ -12,20 +12,28 @@ use lib.ListN.{length, getD, take, drop, length-append, length-drop, take-append
 use lib.Seq.{take-at, length-take-le}
 use borrow.Author.Tests.{ltb-true, lt-ltb}
 use Rattle.integers.specs.Lists.{All}
-use Rattle.integers.proofs.Lists.{cond-cases}
+use Rattle.integers.proofs.Lists.{cond-cases, flag}
 use Rattle.wire.specs.Number.{Bytes}
 use Rattle.wire.specs.Checks.{refusal, commandChecks}
-use Rattle.wire.specs.Part.{Part, Reading, refused, accepted, checksAt, afterAt, operandsAt, readFrom, readPart, byItself}
+use Rattle.wire.specs.Part.{Part, Reading, refused, accepted, size, checksAt, afterAt, operandsAt, readFrom, readPart, byItself}
 use Rattle.wire.specs.Rows.{Row, rowOf, partOf}
 use Rattle.wire.specs.Encoding.{Command, encodeCommand, encode}
 use Rattle.wire.specs.Refused.{Reaches, Lowest, RefusedAt, EndsAt, RefusedByItself}
 use Rattle.wire.proofs.Checks.{risingFrom, refusal-fails, refusal-lowest, lowest-refusal}
-use Rattle.wire.proofs.Part.{Ways, by-ways, readFrom-missing, readFrom-refused, readFrom-position, readFrom-end}
+use Rattle.wire.proofs.Part.{own, Ways, by-ways, readFrom-missing, readFrom-refused, readFrom-position, readFrom-end}
 use Rattle.wire.proofs.Encoding.{commandAt, commandAt-bytes, allowed, sound, reads-through, complete-at}
 
 -- the numbers of the checks of a command do not fall, and start at 1
 abbrev pub Rising : {S : Type 0} → Part S → Type 0
 Rising {S} P = (s : List ℕ) (read : S) (at : ℕ) → T (risingFrom 1 (checksAt P s read at))
+
+-- a command that is refused by a check of its own stands where it may
+pub own-refused : {S : Type 0} (P : Part S) (s : List ℕ) (read : S) (at n : ℕ) → 2 < n → refusal (checksAt P s read at) ≡ n → (P .here read (getD s at 0) ≡ true) × (refusal (own P s read at) ≡ n)
+unfolding checksAt commandChecks refusal
+own-refused P s read at n l e =
+    flag (P .here read (getD s at 0))
+    (λ t. flag (ltb (length s - at) (size P (getD s at 0))) (λ u. absurd (omega (arith, rw (t, u) at e))) (λ u. (t, rw (t, u) at e)))
+    (λ t. absurd (omega (arith, rw t at e)))
 
 module _ {S : Type 0} (P : Part S) (s : List ℕ) (b : Bytes s) where
   -- commands whose bytes stand at the front are all that stands before the rest

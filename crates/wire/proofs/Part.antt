@@ -33,14 +33,6 @@ module _ {S : Type 0} (P : Part S) (s : List ℕ) (read : S) (at : ℕ) where
   pub own-at : (b : ℕ) → getD s at 0 ≡ b → own P s read at ≡ P .checks read b (operandsAt (P .widths b) s (at + 1))
   own-at b e = ap (λ b. P .checks read b (operandsAt (P .widths b) s (at + 1))) e
 
-  -- a command that is refused by a check of its own stands where it may
-  pub own-refused : (n : ℕ) → 2 < n → refusal (checksAt P s read at) ≡ n → (P .here read (getD s at 0) ≡ true) × (refusal (own P s read at) ≡ n)
-  unfolding checksAt commandChecks refusal
-  own-refused n l e =
-      flag (P .here read (getD s at 0))
-      (λ t. flag (ltb (length s - at) (size P (getD s at 0))) (λ u. absurd (omega (arith, rw (t, u) at e))) (λ u. (t, rw (t, u) at e)))
-      (λ t. absurd (omega (arith, rw t at e)))
-
   pub checksAt-passed : at < length s → refusal (checksAt P s read at) ≡ 0 → Passes P s read at
   unfolding checksAt commandChecks refusal
   checksAt-passed l e =
