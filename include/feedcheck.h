@@ -8,7 +8,7 @@
  * field is 0 (a job's tally is carried on all the same). The numbers are explained in docs/REFUSALS.md.
  *
  * Each call stands in a static library of its own, target/staticlib/libNAME.a; the name is given beside each call.
- * tools/libraries makes all ten, `rt staticlib NAME` one. They can be linked together. include/example.c is a complete program,
+ * tools/libraries makes all ten, tools/libraries NAME one. They can be linked together. include/example.c is a complete program,
  * and docs/LINKING.md has the commands. */
 #ifndef FEEDCHECK_H
 #define FEEDCHECK_H
