@@ -4,7 +4,7 @@
  * A lent table or buffer overlaps nothing else that the call is given. A table has at least FEEDCHECK_TABLE_NUMBERS numbers; a
  * shorter one is refused 11 and left as it was, as is a buffer shorter than the bytes to be written.
  *
- * An answer's number is 0, or that of a refusal, 1 to 14; then part and position say which command is refused, and every other
+ * An answer's number is 0, or that of a refusal, 1 to 16; then part and position say which command is refused, and every other
  * field is 0 (a job's tally is carried on all the same). The numbers are explained in docs/REFUSALS.md.
  *
  * Each call stands in a static library of its own, target/staticlib/libNAME.a; the name is given beside each call.
@@ -24,6 +24,8 @@ enum {
     FEEDCHECK_MAX_CHOICES = 32,
     FEEDCHECK_MAX_TERMS = 256,
     FEEDCHECK_MAX_WINDOWS = 64,
+    FEEDCHECK_MAX_ROWS = 8,
+    FEEDCHECK_ROW_ENTRIES = 32,     /* entries of a row, one for each choice that a register may have */
     FEEDCHECK_MAX_PRODUCTS = 32,
     FEEDCHECK_SHORT_DAY = 1380,     /* the lengths of a day in minutes: when the clocks go forward, */
     FEEDCHECK_USUAL_DAY = 1440,     /* when they are left alone, and where a register says no length, */
@@ -32,14 +34,18 @@ enum {
     FEEDCHECK_MAX_BUILT = 865,      /* a buffer of so many bytes is enough for every scheme that is built */
     FEEDCHECK_MAX_PLAIN = 1294,     /* for every certificate of our own */
     FEEDCHECK_MAX_LISTING = 4096,   /* for every listing */
-    FEEDCHECK_MAX_JOB = 25757,      /* no job of more bytes is accepted */
-    FEEDCHECK_MAX_JOB_READ = 25886  /* a longer job is answered as its first so many bytes are */
+    FEEDCHECK_MAX_JOB = 26037,      /* no job of more bytes is accepted */
+    FEEDCHECK_MAX_JOB_READ = 26166  /* a longer job is answered as its first so many bytes are */
 };
 
 /* day_length is FEEDCHECK_SHORT_DAY, FEEDCHECK_USUAL_DAY or FEEDCHECK_LONG_DAY, and 0 on a refusal; every minute is below it,
  * and no window ends after it.
  * Window number w is of the tank window_tanks[w]: window_froms[w] is its first minute, window_tos[w] the first minute after it.
- * Where a tank has no window, every minute of the day is allowed. Entries past the counts are 0. */
+ * Where a tank has no window, every minute of the day is allowed.
+ * Row number k has the sum row_sums[k], and for choice j the entry row_entries[FEEDCHECK_ROW_ENTRIES * k + j], 0 where there is
+ * no choice j. A plan fits where, for each row, the entries of the choices that it feeds add up to the row's sum; where there is
+ * no row, every plan fits.
+ * Entries past the counts are 0. */
 typedef struct {
     int32_t base;
     uint16_t day_length;
@@ -49,6 +55,9 @@ typedef struct {
     int32_t coefficients[FEEDCHECK_MAX_TERMS];
     size_t windows;
     uint16_t window_tanks[FEEDCHECK_MAX_WINDOWS], window_froms[FEEDCHECK_MAX_WINDOWS], window_tos[FEEDCHECK_MAX_WINDOWS];
+    size_t rows;
+    int16_t row_sums[FEEDCHECK_MAX_ROWS];
+    int8_t row_entries[FEEDCHECK_MAX_ROWS * FEEDCHECK_ROW_ENTRIES];
 } FeedcheckRegister;
 
 /* Product number n + k has the operands lefts[k] and rights[k]; term t has the split split_lefts[t], split_rights[t]. */
@@ -125,19 +134,20 @@ FeedcheckSchemeAnswer feedcheck_scheme(const uint8_t *reg, size_t reg_length, co
 /* Builds a scheme of a register and writes its bytes. libbuilder.a */
 FeedcheckWriterAnswer feedcheck_build(const uint8_t *reg, size_t reg_length, uint8_t *buffer, size_t buffer_length);
 
-/* The cost of a plan (part 4). libplan.a */
+/* The cost of a plan (part 4). Refused 15, at the plan's command, where the plan does not fit the rows. libplan.a */
 FeedcheckCostAnswer feedcheck_cost(const uint8_t *reg, size_t reg_length, const uint8_t *plan, size_t plan_length);
 
-/* Finds a plan that costs at most any other, of equals the smallest number. Refused 14, with part and position 0, where that
- * takes more visits than the limit; it stops there, so the limit bounds the time of the call. As many as the limit are accepted.
- * libsearch.a */
+/* Finds a plan that fits the rows and costs at most any other that fits, of equals the smallest number. Refused 14, with part and
+ * position 0, where that takes more visits than the limit; it stops there, so the limit bounds the time of the call. As many as
+ * the limit are accepted. Refused 16, with part and position 0, where no plan fits; 14 comes before it. libsearch.a */
 FeedcheckSearchAnswer feedcheck_search(const uint8_t *reg, size_t reg_length, uint32_t limit);
 
 /* Leaves the table of the penalty form in the table. libpenalty.a */
 FeedcheckPenaltyAnswer feedcheck_penalty(const uint8_t *reg, size_t reg_length, const uint8_t *scheme, size_t scheme_length,
                                          int64_t *table, size_t table_length);
 
-/* Checks a certificate (part 3) and leaves R in the table once the certificate's end is reached. libbound.a */
+/* Checks a certificate (part 3): no plan that fits the rows costs less than the bound. Leaves R in the table once the
+ * certificate's end is reached. libbound.a */
 FeedcheckCheckAnswer feedcheck_check(const uint8_t *reg, size_t reg_length, const uint8_t *scheme, size_t scheme_length,
                                      const uint8_t *certificate, size_t certificate_length, int64_t *table, size_t table_length);
 
@@ -145,7 +155,8 @@ FeedcheckCheckAnswer feedcheck_check(const uint8_t *reg, size_t reg_length, cons
 FeedcheckWriterAnswer feedcheck_plain(const uint8_t *reg, size_t reg_length, const uint8_t *scheme, size_t scheme_length,
                                       uint8_t *buffer, size_t buffer_length);
 
-/* A whole job: the bound, the plan's cost, the gap, and the tally carried on. libjob.a */
+/* A whole job: the bound, the plan's cost, the gap, and the tally carried on. Refused 15 where its plan does not fit the rows.
+ * libjob.a */
 FeedcheckJobAnswer feedcheck_job(const uint8_t *job, size_t job_length, int64_t *table, size_t table_length, FeedcheckTally tally);
 
 /* Writes the lines of a job; a refused job has one line, and is no refusal of this call. liblisting.a */

@@ -22,6 +22,7 @@ LIMIT = 100_000_000
 WALKED = 200_000
 EVERY = 20
 TOO_MANY = "R 14 0\n"
+NONE_FITS = "R 16 0\n"
 
 
 def read(data):
@@ -33,13 +34,16 @@ def read(data):
 
 
 class Search:
-    """The rule of request R-3. A partial plan is two numbers: the choices from `undecided` up are decided, those whose bits are in `fed`
-    fed and the others unfed; the choices below `undecided` are not decided."""
+    """The rule of request R-3, with the rows of R-5. A partial plan is two numbers: the choices from `undecided` up are decided, those
+    whose bits are in `fed` fed and the others unfed; the choices below `undecided` are not decided. Rows are looked at where no choice
+    is undecided: a full plan that doesn't fit is visited and changes nothing else."""
 
     def __init__(self, register, limit):
         self.register, self.limit = register, limit
         self.visits, self.best, self.plan = 0, None, None
         self.visit(len(register.choices), 0)
+        if self.plan is None:
+            raise Refused(16, 0, 0)
 
     def sum_at(self, undecided, fed):
         unfed = -1 << undecided & ~fed
@@ -59,7 +63,8 @@ class Search:
         if self.best is not None and total >= self.best:
             return
         if undecided == 0:
-            self.best, self.plan = total, fed
+            if self.register.fits(fed):
+                self.best, self.plan = total, fed
         else:
             self.visit(undecided - 1, fed)
             self.visit(undecided - 1, fed | 1 << undecided - 1)
@@ -80,22 +85,24 @@ def text(data, limit):
 
 
 def is_cheapest(data, expected):
-    """Whether a text has the first of the cheapest plans and its cost, by the costs of all plans. Of a refused register and of one with
-    more choices than that is done for nothing is said."""
+    """Whether a text has the first of the cheapest plans that fit and its cost, by the costs of all plans, or says that none fits. Of a
+    refused register and of one with more choices than that is done for nothing is said."""
     try:
         register = read(data)
     except Refused:
         return True
     if len(register.choices) > EVERY:
         return True
-    plan = min(range(1 << len(register.choices)), key=register.cost)
+    plan = min(filter(register.fits, range(1 << len(register.choices))), key=register.cost, default=None)
+    if plan is None:
+        return expected == NONE_FITS
     return expected.startswith("".join(line + "\n" for line in register.feedings(plan)) + f"S {register.cost(plan)} ")
 
 
 def has_more(expected):
     """Whether a text may be that of a search with more visits than are walked."""
     last = re.fullmatch(r"(?:F \d+ \d+\n)*S -?\d+ (\d+)\n", expected)
-    return expected == TOO_MANY or last is not None and int(last[1]) > WALKED
+    return expected in (TOO_MANY, NONE_FITS) or last is not None and int(last[1]) > WALKED
 
 
 def compare(folder):

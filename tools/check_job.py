@@ -11,7 +11,7 @@ import sys
 
 sys.dont_write_bytecode = True
 
-from job_text import COMMANDS, DAYS, SQUARE, USUAL_DAY, operands, size
+from job_text import COMMANDS, DAYS, ROW, SQUARE, USUAL_DAY, operands, size
 
 
 class Refused(Exception):
@@ -40,10 +40,13 @@ class Job:
     def register(self):
         _, v = self.take(0x10)
         self.need(abs(v["cost"]) <= 1_000_000_000, 4)
-        self.base, self.day, self.windows, self.choices, self.terms = v["cost"], USUAL_DAY, [], [], []
+        self.base, self.day, self.windows, self.choices, self.rows, self.terms = v["cost"], USUAL_DAY, [], [], [], []
         after_base = [0x18]  # what may stand only directly after `10`
         while True:
-            byte, v = self.take(0x12, 0x1F, *after_base, *([] if self.terms else [0x11]), *([] if self.choices else [0x13]))
+            before_terms = [] if self.terms else [0x14]
+            before_rows = [] if self.terms or self.rows else [0x11]
+            before_choices = [] if self.terms or self.rows or self.choices else [0x13]
+            byte, v = self.take(0x12, 0x1F, *after_base, *before_choices, *before_rows, *before_terms)
             after_base = []
             if byte == 0x18:
                 self.need(v["length"] in DAYS, 4)
@@ -62,6 +65,12 @@ class Job:
                 windows = [range(start, end) for tank, start, end in self.windows if tank == v["tank"]]
                 self.need(not windows or any(v["minute"] in window for window in windows), 13)
                 self.choices.append(choice)
+            elif byte == 0x14:
+                entries = [v[name] for name in ROW]
+                self.need(len(self.rows) < 8, 3)
+                self.need(abs(v["b"]) <= 4_064, 4)
+                self.need(not any(entries[len(self.choices):]), 5)
+                self.rows.append((v["b"], entries))
             elif byte == 0x12:
                 self.need(len(self.terms) < 256, 3)
                 self.need(1 <= abs(v["coefficient"]) <= 1_000_000, 4)
@@ -96,7 +105,7 @@ class Job:
                 self.splits.append((l, r))
 
     def form(self, byte, v):
-        """A multiplier command's form, after its checks: c times the factors of places p and q, for each (p, q, c)."""
+        """The form of a command `31` to `39`, after its checks: c times the factors of places p and q, for each (p, q, c)."""
         names = [v[f] for f, _ in COMMANDS[byte][2] if f != "m"]
         place = [i + 1 for i in names]
         self.need(abs(v["m"]) <= 10 ** 12 and (byte <= 0x34 or v["m"] >= 0), 4)
@@ -125,13 +134,21 @@ class Job:
             return [(0, place[0], 1), (0, l, -1), (0, r, -1), (0, 0, 1)]
         return [(0, l if byte == 0x35 else r, 1), (0, place[0], -1)]
 
+    def row_form(self, v):
+        """The form of `3B`, after its checks: the variable times what the row's sum is more than b."""
+        self.need(abs(v["m"]) <= 10 ** 9, 4)
+        self.need(v["row"] < len(self.rows) and v["i"] < len(self.sets), 5)
+        b, entries = self.rows[v["row"]]
+        place = v["i"] + 1
+        return [(place, j + 1, a) for j, a in enumerate(entries[:len(self.choices)])] + [(0, place, -b)]
+
     def certificate(self):
         _, v = self.take(0x30)
         self.need(1 <= v["s"] <= 1_000_000 and abs(v["T"]) <= 4 * 10 ** 15, 4)
         self.s, self.T = v["s"], v["T"]
         side, multipliers, squares = len(self.sets) + 1, [], []
         while True:
-            byte, v = self.take(*range(0x31, 0x3B), 0x3F)
+            byte, v = self.take(*range(0x31, 0x3C), 0x3F)
             if byte == 0x3F:
                 break
             if byte == 0x3A:
@@ -142,7 +159,8 @@ class Job:
                 squares.append((v["weight"], entries))
             else:
                 self.need(len(multipliers) < 1_024, 3)
-                multipliers.append((v["m"] if byte <= 0x34 else -v["m"], self.form(byte, v)))
+                added = byte <= 0x34 or byte == 0x3B
+                multipliers.append((v["m"] if added else -v["m"], self.row_form(v) if byte == 0x3B else self.form(byte, v)))
         table = [[0] * side for _ in range(side)]
 
         def add(times, form):
@@ -170,12 +188,17 @@ class Job:
     def plan(self):
         _, v = self.take(0x40)
         self.need(v["fed"] < 1 << len(self.choices), 5)
+        self.need(self.fits(v["fed"]), 15)
         self.ended()
         self.fed = v["fed"]
 
     def ended(self):
         self.at = self.next
         self.need(self.at == len(self.job), 12)
+
+    def fits(self, plan):
+        """Whether the sum of the entries that a plan feeds is b, in each row."""
+        return all(sum(a for j, a in enumerate(entries) if plan >> j & 1) == b for b, entries in self.rows)
 
     def cost(self, plan):
         return self.base + sum(c for mask, c in self.terms if mask & ~plan == 0)

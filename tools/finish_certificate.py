@@ -92,7 +92,7 @@ def finish(job):
     parts = list(commands(job))
     front = b"".join(run for byte, run in parts if byte < 0x30)
     scale = next(operands(run, 0)["s"] for byte, run in parts if byte == 0x30)
-    multipliers = b"".join(run for byte, run in parts if 0x31 <= byte <= 0x39)
+    multipliers = b"".join(run for byte, run in parts if 0x31 <= byte <= 0x39 or byte == 0x3B)
     plan = b"".join(run for byte, run in parts if byte == 0x40)
     rest = table(front, scale, multipliers, plan)
     squares = b"".join(squares_of(rest, scale // 100 + 1))

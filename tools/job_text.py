@@ -8,8 +8,9 @@
 A line is a command: position, part, command byte, name, operands, and in parentheses what they mean. `make` looks only at the
 command byte and the operands, so positions need not be mended after a change, and in lines written by hand `-` may stand in their
 place; it passes over empty lines and lines that begin with `#`. A square's entries are c for the constant and z0 to z63 for the
-variables; those that are 0 are left out. A time is hours and minutes since the day began, 24:59 for the last minute of a day of 25
-hours; it is left out where the minute is not one of the day, whose length is that of the `18` directly after `10`, or the usual one.
+variables, those of a row of the register z0 to z31 for the choices; those that are 0 are left out. A time is hours and minutes since
+the day began, 24:59 for the last minute of a day of 25 hours; it is left out where the minute is not one of the day, whose length is
+that of the `18` directly after `10`, or the usual one.
 From the first byte that is no command, or begins a command that is cut off, or stands after the plan, the bytes are shown as
 they are, after `raw`. `register` looks only for the end of part 1, not whether what stands before it is right.
 """
@@ -20,13 +21,15 @@ SHORT_DAY, USUAL_DAY, LONG_DAY = 1_380, 1_440, 1_500
 DAYS = SHORT_DAY, USUAL_DAY, LONG_DAY
 
 # command byte: part, name, operands; an operand is a name, a width in bytes and whether it is signed
-U8, U16, U32, I16, I32, I64 = (1, False), (2, False), (4, False), (2, True), (4, True), (8, True)
+U8, U16, U32, I8, I16, I32, I64 = (1, False), (2, False), (4, False), (1, True), (2, True), (4, True), (8, True)
 SQUARE = ["c"] + [f"z{i}" for i in range(64)]
+ROW = [f"z{i}" for i in range(32)]
 COMMANDS = {
     0x10: (1, "base", [("cost", I32)]),
     0x11: (1, "choice", [("tank", U16), ("minute", U16)]),
     0x12: (1, "term", [("mask", U32), ("coefficient", I32)]),
     0x13: (1, "window", [("tank", U16), ("from", U16), ("to", U16)]),
+    0x14: (1, "row", [("b", I16)] + [(name, I8) for name in ROW]),
     0x18: (1, "day", [("length", U16)]),
     0x1F: (1, "end", []),
     0x21: (2, "product", [("l", U8), ("r", U8)]),
@@ -43,10 +46,13 @@ COMMANDS = {
     0x38: (3, "subtract", [("i", U8), ("m", I64)]),
     0x39: (3, "subtract", [("i", U8), ("m", I64)]),
     0x3A: (3, "square", [("weight", U32)] + [(name, I16) for name in SQUARE]),
+    0x3B: (3, "add", [("row", U8), ("i", U8), ("m", I64)]),
     0x3F: (3, "end", []),
     0x40: (4, "plan", [("fed", U32)]),
 }
 HEXADECIMAL = ("mask", "fed")
+# command byte: entries that are left out where they are 0
+ENTRIES = {0x14: ROW, 0x3A: SQUARE}
 
 
 def size(byte):
@@ -68,7 +74,7 @@ def encode(byte, values):
     """The bytes of a command."""
     parts = [bytes([byte])]
     for name, (width, signed) in COMMANDS[byte][2]:
-        value = values.get(name, 0) if name in SQUARE and byte == 0x3A else values[name]
+        value = values.get(name, 0) if name in ENTRIES.get(byte, ()) else values[name]
         parts.append(value.to_bytes(width, "little", signed=signed))
     return b"".join(parts)
 
@@ -88,13 +94,28 @@ def product_of(l, r):
     return f"z{l}" if l == r else f"z{l} z{r}"
 
 
+def sum_of(entries):
+    """The sum of a row's entries times their choices."""
+    said = ""
+    for j, entry in enumerate(entries):
+        if entry:
+            sign = (" - " if said else "-") if entry < 0 else " + " if said else ""
+            said += sign + (f"{abs(entry)} " if abs(entry) != 1 else "") + f"z{j}"
+    return said or "0"
+
+
+def less(b):
+    """A number taken off, nothing where it is 0."""
+    return f" - {b}" if b > 0 else f" + {-b}" if b else ""
+
+
 class Meaning:
-    """What the commands so far have named: the day's length, 0 where it is none of those that a day may have, the windows, the sets of
-    the variables, the operands of the products, how many terms and splits; and the last command."""
+    """What the commands so far have named: the day's length, 0 where it is none of those that a day may have, the windows, the rows, the
+    sets of the variables, the operands of the products, how many terms and splits; and the last command."""
 
     def __init__(self):
         self.last, self.day = None, USUAL_DAY
-        self.windows, self.sets, self.products, self.terms, self.splits = [], [], {}, 0, 0
+        self.windows, self.rows, self.sets, self.products, self.terms, self.splits = [], [], [], {}, 0, 0
 
     def outside(self, tank, minute):
         """Whether a tank has windows and a minute is in none of them."""
@@ -106,8 +127,19 @@ class Meaning:
         sets = [self.sets[v] if v < len(self.sets) else None for v in variables]
         return None if None in sets else sets[0] | sets[1]
 
+    def unfit(self, fed):
+        """The rows that a plan doesn't fit."""
+        return [k for k, (b, entries) in enumerate(self.rows) if sum(x for j, x in enumerate(entries) if fed >> j & 1) != b]
+
+    def row_form(self, v):
+        """The form of `3B`."""
+        if v["row"] >= len(self.rows) or v["i"] >= len(self.sets):
+            return "names what is not there"
+        b, entries = self.rows[v["row"]]
+        return f"z{v['i']} ({sum_of(entries)}{less(b)})"
+
     def form(self, byte, v):
-        """The form of a multiplier command."""
+        """The form of a multiplier command `31` to `39`."""
         l, r = self.products.get(v["k"], ("_l", "_r")) if 0x35 <= byte <= 0x37 else (0, 0)
         return {
             0x31: "z{i}^2 - z{i}",
@@ -136,6 +168,11 @@ class Meaning:
             self.windows.append((v["tank"], v["from"], v["to"]))
             times = f", {time_of(v['from'])} to {time_of(v['to'])}" if v["from"] < v["to"] <= self.day else ""
             return f"window {len(self.windows) - 1}{times}"
+        if byte == 0x14:
+            entries = [v[name] for name in ROW]
+            self.rows.append((v["b"], entries))
+            outside = ", names what is not there" if any(entries[len(self.sets):]) else ""
+            return f"row {len(self.rows) - 1}: {sum_of(entries)} = {v['b']}{outside}"
         if byte == 0x18 and before == 0x10:
             self.day = v["length"] if v["length"] in DAYS else 0
             return f"{self.day // 60} hours" if self.day else ""
@@ -151,7 +188,11 @@ class Meaning:
             return f"bound {-(-v['T'] // v['s'])}" if v["s"] else ""
         if 0x31 <= byte <= 0x39:
             return self.form(byte, v)
-        return choices_of(v["fed"]) if byte == 0x40 else ""
+        if byte == 0x3B:
+            return self.row_form(v)
+        if byte == 0x40:
+            return choices_of(v["fed"]) + "".join(f", does not fit row {k}" for k in self.unfit(v["fed"]))
+        return ""
 
 
 def show(job):
@@ -160,7 +201,7 @@ def show(job):
     while at < len(job) and job[at] in COMMANDS and at + size(job[at]) <= len(job):
         byte, values = job[at], operands(job, at)
         part, name, _ = COMMANDS[byte]
-        shown = [f"{f} 0x{x:08X}" if f in HEXADECIMAL else f"{f} {x}" for f, x in values.items() if byte != 0x3A or f == "weight" or x]
+        shown = [f"{f} 0x{x:08X}" if f in HEXADECIMAL else f"{f} {x}" for f, x in values.items() if x or f not in ENTRIES.get(byte, ())]
         said = meaning.after(byte, values)
         lines.append("  ".join([f"{at:05}", str(part), f"{byte:02X} {name:8}"] + shown + ([f"({said})"] if said else [])).rstrip())
         at += size(byte)

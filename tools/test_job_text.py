@@ -1,8 +1,8 @@
 #!/usr/bin/env python3
 """Tries tools/job_text.py: bytes to lines and back, on every example, on every file of the folders given, and on damaged copies of
-three jobs, one without windows, one with them and one with a day's length too: each front of it, each byte changed to six others, each
-byte left out. Then the lines of registers with windows and lengths, right ones and others, lines that are no command, registers written
-by hand, and part 1 of jobs.
+three jobs, one without windows, one with them and one with a day's length too, and of one with a row: each front of it, each byte
+changed to eight others, each byte left out. Then the lines of registers with windows, lengths and rows, right ones and others, and of
+what names a row, lines that are no command, registers written by hand, and part 1 of jobs.
 
     tools/test_job_text.py [FOLDER ..]
 """
@@ -70,6 +70,42 @@ SHOWN = [
         ("11 0400 0000", "00015  1  11 choice    tank 4  minute 0  (choice 0)"),
         ("18 DC", "00020  -  raw  18 DC"),
     ],
+    # rows in order, entries of 8 bits and a sum below 0, a row without entries, a row that names a choice that is not there; what
+    # names a row, a product among the variables, a row that is not there and a variable that is not there; a plan that does not fit
+    [
+        ("10 00000000", "00000  1  10 base      cost 0"),
+        ("11 0300 6801", "00005  1  11 choice    tank 3  minute 360  (choice 0, 06:00)"),
+        ("11 0300 5802", "00010  1  11 choice    tank 3  minute 600  (choice 1, 10:00)"),
+        ("14 0200 0101" + 30 * "00", "00015  1  14 row       b 2  z0 1  z1 1  (row 0: z0 + z1 = 2)"),
+        ("14 20F0 807F" + 30 * "00", "00050  1  14 row       b -4064  z0 -128  z1 127  (row 1: -128 z0 + 127 z1 = -4064)"),
+        ("14 0000 00FF" + 30 * "00", "00085  1  14 row       b 0  z1 -1  (row 2: -z1 = 0)"),
+        ("14 0100" + 32 * "00", "00120  1  14 row       b 1  (row 3: 0 = 1)"),
+        ("14 0100 01" + 30 * "00" + "FE", "00155  1  14 row       b 1  z0 1  z31 -2  (row 4: z0 - 2 z31 = 1, names what is not there)"),
+        ("1F", "00190  1  1F end"),
+        ("21 00 01", "00191  2  21 product   l 0  r 1  (variable 2 = z0 z1: choices 0 1)"),
+        ("2F", "00194  2  2F end"),
+        ("30 01000000 0000000000000000", "00195  3  30 scale     s 1  T 0  (bound 0)"),
+        ("3B 00 00 FFFFFFFFFFFFFFFF", "00208  3  3B add       row 0  i 0  m -1  (z0 (z0 + z1 - 2))"),
+        ("3B 01 02 00CA9A3B00000000", "00219  3  3B add       row 1  i 2  m 1000000000  (z2 (-128 z0 + 127 z1 + 4064))"),
+        ("3B 02 01 0200000000000000", "00230  3  3B add       row 2  i 1  m 2  (z1 (-z1))"),
+        ("3B 03 01 0000000000000000", "00241  3  3B add       row 3  i 1  m 0  (z1 (0 - 1))"),
+        ("3B 05 00 0100000000000000", "00252  3  3B add       row 5  i 0  m 1  (names what is not there)"),
+        ("3B 00 03 0100000000000000", "00263  3  3B add       row 0  i 3  m 1  (names what is not there)"),
+        ("3F", "00274  3  3F end"),
+        ("40 01000000", "00275  4  40 plan      fed 0x00000001  (choices 0, does not fit row 0, does not fit row 1, does not fit row 3)"),
+    ],
+    # a plan that fits, and a row that is cut off
+    [
+        ("10 00000000", "00000  1  10 base      cost 0"),
+        ("11 0300 6801", "00005  1  11 choice    tank 3  minute 360  (choice 0, 06:00)"),
+        ("14 0100 01" + 31 * "00", "00010  1  14 row       b 1  z0 1  (row 0: z0 = 1)"),
+        ("1F", "00045  1  1F end"),
+        ("40 01000000", "00046  4  40 plan      fed 0x00000001  (choices 0)"),
+    ],
+    [
+        ("10 00000000", "00000  1  10 base      cost 0"),
+        ("14 0100 01", "00005  -  raw  14 01 00 01"),
+    ],
 ]
 
 NO_COMMANDS = [
@@ -83,6 +119,18 @@ NO_COMMANDS = [
     "00005  1  18 day       minute 1500",
     "00005  1  18 day       length 65536",
     "00005  1  18 day       length -1",
+    "00005  1  14 row",
+    "00005  1  14 row       z0 1",
+    "00005  1  14 row       b 2  z0",
+    "00005  1  14 row       b 2  z0 128",
+    "00005  1  14 row       b 2  z0 -129",
+    "00005  1  14 row       b 2  z32 1",
+    "00005  1  14 row       b 2  c 1",
+    "00005  1  14 row       b 32768  z0 1",
+    "00208  3  3B add       row 0  m 1",
+    "00208  3  3B add       i 0  m 1",
+    "00208  3  3B add       row -1  i 0  m 1",
+    "00208  3  3B add       row 256  i 0  m 1",
 ]
 
 # the register of examples/example.job as a farm may write it: no positions, no meanings, masks in binary
@@ -104,11 +152,16 @@ WRITTEN = """
 WRITTEN_LENGTH = WRITTEN.replace("cost 10\n", "cost 10\n-  1  18 day     length 1440\n")
 
 
+# a job with a row
+ROW = bytes.fromhex("10 0A000000 11 0300 6801 11 0300 5802 11 0800 D002 14 0100 0101" + 30 * "00" + "12 04000000 FDFFFFFF 1F 22 02 02 2F"
+                    "30 01000000 0700000000000000 3B 00 01 0000000000000000 39 02 0300000000000000 3F 40 06000000")
+
+
 def damaged(job):
     for at in range(len(job)):
         yield job[:at]
         yield job[:at] + job[at + 1:]
-        for byte in (0x00, 0x11, 0x13, 0x18, 0x3F, 0xFF):
+        for byte in (0x00, 0x11, 0x13, 0x14, 0x18, 0x3B, 0x3F, 0xFF):
             yield job[:at] + bytes([byte]) + job[at + 1:]
 
 
@@ -125,6 +178,7 @@ def main():
     jobs = [(path.name, path.read_bytes()) for path in files]
     for name in JOBS:
         jobs += [(f"{name}, damaged", job) for job in damaged((EXAMPLES / f"{name}.job").read_bytes())]
+    jobs += [("a row, damaged", job) for job in [ROW, *damaged(ROW)]]
     trials = [(f"not the same bytes: {name}", make(show(job)) == job) for name, job in jobs]
     for commands in SHOWN:
         lines = show(bytes.fromhex("".join(run for run, _ in commands)))
@@ -138,6 +192,7 @@ def main():
         job, register = ((EXAMPLES / f"{name}.{kind}").read_bytes() for kind in ("job", "register"))
         trials += [(f"not part 1: {name}", register_of(whole) == register) for whole in (job, register)]
         trials += [(f"cut before the end of part 1: {name}", register_of(job[:n]) is None) for n in range(len(register))]
+    trials += [("not part 1: a row", register_of(ROW) == ROW[:65])]
     trials += [(f"no end of part 1: {bad}", register_of(bytes.fromhex(bad)) is None) for bad in ("7E 1F", "10 00000000 21 00 01 1F")]
     failed = [said for said, holds in trials if not holds]
     for said in failed:

@@ -21,6 +21,12 @@ pub const MAX_TERMS: usize = 256;
 /// The most windows of a register.
 pub const MAX_WINDOWS: usize = 64;
 
+/// The most rows of a register.
+pub const MAX_ROWS: usize = 8;
+
+/// The entries of a row, one for each choice that a register may have.
+pub const ROW_ENTRIES: usize = 32;
+
 /// The minutes of the day on which the clocks go forward.
 pub const SHORT_DAY: u16 = 1_380;
 
@@ -46,10 +52,10 @@ pub const MAX_PLAIN: usize = 1_294;
 pub const MAX_LISTING: usize = 4_096;
 
 /// No job of more bytes is accepted.
-pub const MAX_JOB: usize = 25_757;
+pub const MAX_JOB: usize = 26_037;
 
 /// A longer job is answered as its first so many bytes are.
-pub const MAX_JOB_READ: usize = 25_886;
+pub const MAX_JOB_READ: usize = 26_166;
 
 /// A refusal: its number in the table of docs/REFUSALS.md, the part (1 register, 2 scheme, 3 certificate, 4 plan) and the
 /// position of the command that is refused; part and position are 0 where no command causes it.
@@ -88,6 +94,8 @@ impl Refusal {
             12 => "bytes stand after the end",
             13 => "a choice is outside its tank's windows",
             14 => "the search takes more visits than its limit",
+            15 => "the plan does not fit the rows",
+            16 => "no plan fits the rows",
             _ => "no refusal",
         }
     }
@@ -138,14 +146,15 @@ pub fn build(register: &[u8], buffer: &mut [u8]) -> Result<usize, Refusal> {
     result(answer.number, answer.part, answer.position, answer.count)
 }
 
-/// The cost of a plan.
+/// The cost of a plan. Refused 15 where the plan does not fit the register's rows.
 pub fn cost(register: &[u8], plan: &[u8]) -> Result<i64, Refusal> {
     let answer = raw::cost(register, plan);
     result(answer.number, answer.part, answer.position, answer.cost)
 }
 
-/// Finds a plan that costs at most any other, of equals the smallest number. Refused 14 where that takes more visits than the
-/// limit; it stops there, so the limit bounds the time of the call. As many as the limit are accepted.
+/// Finds a plan that fits the register's rows and costs at most any other that fits, of equals the smallest number. Refused 14
+/// where that takes more visits than the limit; it stops there, so the limit bounds the time of the call. As many as the limit
+/// are accepted. Refused 16 where no plan fits; 14 comes before it.
 pub fn search(register: &[u8], limit: u32) -> Result<Found, Refusal> {
     let answer = raw::search(register, limit);
     let found = Found { plan: answer.plan, cost: answer.cost, visits: answer.visits };
@@ -158,7 +167,8 @@ pub fn penalty(register: &[u8], scheme: &[u8], table: &mut [i64]) -> Result<(), 
     result(answer.number, answer.part, answer.position, ())
 }
 
-/// Checks a certificate: the bound, below which no plan costs. R is left in the table once the certificate's end is reached.
+/// Checks a certificate: the bound, below which no plan that fits the register's rows costs. R is left in the table once the
+/// certificate's end is reached.
 pub fn check(register: &[u8], scheme: &[u8], certificate: &[u8], table: &mut [i64]) -> Result<i64, Refusal> {
     let answer = raw::check(register, scheme, certificate, table);
     result(answer.number, answer.part, answer.position, answer.bound)
@@ -170,7 +180,7 @@ pub fn plain(register: &[u8], scheme: &[u8], buffer: &mut [u8]) -> Result<usize,
     result(answer.number, answer.part, answer.position, answer.count)
 }
 
-/// A whole job, and its tally moved on.
+/// A whole job, and its tally moved on. Refused 15 where its plan does not fit the register's rows.
 pub fn job(job: &[u8], table: &mut [i64], tally: &mut Tally) -> Result<Outcome, Refusal> {
     let answer = raw::job(job, table, *tally);
     *tally = answer.tally;

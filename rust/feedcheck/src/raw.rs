@@ -2,12 +2,16 @@
 //!
 //! A Rust slice's pointer is never null and is aligned, and a lent slice overlaps nothing else, which is all that the calls ask.
 
-use crate::{MAX_CHOICES, MAX_PRODUCTS, MAX_TERMS, MAX_WINDOWS};
+use crate::{MAX_CHOICES, MAX_PRODUCTS, MAX_ROWS, MAX_TERMS, MAX_WINDOWS, ROW_ENTRIES};
 
 /// The record of a register. Its day_length is SHORT_DAY, USUAL_DAY or LONG_DAY, and 0 on a refusal; every minute is below
 /// it, and no window ends after it.
 /// Window number w is of the tank window_tanks[w]: window_froms[w] is its first minute, window_tos[w] the first minute after it.
-/// Where a tank has no window, every minute of the day is allowed. Entries past the counts are 0.
+/// Where a tank has no window, every minute of the day is allowed.
+/// Row number k has the sum row_sums[k], and for choice j the entry row_entries[ROW_ENTRIES * k + j], 0 where there is no choice
+/// j. A plan fits where, for each row, the entries of the choices that it feeds add up to the row's sum; where there is no row,
+/// every plan fits.
+/// Entries past the counts are 0.
 #[derive(Clone, Copy, Debug, PartialEq, Eq)]
 #[repr(C)]
 pub struct Register {
@@ -23,6 +27,9 @@ pub struct Register {
     pub window_tanks: [u16; MAX_WINDOWS],
     pub window_froms: [u16; MAX_WINDOWS],
     pub window_tos: [u16; MAX_WINDOWS],
+    pub rows: usize,
+    pub row_sums: [i16; MAX_ROWS],
+    pub row_entries: [i8; MAX_ROWS * ROW_ENTRIES],
 }
 
 /// The record of a scheme: product number n + k has the operands lefts[k] and rights[k], term t the split split_lefts[t],

@@ -96,7 +96,7 @@ fn record() {
     let refused = raw::register(&register(&[day(LONG_DAY), choice(LONG_DAY)]));
     assert_eq!((refused.number, refused.part, refused.position), (4, 1, 8));
     assert_eq!((refused.register.base, refused.register.day_length, refused.register.choices), (0, 0, 0));
-    assert_eq!((size_of::<raw::RegisterAnswer>(), size_of::<raw::Register>()), (2_608, 2_592));
+    assert_eq!((size_of::<raw::RegisterAnswer>(), size_of::<raw::Register>()), (2_888, 2_872));
     assert_eq!((offset_of!(raw::Register, day_length), offset_of!(raw::Register, choices)), (4, 8));
 }
 
@@ -118,12 +118,13 @@ fn jobs() {
     assert_eq!(listed(&job(&register(&[choice(1_380)]))), "T 0 4 1380\nF 4 1380\nB 10 10 0\n");
 }
 
-/// The longest register: 64 windows, 32 choices and 256 terms, each of one choice or of two, on a day whose length is said.
+/// The longest register: 64 windows, 32 choices, 8 rows and 256 terms, each of one choice or of two, on a day whose length is said.
 fn longest_register() -> Vec<u8> {
     let windows = (0..64).flat_map(|w| command(0x13, &[9_999, w, LONG_DAY]));
     let choices = (0..32).flat_map(|i| command(0x11, &[9_999, LONG_DAY - 32 + i]));
     let terms = splits().flat_map(|[l, r]| [&[0x12][..], &(1u32 << l | 1 << r).to_le_bytes(), &1i32.to_le_bytes()].concat());
-    register(&[day(LONG_DAY), windows.chain(choices).chain(terms).collect()])
+    let rows = [&[0x14][..], &[0; 34]].concat().repeat(8);
+    register(&[day(LONG_DAY), windows.chain(choices).chain(rows).chain(terms).collect()])
 }
 
 /// The splits of its terms, in the order of their masks.
@@ -145,7 +146,8 @@ fn longest_job(squares: usize) -> Vec<u8> {
 #[test]
 fn longest() {
     let record = feedcheck::register(&longest_register()).unwrap();
-    assert_eq!((record.day_length, record.windows, record.choices, record.terms), (LONG_DAY, 64, 32, 256));
+    assert_eq!((record.day_length, record.windows, record.choices), (LONG_DAY, 64, 32));
+    assert_eq!((record.rows, record.terms), (8, 256));
     let mut table = vec![0; feedcheck::TABLE_NUMBERS];
     let mut refused = |job: &[u8]| {
         let refusal = feedcheck::job(job, &mut table, &mut feedcheck::Tally::default()).unwrap_err();
@@ -153,10 +155,10 @@ fn longest() {
     };
     // Right up to `3F`, where R falls short.
     assert_eq!(longest_job(64).len(), feedcheck::MAX_JOB);
-    assert_eq!(refused(&longest_job(64)), (9, 3, 25_751));
+    assert_eq!(refused(&longest_job(64)), (9, 3, 26_031));
     // The last byte of a 65th square is the last that can matter.
     let job = longest_job(65);
-    assert_eq!(refused(&job), (3, 3, 25_751));
-    assert_eq!(refused(&job[..feedcheck::MAX_JOB_READ]), (3, 3, 25_751));
-    assert_eq!(refused(&job[..feedcheck::MAX_JOB_READ - 1]), (2, 3, 25_751));
+    assert_eq!(refused(&job), (3, 3, 26_031));
+    assert_eq!(refused(&job[..feedcheck::MAX_JOB_READ]), (3, 3, 26_031));
+    assert_eq!(refused(&job[..feedcheck::MAX_JOB_READ - 1]), (2, 3, 26_031));
 }
