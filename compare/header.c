@@ -1,5 +1,5 @@
-// The example of the scope through include/feedcheck.h, every call, a register with windows, and days of each length. Prints a
-// line and exits 1 where an answer is another than the scope's.
+// The example of the scope through include/feedcheck.h, every call, a register with windows, days of each length, and a register
+// with rows. Prints a line and exits 1 where an answer is another than the scope's.
 #include <stddef.h>
 #include <stdio.h>
 #include <string.h>
@@ -16,6 +16,12 @@ static const uint8_t JOB[113] = {
 // Tank 4 from 480 to 482 and from 720 to the end of a usual day, tank 7 from 0 to 1, then a choice of tank 4 at minute 481.
 static const uint8_t WINDOWS[32] = {0x10, 0, 0, 0, 0, 0x13, 4, 0, 0xE0, 1, 0xE2, 1, 0x13, 4, 0, 0xD0, 2, 0xA0, 5,
                                     0x13, 7, 0, 0, 0, 1, 0, 0x11, 4, 0, 0xE1, 1, 0x1F};
+
+// Choices at minutes 480 and 481 of tank 4, rows -1 = 2 z0 - 3 z1 and 1 = z0 + z1, and a term of each choice.
+static const uint8_t ROWS[104] = {0x10, 10, 0, 0, 0, 0x11, 4, 0, 0xE0, 1, 0x11, 4, 0, 0xE1, 1,
+                                  0x14, 0xFF, 0xFF, 2, 0xFD, 0, 0, 0, 0, 0, 0, 0, 0, 0, 0, 0, 0, 0, 0, 0, 0, 0, 0, 0, 0, 0, 0, 0, 0, 0, 0, 0, 0, 0, 0,
+                                  0x14, 1, 0, 1, 1, 0, 0, 0, 0, 0, 0, 0, 0, 0, 0, 0, 0, 0, 0, 0, 0, 0, 0, 0, 0, 0, 0, 0, 0, 0, 0, 0, 0, 0, 0,
+                                  0x12, 1, 0, 0, 0, 0xFE, 0xFF, 0xFF, 0xFF, 0x12, 2, 0, 0, 0, 0xFD, 0xFF, 0xFF, 0xFF, 0x1F};
 
 enum { REGISTER = 48, SCHEME = 16, CERTIFICATE = 44, PLAN = 5 };
 
@@ -53,6 +59,34 @@ static void try_days(void) {
     }
 }
 
+// Both plans that fit the second row miss the first: 2 and -3 are not -1. Without the first row plan 2 is the cheapest.
+static void try_rows(void) {
+    FeedcheckRegisterAnswer a = feedcheck_register(ROWS, sizeof ROWS);
+    expect("rows", a.number == 0 && a.reg.choices == 2 && a.reg.rows == 2 && a.reg.row_sums[0] == -1 && a.reg.row_sums[1] == 1 &&
+                       a.reg.row_sums[2] == 0 && a.reg.row_entries[0] == 2 && a.reg.row_entries[1] == -3 &&
+                       a.reg.row_entries[2] == 0 && a.reg.row_entries[32] == 1 && a.reg.row_entries[33] == 1 && a.reg.terms == 2);
+    uint8_t bytes[sizeof ROWS];
+    memcpy(bytes, ROWS, sizeof ROWS);
+    bytes[20] = 1;
+    a = feedcheck_register(bytes, sizeof bytes);
+    expect("rows, an entry past the choices", a.number == 5 && a.part == 1 && a.position == 15 && a.reg.rows == 0 &&
+                                                  a.reg.row_sums[0] == 0 && a.reg.row_entries[0] == 0);
+    memcpy(bytes, ROWS, 15);
+    memcpy(bytes + 15, ROWS + 50, sizeof ROWS - 50);
+    const uint8_t fed[5] = {0x40, 2, 0, 0, 0}, both[5] = {0x40, 3, 0, 0, 0};
+    FeedcheckCostAnswer c = feedcheck_cost(bytes, sizeof ROWS - 35, fed, 5);
+    expect("rows, a plan that fits", c.number == 0 && c.cost == 7);
+    c = feedcheck_cost(bytes, sizeof ROWS - 35, both, 5);
+    expect("rows, a plan that doesn't fit", c.number == 15 && c.part == 4 && c.position == 0 && c.cost == 0);
+    FeedcheckSearchAnswer s = feedcheck_search(bytes, sizeof ROWS - 35, 7);
+    expect("rows, search", s.number == 0 && s.plan == 2 && s.cost == 7 && s.visits == 7);
+    s = feedcheck_search(ROWS, sizeof ROWS, 7);
+    expect("rows, search, no plan fits", s.number == 16 && s.part == 0 && s.position == 0 && s.plan == 0 && s.cost == 0 &&
+                                             s.visits == 0);
+    s = feedcheck_search(ROWS, sizeof ROWS, 6);
+    expect("rows, search, limit passed", s.number == 14 && s.part == 0);
+}
+
 int main(void) {
     static int64_t table[FEEDCHECK_TABLE_NUMBERS];
     uint8_t buffer[FEEDCHECK_MAX_LISTING];
@@ -62,6 +96,7 @@ int main(void) {
     expect("register", a.number == 0 && a.reg.base == 10 && a.reg.choices == 3 && a.reg.terms == 3 && a.reg.tanks[2] == 7 &&
                            a.reg.minutes[1] == 720 && a.reg.masks[2] == 7 && a.reg.coefficients[0] == -6);
     expect("register, no length", a.reg.day_length == FEEDCHECK_USUAL_DAY);
+    expect("register, no rows", a.reg.rows == 0 && a.reg.row_sums[7] == 0 && a.reg.row_entries[255] == 0);
     expect("register, no windows", a.reg.windows == 0 && a.reg.window_tanks[0] == 0 && a.reg.window_tos[63] == 0);
     a = feedcheck_register(WINDOWS, sizeof WINDOWS);
     expect("windows", a.number == 0 && a.reg.choices == 1 && a.reg.minutes[0] == 481 && a.reg.windows == 3 &&
@@ -75,8 +110,9 @@ int main(void) {
     expect("windows, choice outside", a.number == 13 && a.part == 1 && a.position == 26 && a.reg.windows == 0 &&
                                           a.reg.window_tanks[0] == 0);
     try_days();
+    try_rows();
     // The places that docs/LINKING.md speaks of.
-    expect("record", sizeof a == 2608 && sizeof a.reg == 2592 && offsetof(FeedcheckRegister, day_length) == 4 &&
+    expect("record", sizeof a == 2888 && sizeof a.reg == 2872 && offsetof(FeedcheckRegister, day_length) == 4 &&
                          offsetof(FeedcheckRegister, choices) == 8);
     FeedcheckSchemeAnswer b = feedcheck_scheme(JOB, REGISTER, scheme, SCHEME);
     expect("scheme", b.number == 0 && b.scheme.products == 2 && b.scheme.splits == 3 && b.scheme.rights[1] == 3 &&
@@ -112,6 +148,6 @@ int main(void) {
     w = feedcheck_listing(JOB, sizeof JOB, table, FEEDCHECK_TABLE_NUMBERS, buffer, sizeof buffer);
     expect("listing", w.number == 0 && w.count == strlen(LINES) && memcmp(buffer, LINES, w.count) == 0);
     if (!failed)
-        printf("header: the example, the windows and the days are answered as the scope says\n");
+        printf("header: the example, the windows, the days and the rows are answered as the scope says\n");
     return failed;
 }

@@ -51,6 +51,7 @@ fn register_and_scheme(random: &mut Random) -> (Register, Scheme) {
         day_length: USUAL_DAY,
         windows: Vec::new(),
         choices: (1..=MAX_CHOICES as u16).map(|tank| Choice { tank, minute: 0 }).collect(),
+        rows: Vec::new(),
         terms: sets.iter().map(|&(mask, _)| term(mask)).collect(),
     };
     (register, scheme)
@@ -68,7 +69,7 @@ fn square(random: &mut Random) -> Square {
 fn assert_full(parts: &Parts) {
     let (register, _) = register::read(&parts[0]).expect("a register");
     let (scheme, _) = scheme::read(&register, &parts[1]).expect("a scheme");
-    let (certificate, _) = certificate::read(&scheme, &parts[2]).expect("a certificate");
+    let (certificate, _) = certificate::read(&register, &scheme, &parts[2]).expect("a certificate");
     assert_eq!((scheme.choices, scheme.products.len()), (MAX_CHOICES, MAX_PRODUCTS));
     assert!(register.windows.is_empty() && register.terms.len() == scheme.variables());
     assert_eq!(certificate.squares.len(), MAX_SQUARES);

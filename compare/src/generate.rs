@@ -3,7 +3,8 @@
 use crate::random::Random;
 use reference::certificate::{self, Certificate, Multiplier, Square};
 use reference::register::{
-    Choice, Register, Term, Window, DAY_LENGTHS, LONG_DAY, MAX_CHOICES, MAX_TERMS, MAX_WINDOWS, SHORT_DAY, USUAL_DAY,
+    Choice, Register, Row, Term, Window, DAY_LENGTHS, LONG_DAY, MAX_CHOICES, MAX_ROWS, MAX_ROW_SUM, MAX_TERMS, MAX_WINDOWS,
+    SHORT_DAY, USUAL_DAY,
 };
 use reference::scheme::{Scheme, MAX_PRODUCTS};
 use reference::{builder, plain};
@@ -34,7 +35,11 @@ pub enum Size {
 
 pub fn input(random: &mut Random, seeds: &[Whole]) -> Input {
     let mut whole = if !seeds.is_empty() && random.chance(3) {
-        seeds[random.below(seeds.len())].clone()
+        let mut whole = seeds[random.below(seeds.len())].clone();
+        if random.chance(20) {
+            add_rows(random, &mut whole);
+        }
+        whole
     } else {
         let size = random.pick(&[
             Size::Small,
@@ -66,8 +71,9 @@ pub fn whole(random: &mut Random, size: Size) -> Whole {
     register.day_length = length;
     register.choices = choices(random, register.choices.len(), end);
     register.windows = windows(random, &register);
-    let certificate = any_certificate(random, size, &register, &scheme);
     let plan = random.next() as u32 & register.all();
+    register.rows = rows(random, register.choices.len(), plan);
+    let certificate = any_certificate(random, size, &register, &scheme);
     Whole {
         choices: register.choices.len(),
         variables: scheme.variables(),
@@ -86,7 +92,7 @@ pub fn seed(job: &[u8]) -> Option<Whole> {
     let rest = &job[at..];
     let (scheme, at) = reference::scheme::read(&register, rest).ok()?;
     let rest = &rest[at..];
-    let (certificate, at) = certificate::read(&scheme, rest).ok()?;
+    let (certificate, at) = certificate::read(&register, &scheme, rest).ok()?;
     let plan = rest[at..].to_vec();
     let certificate = in_order(&certificate);
     Some(Whole {
@@ -178,6 +184,78 @@ fn later(random: &mut Random, minute: u16, length: u16) -> u16 {
     random.pick(&[minute + 1, minute + 1, length, shorter, any])
 }
 
+/// Rows of n choices. In three of four cases the plan fits them all; else one or all have another sum, which may be no plan's.
+fn rows(random: &mut Random, n: usize, plan: u32) -> Vec<Row> {
+    let count = match random.below(20) {
+        0..=9 => return Vec::new(),
+        10..=13 => 1,
+        14 | 15 => 2,
+        16 => 3 + random.below(MAX_ROWS - 4),
+        17 => MAX_ROWS - 1,
+        _ => MAX_ROWS,
+    };
+    let mut rows: Vec<Row> = (0..count).map(|_| row(random, n, plan)).collect();
+    if random.chance(25) {
+        let (only, any) = (random.below(count), random.within(-4_064, 4_064) as i16);
+        for (k, row) in rows.iter_mut().enumerate() {
+            if k == only || random.chance(20) {
+                let (limit, sum) = (MAX_ROW_SUM as i16, row.sum);
+                row.sum = random.pick(&[sum + 1, sum - 1, sum + 2, -sum, 0, 1, limit, -limit, any]).clamp(-limit, limit);
+            }
+        }
+    }
+    rows
+}
+
+/// A row that the plan fits: entries of one kind or of any, and the sum that the plan makes of them.
+fn row(random: &mut Random, n: usize, plan: u32) -> Row {
+    let any = random.next() as i8;
+    let kinds: [&[i8]; 10] = [
+        // Exactly so many feedings; of some choices only; one kind against another.
+        &[1],
+        &[1],
+        &[0, 1],
+        &[0, 0, 0, 1],
+        &[1, -1],
+        // Sums that are even, or multiples of some other number, whatever is fed.
+        &[2, -2, 0, 4],
+        &[any, 0],
+        &[127, -128, 126, -127],
+        &[127],
+        &[-128],
+    ];
+    let kind = random.pick(&kinds);
+    let any_entries = random.chance(25);
+    let mut row = Row { sum: 0, entries: [0; MAX_CHOICES] };
+    for entry in &mut row.entries[..n] {
+        *entry = if any_entries { random.next() as i8 } else { random.pick(kind) };
+    }
+    // The last choice or the first alone, now and then.
+    if random.chance(5) {
+        row.entries = [0; MAX_CHOICES];
+        row.entries[random.pick(&[0, n - 1])] = random.pick(&[1, -1, 127, -128]);
+    }
+    // 32 entries of -128 or of 127 and more come to more than a sum may be: the last ones are left out.
+    for j in (0..n).rev() {
+        row.sum = row.sum_of(plan);
+        if row.sum.unsigned_abs() <= MAX_ROW_SUM {
+            break;
+        }
+        row.entries[j] = 0;
+    }
+    row
+}
+
+/// Rows for a job that has none; its plan fits them, mostly.
+fn add_rows(random: &mut Random, whole: &mut Whole) {
+    let plan = whole.parts[3][0].get(1..5).map_or(0, |bytes| u32::from_le_bytes(bytes.try_into().unwrap()));
+    let commands = &mut whole.parts[0];
+    if commands.iter().all(|command| command[0] != 0x14) {
+        let place = commands.iter().rposition(|command| command[0] == 0x11).map_or(1, |at| at + 1);
+        commands.splice(place..place, rows(random, whole.choices, plan).iter().map(row_command));
+    }
+}
+
 fn coefficient(random: &mut Random) -> i32 {
     let (small, any) = (random.within(1, 9) as i32, random.within(1, 1_000_000) as i32);
     random.pick(&[1, -1, 1_000_000, -1_000_000, small, -small, any, -any])
@@ -209,7 +287,7 @@ fn base(random: &mut Random) -> i32 {
     random.pick(&[0, 10, -10, 1_000_000_000, -1_000_000_000, any])
 }
 
-/// A register of masks, each once, in any order; on a day of the usual length, without windows.
+/// A register of masks, each once, in any order; on a day of the usual length, without windows or rows.
 fn register_of(random: &mut Random, choice_count: usize, mut masks: Vec<u32>) -> Register {
     masks.sort();
     masks.dedup();
@@ -221,6 +299,7 @@ fn register_of(random: &mut Random, choice_count: usize, mut masks: Vec<u32>) ->
         day_length: USUAL_DAY,
         windows: Vec::new(),
         choices: choices(random, choice_count, USUAL_DAY),
+        rows: Vec::new(),
         terms: masks.into_iter().zip(coefficients).map(term).collect(),
     }
 }
@@ -320,10 +399,10 @@ fn any_certificate(random: &mut Random, size: Size, register: &Register, scheme:
             certificate.target += random.within(-2, 2);
             certificate
         }
-        2 => extreme(random, size, scheme),
-        3 => random_certificate(random, size, scheme, false),
+        2 => extreme(random, size, register, scheme),
+        3 => random_certificate(random, size, register, scheme, false),
         _ => {
-            let mut certificate = random_certificate(random, size, scheme, true);
+            let mut certificate = random_certificate(random, size, register, scheme, true);
             repair(register, scheme, &mut certificate);
             match random.below(4) {
                 0 => certificate.target += random.within(1, 3),
@@ -336,7 +415,7 @@ fn any_certificate(random: &mut Random, size: Size, register: &Register, scheme:
 }
 
 /// Multipliers and squares of all kinds, with some room left for `repair`.
-pub fn random_certificate(random: &mut Random, size: Size, scheme: &Scheme, room: bool) -> Certificate {
+pub fn random_certificate(random: &mut Random, size: Size, register: &Register, scheme: &Scheme, room: bool) -> Certificate {
     let n = scheme.variables();
     let most = certificate::MAX_MULTIPLIERS - if room { n } else { 0 };
     let (multipliers, squares) = match size {
@@ -350,15 +429,20 @@ pub fn random_certificate(random: &mut Random, size: Size, scheme: &Scheme, room
     Certificate {
         scale,
         target: random.within(-1_000, 1_000),
-        multipliers: (0..multipliers).map(|_| multiplier(random, scheme, reach)).collect(),
+        multipliers: (0..multipliers).map(|_| multiplier(random, register, scheme, reach)).collect(),
         squares: (0..squares).map(|_| square(random, n, reach)).collect(),
         end: 0,
     }
 }
 
 /// A multiplier of any kind, that is right.
-fn multiplier(random: &mut Random, scheme: &Scheme, reach: i64) -> Multiplier {
+fn multiplier(random: &mut Random, register: &Register, scheme: &Scheme, reach: i64) -> Multiplier {
     let n = scheme.variables();
+    if !register.rows.is_empty() && random.chance(20) {
+        let reach = reach.min(certificate::MAX_ROW_MULTIPLIER);
+        let names = [random.below(register.rows.len()), random.below(n), 0, 0];
+        return Multiplier { kind: 0x3B, names, m: random.within(-reach, reach) };
+    }
     let sets = &scheme.sets;
     let mut kind = random.within(0x31, 0x39) as u8;
     let mut names = [random.below(n), 0, 0, 0];
@@ -438,15 +522,16 @@ pub fn repair(register: &Register, scheme: &Scheme, certificate: &mut Certificat
 }
 
 /// Every number at its limit.
-fn extreme(random: &mut Random, size: Size, scheme: &Scheme) -> Certificate {
-    let mut certificate = random_certificate(random, size, scheme, false);
+fn extreme(random: &mut Random, size: Size, register: &Register, scheme: &Scheme) -> Certificate {
+    let mut certificate = random_certificate(random, size, register, scheme, false);
     let one_kind = random.chance(50).then(|| certificate.multipliers.first().cloned()).flatten();
     for multiplier in &mut certificate.multipliers {
         if let Some(first) = &one_kind {
             *multiplier = first.clone();
         }
-        let signed = multiplier.kind <= 0x34 && one_kind.is_none() && random.chance(50);
-        multiplier.m = if signed { -certificate::MAX_MULTIPLIER } else { certificate::MAX_MULTIPLIER };
+        let negative = certificate::signed(multiplier.kind) && one_kind.is_none() && random.chance(50);
+        let m = certificate::largest(multiplier.kind);
+        multiplier.m = if negative { -m } else { m };
     }
     let alike = random.chance(50);
     for square in &mut certificate.squares {
@@ -482,6 +567,7 @@ pub fn register_commands(register: &Register) -> Vec<Vec<u8>> {
     for choice in &register.choices {
         commands.push(choice_command(choice));
     }
+    commands.extend(register.rows.iter().map(row_command));
     for term in &register.terms {
         commands.push(command(0x12, &[&term.mask.to_le_bytes(), &term.coefficient.to_le_bytes()]));
     }
@@ -499,6 +585,10 @@ fn choice_command(choice: &Choice) -> Vec<u8> {
 
 fn window_command(window: &Window) -> Vec<u8> {
     command(0x13, &[&window.tank.to_le_bytes(), &window.from.to_le_bytes(), &window.to.to_le_bytes()])
+}
+
+fn row_command(row: &Row) -> Vec<u8> {
+    command(0x14, &[&row.sum.to_le_bytes(), &row.entries.map(|entry| entry as u8)])
 }
 
 pub fn scheme_commands(scheme: &Scheme) -> Vec<Vec<u8>> {
@@ -544,11 +634,12 @@ fn widths(byte: u8) -> Vec<usize> {
         0x11 => vec![2, 2],
         0x12 => vec![4, 4],
         0x13 => vec![2, 2, 2],
+        0x14 => [vec![2], vec![1; MAX_CHOICES]].concat(),
         0x18 => vec![2],
         0x21 | 0x22 => vec![1, 1],
         0x30 => vec![4, 8],
         0x31 | 0x35..=0x39 => vec![1, 8],
-        0x32 => vec![1, 1, 8],
+        0x32 | 0x3B => vec![1, 1, 8],
         0x33 => vec![1, 1, 1, 8],
         0x34 => vec![1, 1, 1, 1, 8],
         0x3A => [vec![4], vec![2; 65]].concat(),
@@ -556,9 +647,9 @@ fn widths(byte: u8) -> Vec<usize> {
     }
 }
 
-const COMMANDS: [u8; 23] = [
-    0x10, 0x11, 0x12, 0x13, 0x18, 0x1F, 0x21, 0x22, 0x2F, 0x30, 0x31, 0x32, 0x33, 0x34, 0x35, 0x36, 0x37, 0x38, 0x39, 0x3A, 0x3F,
-    0x40, 0x00,
+const COMMANDS: [u8; 25] = [
+    0x10, 0x11, 0x12, 0x13, 0x14, 0x18, 0x1F, 0x21, 0x22, 0x2F, 0x30, 0x31, 0x32, 0x33, 0x34, 0x35, 0x36, 0x37, 0x38, 0x39, 0x3A,
+    0x3B, 0x3F, 0x40, 0x00,
 ];
 
 // Damage.
@@ -593,9 +684,17 @@ fn damaged(random: &mut Random, mut whole: Whole) -> Input {
 /// Changes the commands of a part in one way.
 fn damage_commands(random: &mut Random, whole: &mut Whole, part: usize) {
     let (n, all) = (whole.choices, whole.variables);
+    let rows = places(&whole.parts[0], 0x14).len();
     let commands = &mut whole.parts[part];
     if commands.is_empty() {
         return;
+    }
+    let percent = if rows > 0 { 35 } else { 4 };
+    match part {
+        0 if random.chance(percent) => return damage_rows(random, commands, n),
+        2 if random.chance(percent) => return damage_row_forms(random, commands, rows, all),
+        3 if random.chance(40) => return damage_plan(random, &mut commands[0], n),
+        _ => {}
     }
     if commands.iter().any(|command| command.first() == Some(&0x13)) && random.chance(40) {
         return damage_windows(random, commands);
@@ -812,6 +911,160 @@ fn damage_day(random: &mut Random, commands: &mut Vec<Vec<u8>>) {
             }
         }
     }
+}
+
+/// Changes a row, its place, what stands after it, or what it bears on, in one way.
+fn damage_rows(random: &mut Random, commands: &mut Vec<Vec<u8>>, n: usize) {
+    let rows = places(commands, 0x14);
+    let any: Vec<u8> = (0..2 + n).map(|_| random.next() as u8).collect();
+    let mut fresh = vec![0; 3 + MAX_CHOICES];
+    fresh[0] = 0x14;
+    // A row of 0s, of 1s, or of any entries with any sum that is allowed.
+    match random.below(3) {
+        0 => {}
+        1 => fresh[3..3 + n].fill(1),
+        _ => {
+            fresh[1..3 + n].copy_from_slice(&any);
+            let sum = i16::from_le_bytes([any[0], any[1]]) % (MAX_ROW_SUM as i16 + 1);
+            fresh[1..3].copy_from_slice(&sum.to_le_bytes());
+        }
+    }
+    let choice_end = commands.iter().rposition(|command| command[0] == 0x11).map_or(1, |at| at + 1).min(commands.len());
+    let Some(&at) = rows.get(random.below(rows.len().max(1))) else {
+        // No row yet: one more, in its place, or anywhere.
+        let anywhere = random.below(commands.len() + 1);
+        let place = random.pick(&[choice_end, choice_end, choice_end, anywhere]);
+        if random.chance(50) {
+            wrong_row(random, &mut fresh, n);
+        }
+        return commands.insert(place, fresh);
+    };
+    let kind = random.pick(&[0x10, 0x11, 0x12, 0x13, 0x18, 0x1F]);
+    match random.below(16) {
+        // One thing wrong, or two; of a row that is left as it was, or of all.
+        0..=4 => wrong_row(random, &mut commands[at], n),
+        // Another sum or another entry, within its range: other plans fit, or none does.
+        5 | 6 => {
+            let sum = operand(&commands[at], 0);
+            let (more, less) = (sum.wrapping_add(1), sum.wrapping_sub(1));
+            let sum = random.pick(&[more, more, less, less, sum.wrapping_neg(), 0]);
+            set_operand(&mut commands[at], 0, sum);
+        }
+        7 => {
+            let entry = 3 + random.below(n.min(MAX_CHOICES));
+            commands[at][entry] = random.pick(&[0, 1, 0xFF, 0x7F, 0x80, any[0]]);
+        }
+        // Every entry one choice further, or one choice back.
+        8 if random.chance(50) => commands[at][3..].rotate_right(1),
+        8 => commands[at][3..].rotate_left(1),
+        // A command of another kind once more, directly after a row; or a row after or before one.
+        9 | 10 => {
+            if let Some(command) = commands.iter().rfind(|command| command[0] == kind).cloned() {
+                commands.insert(at + 1, command);
+            }
+        }
+        11 | 12 => {
+            let row = if random.chance(50) { commands.remove(at) } else { fresh };
+            let anywhere = random.below(commands.len() + 1);
+            let after = commands.iter().rposition(|command| command[0] == kind).map_or(anywhere, |at| at + 1);
+            let place = random.pick(&[0, anywhere, after, after]).min(commands.len());
+            commands.insert(place, row);
+            if random.chance(15) {
+                let length = 1 + random.below(commands[place].len());
+                commands[place].truncate(length);
+                commands.truncate(place + 1);
+            }
+        }
+        // No choice, or not the last: the rows speak of choices that are not there.
+        13 => {
+            let choices = places(commands, 0x11);
+            let kept = random.below(choices.len() + 1);
+            choices[kept..].iter().rev().for_each(|&at| drop(commands.remove(at)));
+        }
+        // Rows up to the limit or past it, the last of them perhaps wrong in another way too.
+        _ => {
+            let count = (MAX_ROWS + random.below(2)).saturating_sub(rows.len());
+            let mut more = vec![if random.chance(50) { fresh } else { commands[at].clone() }; count];
+            if let Some(last) = more.last_mut().filter(|_| random.chance(50)) {
+                wrong_row(random, last, n);
+                if random.chance(15) {
+                    last.truncate(3 + random.below(MAX_CHOICES));
+                }
+            }
+            let end = rows[rows.len() - 1] + 1;
+            commands.splice(end..end, more);
+        }
+    }
+}
+
+/// Makes a row wrong in one way, or in two; n is the number of choices. With 32 choices there is no entry past them.
+fn wrong_row(random: &mut Random, row: &mut [u8], n: usize) {
+    for _ in 0..1 + random.below(2) {
+        if n < MAX_CHOICES && random.chance(50) {
+            let any = n + random.below(MAX_CHOICES - n);
+            row[3 + random.pick(&[n, n, MAX_CHOICES - 1, any])] = random.pick(&[1, 0xFF, 0x80, 0x7F]);
+        } else {
+            let limit = MAX_ROW_SUM as i16;
+            let near = random.pick(&[limit, limit + 1, limit - 1, -limit, -limit - 1, 1 - limit]);
+            let any = random.next() as i16;
+            let sum = random.pick(&[near, near, near, i16::MAX, i16::MIN, near.swap_bytes(), any]);
+            row[1..3].copy_from_slice(&sum.to_le_bytes());
+        }
+    }
+}
+
+/// Changes a `3B`, or puts one more, in one way; where there is no row each is wrong.
+fn damage_row_forms(random: &mut Random, commands: &mut Vec<Vec<u8>>, rows: usize, variables: usize) {
+    let places = places(commands, 0x3B);
+    let at = match places.get(random.below(places.len().max(1))) {
+        Some(&at) if random.chance(70) => at,
+        _ => {
+            let place = 1 + random.below(commands.len());
+            let names = [random.below(rows.max(1)) as u8, random.below(variables) as u8];
+            let any = random.within(-1_000, 1_000);
+            let m = random.pick(&[0, 1, -1, any]);
+            commands.insert(place, command(0x3B, &[&names, &m.to_le_bytes()]));
+            place
+        }
+    };
+    let form = &mut commands[at];
+    for _ in 0..1 + random.below(2) {
+        match random.below(6) {
+            0 => form[1] = random.pick(&[rows as u8, rows as u8, rows.wrapping_sub(1) as u8, MAX_ROWS as u8, 0xFF]),
+            1 => form[2] = random.pick(&[variables as u8, variables as u8, variables as u8 - 1, 63, 64, 0xFF]),
+            2 => form.swap(1, 2),
+            3 => {
+                let m = i64::from_le_bytes(form[3..11].try_into().unwrap());
+                form[3..11].copy_from_slice(&m.saturating_neg().to_le_bytes());
+            }
+            _ => {
+                let limit = random.pick(&[certificate::MAX_ROW_MULTIPLIER, certificate::MAX_MULTIPLIER]);
+                let m = random.pick(&[limit, limit + 1, limit - 1, -limit, -limit - 1, 1 - limit, 1 << 32, i64::MIN]);
+                form[3..11].copy_from_slice(&m.to_le_bytes());
+            }
+        }
+    }
+    if random.chance(5) {
+        let length = 1 + random.below(form.len());
+        form.truncate(length);
+        commands.truncate(at + 1);
+    }
+}
+
+/// Another plan: a choice more or less, two others, none, all, any, or one that names a choice which is not there.
+fn damage_plan(random: &mut Random, command: &mut [u8], n: usize) {
+    let Some(bytes) = command.get_mut(1..5) else { return };
+    let plan = u32::from_le_bytes((&*bytes).try_into().unwrap());
+    let (a, b) = (random.below(n), random.below(n));
+    let all = u32::MAX >> (MAX_CHOICES - n);
+    let other = match random.below(8) {
+        0..=2 => plan ^ 1 << a,
+        3 | 4 => plan ^ (1 << a | 1 << b),
+        5 => random.pick(&[0, all]),
+        6 => random.next() as u32 & all,
+        _ => plan ^ (1 << a) ^ (1u64 << (n + random.below(2))) as u32,
+    };
+    bytes.copy_from_slice(&other.to_le_bytes());
 }
 
 /// The length of the day that a register's commands say, the usual one where they say none that is right.

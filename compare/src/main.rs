@@ -4,12 +4,13 @@
 //!     compare [COUNT [SEED [FOLDER..]]]
 //!
 //! The folders have jobs, `*.job`, of which a part of the inputs is made. Exit status 1: a difference, or a refusal number that
-//! the scope gives a call or a command and that no input led to, or a length of the day that no accepted register had.
+//! the scope gives a call or a command and that no input led to, or a length of the day or a number of rows that no accepted
+//! register had, or no accepted certificate with `3B`.
 
 use compare::generate::{input, seed, Input, Whole};
 use compare::random::Random;
 use feedcheck::raw;
-use reference::register::{LONG_DAY, SHORT_DAY, USUAL_DAY};
+use reference::register::{LONG_DAY, MAX_CHOICES, MAX_ROWS, SHORT_DAY, USUAL_DAY};
 use reference::search::Found;
 use reference::{Answer, Refusal};
 use std::collections::BTreeMap;
@@ -19,24 +20,25 @@ const CALLS: [(&str, &[u8]); 10] = [
     ("register", &[1, 2, 3, 4, 5, 6, 7, 12, 13]),
     ("scheme", &[1, 2, 3, 4, 5, 6, 7, 8, 12, 13]),
     ("build", &[1, 2, 3, 4, 5, 6, 7, 10, 11, 12, 13]),
-    ("cost", &[1, 2, 3, 4, 5, 6, 7, 12, 13]),
-    ("search", &[1, 2, 3, 4, 5, 6, 7, 12, 13, 14]),
+    ("cost", &[1, 2, 3, 4, 5, 6, 7, 12, 13, 15]),
+    ("search", &[1, 2, 3, 4, 5, 6, 7, 12, 13, 14, 16]),
     ("penalty", &[1, 2, 3, 4, 5, 6, 7, 8, 11, 12, 13]),
     ("check", &[1, 2, 3, 4, 5, 6, 7, 8, 9, 11, 12, 13]),
     ("plain", &[1, 2, 3, 4, 5, 6, 7, 8, 11, 12, 13]),
-    ("job", &[1, 2, 3, 4, 5, 6, 7, 8, 9, 11, 12, 13]),
+    ("job", &[1, 2, 3, 4, 5, 6, 7, 8, 9, 11, 12, 13, 15]),
     ("listing", &[11]),
 ];
 
-/// The numbers of an answer: 0, and the refusals 1 to 14.
-const NUMBERS: usize = 15;
+/// The numbers of an answer: 0, and the refusals 1 to 16.
+const NUMBERS: usize = 17;
 
 /// Each command, by its part and byte, with the refusal numbers that the scope gives it there; 1 where it stands out of place.
-const COMMANDS: [(u8, u8, &[u8]); 22] = [
+const COMMANDS: [(u8, u8, &[u8]); 24] = [
     (1, 0x10, &[1, 2, 4]),
     (1, 0x11, &[1, 2, 3, 4, 7, 13]),
     (1, 0x12, &[1, 2, 3, 4, 5, 7]),
     (1, 0x13, &[1, 2, 3, 4, 6, 7]),
+    (1, 0x14, &[1, 2, 3, 4, 5]),
     (1, 0x18, &[1, 2, 4]),
     (1, 0x1F, &[1, 3]),
     (2, 0x21, &[1, 2, 3, 5, 6, 8]),
@@ -53,8 +55,9 @@ const COMMANDS: [(u8, u8, &[u8]); 22] = [
     (3, 0x38, &[1, 2, 3, 4, 5]),
     (3, 0x39, &[1, 2, 3, 4, 5]),
     (3, 0x3A, &[1, 2, 3, 4, 5]),
+    (3, 0x3B, &[1, 2, 3, 4, 5]),
     (3, 0x3F, &[1, 9]),
-    (4, 0x40, &[2, 5]),
+    (4, 0x40, &[2, 5, 15]),
 ];
 
 /// The lengths of the day, and whether `18` says them.
@@ -73,6 +76,11 @@ struct Comparison {
     commands: BTreeMap<(u8, Option<u8>), [u64; NUMBERS]>,
     /// How many registers were accepted, by the length of the day and whether `18` says it.
     days: BTreeMap<(u16, bool), u64>,
+    /// How many registers were accepted, by their number of rows.
+    rows: [u64; MAX_ROWS + 1],
+    /// How many jobs were accepted that have rows, and how many certificates that have a `3B`.
+    fitting: u64,
+    row_forms: u64,
     /// What lent tables and buffers hold at first.
     contents: Vec<i64>,
 }
@@ -153,6 +161,7 @@ impl Comparison {
         let answer = register_answer(reference::register(part1));
         if answer.number == 0 {
             *self.days.entry((answer.register.day_length, part1[5] == 0x18)).or_default() += 1;
+            self.rows[answer.register.rows] += 1;
         }
         self.count_answer("register", answer.number, library == answer, input, || format!("{library:?} {answer:?}"));
 
@@ -222,6 +231,11 @@ impl Comparison {
                 let ample = if small { u32::MAX } else { 2 * visits };
                 self.random.pick(&[visits, visits, visits, visits - 1, visits - 1, visits + 1, fewer, few, 0, ample])
             }
+            // No plan fits, and nothing is left.
+            Err(refusal) if refusal.number == 16 => {
+                let visits = reference::register(part1).map_or(0, |register| (2 << register.choices.len()) - 1);
+                self.random.pick(&[visits, visits, visits, visits - 1, visits - 1, visits + 1, few, 0, 2 * visits])
+            }
             Err(refusal) if refusal.number == 14 => self.random.pick(&[most, most, most - 1, few, 0]),
             Err(_) => self.random.pick(&[0, 0, few, most, u32::MAX]),
         }
@@ -266,6 +280,7 @@ impl Comparison {
         if refusal.part != 0 {
             self.count_command(refusal, &input.parts[refusal.part as usize - 1]);
         }
+        self.row_forms += (refusal.number == 0 && has_row_form(part1, part2, part3)) as u64;
     }
 
     fn compare_job(&mut self, input: &Input) {
@@ -286,6 +301,10 @@ impl Comparison {
             gap: outcome.gap,
             tally: raw::Tally { accepted: tally.accepted, refused: tally.refused },
         };
+        if answer.number == 0 {
+            let (register, _) = reference::register::read(&input.job).expect("the register of an accepted job");
+            self.fitting += !register.rows.is_empty() as u64;
+        }
         let same = library == answer && table.same();
         self.count_answer("job", answer.number, same, input, || format!("{library:?} {answer:?} tables {}", table.same()));
     }
@@ -304,7 +323,7 @@ impl Comparison {
         });
     }
 
-    /// Prints the counts; how many of the scope's refusal numbers and lengths of the day no input led to.
+    /// Prints the counts; how many of the scope's refusal numbers, lengths of the day and numbers of rows no input led to.
     fn report(&self) -> usize {
         let mut missing = 0;
         println!("{} inputs, each to every call; how often each number was answered (0: accepted)", self.inputs);
@@ -327,6 +346,13 @@ impl Comparison {
             println!("{} minutes, {}: {count}", day.0, if day.1 { "said by 18" } else { "not said" });
             missing += (count == 0) as usize;
         }
+        println!("accepted registers by the number of rows");
+        for (rows, &count) in self.rows.iter().enumerate() {
+            println!("{rows}: {count}");
+            missing += (count == 0) as usize;
+        }
+        println!("accepted jobs with rows: {}; accepted certificates with 3B: {}", self.fitting, self.row_forms);
+        missing += (self.fitting == 0) as usize + (self.row_forms == 0) as usize;
         println!("commands refused by the check, and those of part 4 by the cost (--: no byte there, or bytes after the end)");
         for ((part, byte), numbers) in &self.commands {
             let byte = byte.map_or("--".to_string(), |byte| format!("{byte:02X}"));
@@ -360,6 +386,14 @@ fn split<T>(answer: Answer<T>, zero: T) -> (Refusal, T) {
     }
 }
 
+/// Whether an accepted certificate has a `3B`.
+fn has_row_form(part1: &[u8], part2: &[u8], part3: &[u8]) -> bool {
+    let (register, _) = reference::register::read(part1).expect("an accepted register");
+    let (scheme, _) = reference::scheme::read(&register, part2).expect("an accepted scheme");
+    let (certificate, _) = reference::certificate::read(&register, &scheme, part3).expect("an accepted certificate");
+    certificate.multipliers.iter().any(|multiplier| multiplier.kind == 0x3B)
+}
+
 fn written(answer: Answer<usize>) -> raw::WriterAnswer {
     let (refusal, count) = split(answer, 0);
     raw::WriterAnswer { number: refusal.number, part: refusal.part, position: refusal.position, count }
@@ -379,6 +413,9 @@ fn register_answer(answer: Answer<reference::register::Register>) -> raw::Regist
         window_tanks: [0; 64],
         window_froms: [0; 64],
         window_tos: [0; 64],
+        rows: 0,
+        row_sums: [0; MAX_ROWS],
+        row_entries: [0; MAX_ROWS * MAX_CHOICES],
     };
     let refusal = answer.as_ref().err().copied().unwrap_or_default();
     if let Ok(register) = answer {
@@ -399,6 +436,11 @@ fn register_answer(answer: Answer<reference::register::Register>) -> raw::Regist
             record.window_tanks[w] = window.tank;
             record.window_froms[w] = window.from;
             record.window_tos[w] = window.to;
+        }
+        record.rows = register.rows.len();
+        for (k, row) in register.rows.iter().enumerate() {
+            record.row_sums[k] = row.sum;
+            record.row_entries[32 * k..32 * k + 32].copy_from_slice(&row.entries);
         }
     }
     raw::RegisterAnswer { number: refusal.number, part: refusal.part, position: refusal.position, register: record }
@@ -441,7 +483,18 @@ fn main() {
     let contents = (0..5_000 + 2 * MARGIN).map(|_| random.next() as i64).collect();
     let numbers = CALLS.map(|(call, _)| (call, [0; NUMBERS])).into();
     let (commands, days) = (BTreeMap::new(), BTreeMap::new());
-    let mut comparison = Comparison { random, inputs: 0, differences: 0, numbers, commands, days, contents };
+    let mut comparison = Comparison {
+        random,
+        inputs: 0,
+        differences: 0,
+        numbers,
+        commands,
+        days,
+        rows: [0; MAX_ROWS + 1],
+        fitting: 0,
+        row_forms: 0,
+        contents,
+    };
     let mut random = Random(start ^ 0x5EED);
     for _ in 0..count {
         comparison.compare(&input(&mut random, &seeds));

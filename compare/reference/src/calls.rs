@@ -1,6 +1,6 @@
 //! The ten calls.
 
-use crate::search::{self as searches, Found};
+use crate::search::{self as searches, Found, NotFound};
 use crate::wire::{alone, Fault};
 use crate::{builder, certificate, plain as own, plan as plans, register as registers, scheme as schemes, table};
 use std::fmt::Write;
@@ -23,6 +23,9 @@ impl Refusal {
 
     /// Refusal 14, likewise.
     const PAST_LIMIT: Refusal = Refusal { number: 14, part: 0, position: 0 };
+
+    /// Refusal 16, likewise.
+    const NONE_FITS: Refusal = Refusal { number: 16, part: 0, position: 0 };
 }
 
 pub type Answer<T> = Result<T, Refusal>;
@@ -66,7 +69,10 @@ pub fn cost(part1: &[u8], part4: &[u8]) -> Answer<i64> {
 }
 
 pub fn search(part1: &[u8], limit: u32) -> Answer<Found> {
-    searches::search(&register(part1)?, limit).ok_or(Refusal::PAST_LIMIT)
+    searches::search(&register(part1)?, limit).map_err(|reason| match reason {
+        NotFound::PastLimit => Refusal::PAST_LIMIT,
+        NotFound::NoneFits => Refusal::NONE_FITS,
+    })
 }
 
 pub fn penalty(part1: &[u8], part2: &[u8], lent: &mut [i64]) -> Answer<()> {
@@ -91,7 +97,7 @@ fn check_part(
     bytes: &[u8],
     lent: &mut [i64],
 ) -> Result<(i64, usize), Fault> {
-    let (certificate, end) = certificate::read(scheme, bytes)?;
+    let (certificate, end) = certificate::read(register, scheme, bytes)?;
     let residual = certificate::residual(register, scheme, &certificate);
     residual.write(lent);
     if !residual.dominant() {

@@ -9,6 +9,7 @@ pub const MAX_SCALE: u32 = 1_000_000;
 pub const MAX_TARGET: i64 = 4_000_000_000_000_000;
 pub const MAX_MULTIPLIERS: usize = 1_024;
 pub const MAX_MULTIPLIER: i64 = 1_000_000_000_000;
+pub const MAX_ROW_MULTIPLIER: i64 = 1_000_000_000;
 pub const MAX_SQUARES: usize = 64;
 pub const MAX_WEIGHT: u32 = 1_000_000;
 pub const ENTRIES: usize = 65;
@@ -16,9 +17,9 @@ pub const MAX_ENTRY: u16 = 10_000;
 
 #[derive(Clone, Debug, PartialEq, Eq)]
 pub struct Multiplier {
-    /// The command byte, `31` to `39`.
+    /// The command byte, `31` to `39` or `3B`.
     pub kind: u8,
-    /// The variables that it names, in order; the rest are 0.
+    /// The variables that it names, in order; the rest are 0. Of `3B` the first is a row.
     pub names: [usize; 4],
     pub m: i64,
 }
@@ -39,17 +40,31 @@ pub struct Certificate {
     pub end: usize,
 }
 
-/// How many variables a multiplier command names.
+/// How many variables a multiplier command names; `3B` a row and a variable.
 pub fn names_of(kind: u8) -> usize {
     match kind {
-        0x32 => 2,
+        0x32 | 0x3B => 2,
         0x33 => 3,
         0x34 => 4,
         _ => 1,
     }
 }
 
-pub fn read(scheme: &Scheme, bytes: &[u8]) -> Read<Certificate> {
+/// The largest multiplier of a kind.
+pub fn largest(kind: u8) -> i64 {
+    if kind == 0x3B {
+        MAX_ROW_MULTIPLIER
+    } else {
+        MAX_MULTIPLIER
+    }
+}
+
+/// Whether a kind takes multipliers of either sign: null forms and forms of rows, which are 0 on the plans that they speak of.
+pub fn signed(kind: u8) -> bool {
+    matches!(kind, 0x31..=0x34 | 0x3B)
+}
+
+pub fn read(register: &Register, scheme: &Scheme, bytes: &[u8]) -> Read<Certificate> {
     let mut commands = Commands::new(bytes);
     let first = commands.next(|byte| (byte == 0x30).then_some(12))?;
     let (scale, target) = (first.u32(0), first.i64(4));
@@ -57,15 +72,15 @@ pub fn read(scheme: &Scheme, bytes: &[u8]) -> Read<Certificate> {
     let mut certificate = Certificate { scale, target, multipliers: Vec::new(), squares: Vec::new(), end: 0 };
     loop {
         let command = commands.next(|byte| match byte {
-            0x31..=0x39 => Some(names_of(byte) + 8),
+            0x31..=0x39 | 0x3B => Some(names_of(byte) + 8),
             0x3A => Some(4 + 2 * ENTRIES),
             0x3F => Some(0),
             _ => None,
         })?;
         match command.byte {
-            0x31..=0x39 => {
+            0x31..=0x39 | 0x3B => {
                 command.refuse(3, certificate.multipliers.len() == MAX_MULTIPLIERS)?;
-                certificate.multipliers.push(multiplier(scheme, &command)?);
+                certificate.multipliers.push(multiplier(register, scheme, &command)?);
             }
             0x3A => {
                 command.refuse(3, certificate.squares.len() == MAX_SQUARES)?;
@@ -79,7 +94,7 @@ pub fn read(scheme: &Scheme, bytes: &[u8]) -> Read<Certificate> {
     }
 }
 
-fn multiplier(scheme: &Scheme, command: &Command) -> Result<Multiplier, Fault> {
+fn multiplier(register: &Register, scheme: &Scheme, command: &Command) -> Result<Multiplier, Fault> {
     let kind = command.byte;
     let count = names_of(kind);
     let mut names = [0; 4];
@@ -87,11 +102,11 @@ fn multiplier(scheme: &Scheme, command: &Command) -> Result<Multiplier, Fault> {
         *name = command.u8(at) as usize;
     }
     let m = command.i64(count);
-    let null = kind <= 0x34;
-    command.refuse(4, m.unsigned_abs() > MAX_MULTIPLIER as u64 || !null && m < 0)?;
-    let named = &names[..count];
+    command.refuse(4, m.unsigned_abs() > largest(kind) as u64 || !signed(kind) && m < 0)?;
+    let (rows, variables) = names[..count].split_at((kind == 0x3B) as usize);
     let first = if (0x35..=0x37).contains(&kind) { scheme.choices } else { 0 };
-    command.refuse(5, named.iter().any(|&v| v < first || v >= scheme.variables()))?;
+    let no_variable = |&v: &usize| v < first || v >= scheme.variables();
+    command.refuse(5, rows.iter().any(|&row| row >= register.rows.len()) || variables.iter().any(no_variable))?;
     let [i, j, k, l] = names;
     command.refuse(
         6,
@@ -130,7 +145,7 @@ pub fn residual(register: &Register, scheme: &Scheme, certificate: &Certificate)
     add_function(register, scheme, certificate.scale as i64, &mut table);
     table.add_constant(-certificate.target);
     for multiplier in &certificate.multipliers {
-        add_multiplier(scheme, multiplier, &mut table);
+        add_multiplier(register, scheme, multiplier, &mut table);
     }
     for square in &certificate.squares {
         table.subtract_square(square.weight as i64, &square.entries);
@@ -138,7 +153,7 @@ pub fn residual(register: &Register, scheme: &Scheme, certificate: &Certificate)
     table
 }
 
-fn add_multiplier(scheme: &Scheme, multiplier: &Multiplier, table: &mut Table) {
+fn add_multiplier(register: &Register, scheme: &Scheme, multiplier: &Multiplier, table: &mut Table) {
     let [i, j, k, l] = multiplier.names;
     let m = multiplier.m;
     match multiplier.kind {
@@ -158,6 +173,14 @@ fn add_multiplier(scheme: &Scheme, multiplier: &Multiplier, table: &mut Table) {
         0x34 => {
             table.add_product(i, j, m);
             table.add_product(k, l, -m);
+        }
+        // z_j times (the row's sum over the choices − b), added. The square of a choice stays a square.
+        0x3B => {
+            let row = &register.rows[i];
+            for (choice, &entry) in row.entries[..scheme.choices].iter().enumerate() {
+                table.add_product(j, choice, m * entry as i64);
+            }
+            table.add_linear(j, -m * row.sum as i64);
         }
         // Forms that are never negative, subtracted.
         0x35 => {

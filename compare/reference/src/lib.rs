@@ -1,5 +1,5 @@
-//! The ten calls of the library in plain Rust: those of the scope paper, with the feeding windows of request R-1 and the day
-//! lengths of request R-4, and the search of request R-3. Written from the paper, the requests and the readings of their open
+//! The ten calls of the library in plain Rust: those of the scope paper, with the feeding windows of request R-1, the day lengths
+//! of request R-4 and the rows of request R-5, and the search of request R-3. Written from the paper, the requests and the readings of their open
 //! points, not from the code or the definitions of this repository. Nothing here is proved; it is what the proved library is
 //! compared with.
 //!

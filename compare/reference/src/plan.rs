@@ -8,6 +8,7 @@ pub fn read(register: &Register, bytes: &[u8]) -> Read<u32> {
     let command = commands.next(|byte| (byte == 0x40).then_some(4))?;
     let plan = command.u32(0);
     command.refuse(5, plan & !register.all() != 0)?;
+    command.refuse(15, !register.fits(plan))?;
     Ok((plan, commands.at))
 }
 

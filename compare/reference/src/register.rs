@@ -5,6 +5,7 @@ use std::ops::RangeInclusive;
 
 pub const MAX_WINDOWS: usize = 64;
 pub const MAX_CHOICES: usize = 32;
+pub const MAX_ROWS: usize = 8;
 pub const MAX_TERMS: usize = 256;
 pub const TANKS: RangeInclusive<u16> = 1..=9_999;
 
@@ -36,6 +37,24 @@ pub struct Choice {
     pub minute: u16,
 }
 
+/// The largest sum of a row, either sign.
+pub const MAX_ROW_SUM: u16 = 4_064;
+
+/// A plan fits the row when the entries of the choices that it feeds come to the sum; 004's linear constraint. Every row has a
+/// place for each choice that there may be; those of choices that are not there hold 0.
+#[derive(Clone, Copy, Debug, PartialEq, Eq)]
+pub struct Row {
+    pub sum: i16,
+    pub entries: [i8; MAX_CHOICES],
+}
+
+impl Row {
+    /// The sum of the entries of these choices; at most 32 · 128.
+    pub fn sum_of(&self, plan: u32) -> i16 {
+        self.entries.iter().enumerate().filter(|(j, _)| plan & 1 << j != 0).map(|(_, &entry)| entry as i16).sum()
+    }
+}
+
 #[derive(Clone, Copy, Debug, PartialEq, Eq)]
 pub struct Term {
     pub mask: u32,
@@ -51,6 +70,7 @@ pub struct Register {
     pub day_length: u16,
     pub windows: Vec<Window>,
     pub choices: Vec<Choice>,
+    pub rows: Vec<Row>,
     pub terms: Vec<Term>,
 }
 
@@ -58,6 +78,11 @@ impl Register {
     /// The mask of all choices.
     pub fn all(&self) -> u32 {
         ((1u64 << self.choices.len()) - 1) as u32
+    }
+
+    /// Whether the plan fits every row.
+    pub fn fits(&self, plan: u32) -> bool {
+        self.rows.iter().all(|row| row.sum_of(plan) == row.sum)
     }
 
     /// Whether the windows let the tank be fed at this minute; a tank that has none may be fed at any.
@@ -72,15 +97,18 @@ pub fn read(bytes: &[u8]) -> Read<Register> {
     let first = commands.next(|byte| (byte == 0x10).then_some(4))?;
     let base = first.i32(0);
     first.refuse(4, base.unsigned_abs() > 1_000_000_000)?;
-    let mut register = Register { base, day_length: USUAL_DAY, windows: Vec::new(), choices: Vec::new(), terms: Vec::new() };
+    let mut register =
+        Register { base, day_length: USUAL_DAY, windows: Vec::new(), choices: Vec::new(), rows: Vec::new(), terms: Vec::new() };
     let mut previous = first.byte;
     loop {
-        // Where there is no choice there is no term either: a mask names choices.
+        // Where there is no choice there is no term either: a mask names choices. A row needs none.
         let (no_choice_yet, no_term_yet) = (register.choices.is_empty(), register.terms.is_empty());
+        let no_row_yet = register.rows.is_empty();
         let command = commands.next(|byte| match byte {
-            0x11 if no_term_yet => Some(4),
+            0x11 if no_row_yet && no_term_yet => Some(4),
             0x12 => Some(8),
-            0x13 if no_choice_yet => Some(6),
+            0x13 if no_choice_yet && no_row_yet => Some(6),
+            0x14 if no_term_yet => Some(2 + MAX_CHOICES),
             0x18 if previous == 0x10 => Some(2),
             0x1F => Some(0),
             _ => None,
@@ -111,6 +139,14 @@ pub fn read(bytes: &[u8]) -> Read<Register> {
                 command.refuse(6, from >= to)?;
                 command.refuse(7, register.windows.last().is_some_and(|last| (last.tank, last.from) >= (tank, from)))?;
                 register.windows.push(Window { tank, from, to });
+            }
+            0x14 => {
+                let sum = command.i16(0);
+                let entries = std::array::from_fn(|j| command.u8(2 + j) as i8);
+                command.refuse(3, register.rows.len() == MAX_ROWS)?;
+                command.refuse(4, sum.unsigned_abs() > MAX_ROW_SUM)?;
+                command.refuse(5, entries[register.choices.len()..].iter().any(|&entry| entry != 0))?;
+                register.rows.push(Row { sum, entries });
             }
             0x18 => {
                 let length = command.u16(0);

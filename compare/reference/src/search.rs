@@ -1,10 +1,10 @@
-//! The search for the cheapest plan.
+//! The search for the cheapest plan that fits.
 //!
 //! Choices are decided from the highest number down, unfed first. A partial plan is given by how many choices are undecided (the
 //! lowest ones) and by those that are decided unfed; the rest is decided fed. Its sum is that of base cost, coefficients of terms
 //! wholly decided fed, and negative coefficients of terms with an undecided choice and none decided unfed.
 
-use crate::register::{Register, Term, MAX_CHOICES};
+use crate::register::{Register, Row, Term, MAX_CHOICES};
 
 /// The plan that a search ends with, its cost, and how many partial plans were visited.
 #[derive(Clone, Copy, Debug, Default, PartialEq, Eq)]
@@ -14,10 +14,19 @@ pub struct Found {
     pub visits: u32,
 }
 
-/// The search, or `None` at the visit that passes the limit. The sum is carried from one partial plan to the next: with a choice
+/// Why a search ends with no plan.
+#[derive(Clone, Copy, Debug, PartialEq, Eq)]
+pub enum NotFound {
+    /// It came to the visit that passes the limit.
+    PastLimit,
+    /// Its visits are within the limit, and it met no plan that fits.
+    NoneFits,
+}
+
+/// The search. Only full plans that fit are met; one that doesn't is a visit that changes nothing. The sum is carried from one partial plan to the next: with a choice
 /// that is decided unfed it loses the negative terms that name the choice, with one that is decided fed it wins the positive
 /// terms of which this was the last undecided choice, in both cases only those that name no choice decided unfed before.
-pub fn search(register: &Register, limit: u32) -> Option<Found> {
+pub fn search(register: &Register, limit: u32) -> Result<Found, NotFound> {
     let mut lost: [List; MAX_CHOICES] = Default::default();
     let mut won: [List; MAX_CHOICES] = Default::default();
     let mut sum = register.base as i64;
@@ -40,11 +49,11 @@ pub fn search(register: &Register, limit: u32) -> Option<Found> {
     let mut sums = [0; MAX_CHOICES + 1];
     // Until a full plan is met, above every sum.
     let mut best = i64::MAX;
-    let mut plan = 0;
+    let mut plan = None;
     let mut visits = 0;
     loop {
         if visits == limit {
-            return None;
+            return Err(NotFound::PastLimit);
         }
         visits += 1;
         if sum < best {
@@ -55,12 +64,15 @@ pub fn search(register: &Register, limit: u32) -> Option<Found> {
                 unfed |= 1 << undecided;
                 continue;
             }
-            best = sum;
-            plan = register.all() & !unfed;
+            let full = register.all() & !unfed;
+            if register.fits(full) {
+                best = sum;
+                plan = Some(full);
+            }
         }
         // The last choice that was decided unfed is the lowest of them; now it is fed.
         if unfed == 0 {
-            return Some(Found { plan, cost: best, visits });
+            return plan.map(|plan| Found { plan, cost: best, visits }).ok_or(NotFound::NoneFits);
         }
         undecided = unfed.trailing_zeros() as usize;
         unfed &= unfed - 1;
@@ -106,26 +118,26 @@ impl List {
 }
 
 /// The search again, slow and word for word as the request has it, to try the other with.
-pub fn word_for_word(register: &Register, limit: u32) -> Option<Found> {
+pub fn word_for_word(register: &Register, limit: u32) -> Result<Found, NotFound> {
     let mut search = WordForWord { register, limit, visits: 0, best: None };
     search.visit(0, 0)?;
-    let (plan, cost) = search.best?;
-    Some(Found { plan, cost, visits: search.visits })
+    let (plan, cost) = search.best.ok_or(NotFound::NoneFits)?;
+    Ok(Found { plan, cost, visits: search.visits })
 }
 
 struct WordForWord<'a> {
     register: &'a Register,
     limit: u32,
     visits: u32,
-    /// The best full plan met so far and its cost.
+    /// The best full plan met so far, among those that fit, and its cost.
     best: Option<(u32, i64)>,
 }
 
 impl WordForWord<'_> {
-    /// Visits a partial plan and, unless it is left, those after it; `None` when the visits pass the limit.
-    fn visit(&mut self, fed: u32, unfed: u32) -> Option<()> {
+    /// Visits a partial plan and, unless it is left, those after it; a refusal when the visits pass the limit.
+    fn visit(&mut self, fed: u32, unfed: u32) -> Result<(), NotFound> {
         if self.visits == self.limit {
-            return None;
+            return Err(NotFound::PastLimit);
         }
         self.visits += 1;
         let undecided = self.register.all() & !fed & !unfed;
@@ -138,11 +150,17 @@ impl WordForWord<'_> {
             }
         }
         if self.best.is_some_and(|(_, cost)| sum >= cost) {
-            return Some(());
+            return Ok(());
         }
         if undecided == 0 {
-            self.best = Some((fed, sum));
-            return Some(());
+            let fits = |row: &Row| {
+                let fed_entries = (0..MAX_CHOICES).filter(|i| fed & 1 << i != 0).map(|i| row.entries[i] as i64);
+                fed_entries.sum::<i64>() == row.sum as i64
+            };
+            if self.register.rows.iter().all(fits) {
+                self.best = Some((fed, sum));
+            }
+            return Ok(());
         }
         let highest = 1 << undecided.ilog2();
         self.visit(fed, unfed | highest)?;

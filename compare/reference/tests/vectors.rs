@@ -3,6 +3,7 @@
 //! plans, NAME.register and NAME.cheapest in `examples`.
 //! A line of a vector file: name, what is given, what is expected, separated by spaces; a table of 77 and a buffer of AA are lent.
 
+use reference::register::Row;
 use reference::{Answer, Refusal, Tally};
 use std::fs;
 use std::path::PathBuf;
@@ -86,15 +87,18 @@ fn register() {
             return false;
         }
         match answer {
-            Err(_) => [0; 5].iter().all(|&zero| zero == f.number()),
+            Err(_) => [0; 6].iter().all(|&zero| zero == f.number()),
             Ok(register) => {
                 let counts = [register.base as i64, register.choices.len() as i64, register.terms.len() as i64];
                 let choices = register.choices.iter().flat_map(|choice| [choice.tank as i64, choice.minute as i64]);
                 let terms = register.terms.iter().flat_map(|term| [term.mask as i64, term.coefficient as i64]);
                 let windows = register.windows.iter().flat_map(|window| [window.tank, window.from, window.to].map(i64::from));
                 let windows = std::iter::once(register.windows.len() as i64).chain(windows);
-                let length = [register.day_length as i64];
-                counts.into_iter().chain(choices).chain(terms).chain(windows).chain(length).all(|number| number == f.number())
+                let rest = [register.day_length as i64, register.rows.len() as i64];
+                let of_row = |row: &Row| std::iter::once(row.sum as i64).chain(row.entries.map(i64::from)).collect::<Vec<_>>();
+                let rows = register.rows.iter().flat_map(of_row);
+                let mut numbers = counts.into_iter().chain(choices).chain(terms).chain(windows).chain(rest).chain(rows);
+                numbers.all(|number| number == f.number())
             }
         }
     });

@@ -18,7 +18,7 @@ fn full_certificates(count: usize) -> Vec<Parts> {
     let mut found = Vec::new();
     while found.len() < count {
         let (register, scheme) = generate::products_first(&mut random, Size::Full);
-        let mut certificate = generate::random_certificate(&mut random, Size::Full, &scheme, true);
+        let mut certificate = generate::random_certificate(&mut random, Size::Full, &register, &scheme, true);
         generate::repair(&register, &scheme, &mut certificate);
         if full(&register, &scheme, &certificate) {
             let parts = [
@@ -44,7 +44,7 @@ fn without_squares(inputs: &[Parts]) -> Vec<Parts> {
     let bare = |parts: &Parts| {
         let (register, _) = register::read(&parts[0]).expect("a register");
         let (scheme, _) = scheme::read(&register, &parts[1]).expect("a scheme");
-        let (mut certificate, _) = certificate::read(&scheme, &parts[2]).expect("a certificate");
+        let (mut certificate, _) = certificate::read(&register, &scheme, &parts[2]).expect("a certificate");
         certificate.squares.clear();
         [parts[0].clone(), parts[1].clone(), certificate.bytes()]
     };
@@ -117,6 +117,7 @@ fn deep_scheme() -> [Vec<u8>; 2] {
         day_length: USUAL_DAY,
         windows: Vec::new(),
         choices: (1..33).map(|tank| Choice { tank, minute: 0 }).collect(),
+        rows: Vec::new(),
         terms: splits.iter().map(|&(mask, _, _)| Term { mask, coefficient: 1_000_000, position: 0 }).collect(),
     };
     [generate::register_commands(&register).concat(), generate::scheme_commands(&scheme).concat()]
