@@ -62,15 +62,15 @@ static void try_days(void) {
 // Both plans that fit the second row miss the first: 2 and -3 are not -1. Without the first row plan 2 is the cheapest.
 static void try_rows(void) {
     FeedcheckRegisterAnswer a = feedcheck_register(ROWS, sizeof ROWS);
-    expect("rows", a.number == 0 && a.reg.choices == 2 && a.reg.rows == 2 && a.reg.row_sums[0] == -1 && a.reg.row_sums[1] == 1 &&
-                       a.reg.row_sums[2] == 0 && a.reg.row_entries[0] == 2 && a.reg.row_entries[1] == -3 &&
+    expect("rows", a.number == 0 && a.reg.choices == 2 && a.reg.rows == 2 && a.reg.row_totals[0] == -1 && a.reg.row_totals[1] == 1 &&
+                       a.reg.row_totals[2] == 0 && a.reg.row_entries[0] == 2 && a.reg.row_entries[1] == -3 &&
                        a.reg.row_entries[2] == 0 && a.reg.row_entries[32] == 1 && a.reg.row_entries[33] == 1 && a.reg.terms == 2);
     uint8_t bytes[sizeof ROWS];
     memcpy(bytes, ROWS, sizeof ROWS);
     bytes[20] = 1;
     a = feedcheck_register(bytes, sizeof bytes);
     expect("rows, an entry past the choices", a.number == 5 && a.part == 1 && a.position == 15 && a.reg.rows == 0 &&
-                                                  a.reg.row_sums[0] == 0 && a.reg.row_entries[0] == 0);
+                                                  a.reg.row_totals[0] == 0 && a.reg.row_entries[0] == 0);
     memcpy(bytes, ROWS, 15);
     memcpy(bytes + 15, ROWS + 50, sizeof ROWS - 50);
     const uint8_t fed[5] = {0x40, 2, 0, 0, 0}, both[5] = {0x40, 3, 0, 0, 0};
@@ -96,7 +96,7 @@ int main(void) {
     expect("register", a.number == 0 && a.reg.base == 10 && a.reg.choices == 3 && a.reg.terms == 3 && a.reg.tanks[2] == 7 &&
                            a.reg.minutes[1] == 720 && a.reg.masks[2] == 7 && a.reg.coefficients[0] == -6);
     expect("register, no length", a.reg.day_length == FEEDCHECK_USUAL_DAY);
-    expect("register, no rows", a.reg.rows == 0 && a.reg.row_sums[7] == 0 && a.reg.row_entries[255] == 0);
+    expect("register, no rows", a.reg.rows == 0 && a.reg.row_totals[7] == 0 && a.reg.row_entries[255] == 0);
     expect("register, no windows", a.reg.windows == 0 && a.reg.window_tanks[0] == 0 && a.reg.window_tos[63] == 0);
     a = feedcheck_register(WINDOWS, sizeof WINDOWS);
     expect("windows", a.number == 0 && a.reg.choices == 1 && a.reg.minutes[0] == 481 && a.reg.windows == 3 &&

@@ -414,7 +414,7 @@ fn register_answer(answer: Answer<reference::register::Register>) -> raw::Regist
         window_froms: [0; 64],
         window_tos: [0; 64],
         rows: 0,
-        row_sums: [0; MAX_ROWS],
+        row_totals: [0; MAX_ROWS],
         row_entries: [0; MAX_ROWS * MAX_CHOICES],
     };
     let refusal = answer.as_ref().err().copied().unwrap_or_default();
@@ -439,7 +439,7 @@ fn register_answer(answer: Answer<reference::register::Register>) -> raw::Regist
         }
         record.rows = register.rows.len();
         for (k, row) in register.rows.iter().enumerate() {
-            record.row_sums[k] = row.sum;
+            record.row_totals[k] = row.sum;
             record.row_entries[32 * k..32 * k + 32].copy_from_slice(&row.entries);
         }
     }
