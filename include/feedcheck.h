@@ -42,7 +42,7 @@ enum {
  * and no window ends after it.
  * Window number w is of the tank window_tanks[w]: window_froms[w] is its first minute, window_tos[w] the first minute after it.
  * Where a tank has no window, every minute of the day is allowed.
- * Row number k has the sum row_sums[k], and for choice j the entry row_entries[FEEDCHECK_ROW_ENTRIES * k + j], 0 where there is
+ * Row number k has the sum row_totals[k], and for choice j the entry row_entries[FEEDCHECK_ROW_ENTRIES * k + j], 0 where there is
  * no choice j. A plan fits where, for each row, the entries of the choices that it feeds add up to the row's sum; where there is
  * no row, every plan fits.
  * Entries past the counts are 0. */
@@ -56,7 +56,7 @@ typedef struct {
     size_t windows;
     uint16_t window_tanks[FEEDCHECK_MAX_WINDOWS], window_froms[FEEDCHECK_MAX_WINDOWS], window_tos[FEEDCHECK_MAX_WINDOWS];
     size_t rows;
-    int16_t row_sums[FEEDCHECK_MAX_ROWS];
+    int16_t row_totals[FEEDCHECK_MAX_ROWS];
     int8_t row_entries[FEEDCHECK_MAX_ROWS * FEEDCHECK_ROW_ENTRIES];
 } FeedcheckRegister;
 

@@ -66,13 +66,13 @@ fn entries() {
     let rows = [row(2, &[1, 1, 1, 1]), row(-4_064, &[-128, 127, 0, 0, -1]), row(4_064, &[])];
     let record = feedcheck::register(&register(&rows)).unwrap();
     assert_eq!((record.choices, record.rows, record.terms), (5, 3, 11));
-    assert_eq!(record.row_sums, [2, -4_064, 4_064, 0, 0, 0, 0, 0]);
+    assert_eq!(record.row_totals, [2, -4_064, 4_064, 0, 0, 0, 0, 0]);
     assert_eq!(record.row_entries[..6], [1, 1, 1, 1, 0, 0]);
     assert_eq!(record.row_entries[ROW_ENTRIES..][..6], [-128, 127, 0, 0, -1, 0]);
     assert!(record.row_entries[ROW_ENTRIES + 5..].iter().all(|&entry| entry == 0));
 
     let record = feedcheck::register(&register(&[])).unwrap();
-    assert_eq!((record.rows, record.row_sums, record.row_entries), (0, [0; MAX_ROWS], [0; MAX_ROWS * ROW_ENTRIES]));
+    assert_eq!((record.rows, record.row_totals, record.row_entries), (0, [0; MAX_ROWS], [0; MAX_ROWS * ROW_ENTRIES]));
 }
 
 #[test]
@@ -90,7 +90,7 @@ fn row_refused() {
     assert_eq!(refused(feedcheck::register(&twice()[..64])), (2, 1, 30));
 
     let record = raw::register(&register(&[row(2, &[1, 1, 1, 1]), row(4_065, &[])])).register;
-    assert_eq!((record.choices, record.rows, record.row_sums), (0, 0, [0; MAX_ROWS]));
+    assert_eq!((record.choices, record.rows, record.row_totals), (0, 0, [0; MAX_ROWS]));
     assert_eq!(record.row_entries, [0; MAX_ROWS * ROW_ENTRIES]);
 }
 
@@ -114,7 +114,7 @@ fn record() {
     assert_eq!((size_of::<raw::RegisterAnswer>(), size_of::<raw::Register>()), (2_888, 2_872));
     assert_eq!((offset_of!(raw::Register, windows), offset_of!(raw::Register, window_tos)), (2_200, 2_464));
     assert_eq!(offset_of!(raw::Register, rows), 2_592);
-    assert_eq!((offset_of!(raw::Register, row_sums), offset_of!(raw::Register, row_entries)), (2_600, 2_616));
+    assert_eq!((offset_of!(raw::Register, row_totals), offset_of!(raw::Register, row_entries)), (2_600, 2_616));
 }
 
 #[test]
