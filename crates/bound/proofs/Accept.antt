@@ -75,7 +75,7 @@ module _ (reg : Register) (regValid : R.Valid reg) (sch : Scheme) (schValid : S.
   pub encoding-accepted : Valid c reg sch k → Encodes k s → certificateByItself c reg sch s ≡ accepted (reached 0x3F k) (length s)
   unfolding certificateByItself certificateInJob dominanceChecked byItself
   encoding-accepted v e =
-      let x = certificate-accepted reg sch (omega (arith, regValid.within.choices.few, schValid.within.products-within)) k s v.within e in
+      let x = certificate-accepted reg sch (omega (arith, regValid.within.choices.few, schValid.within.products-within)) regValid.within.rows.few k s v.within e in
       let t : carries c reg sch k ≡ true = (carries-iff c reg sch k).1 v.carried in
       rw (x, t, le-ltb (length s) (length s) (omega arith))
 
@@ -83,7 +83,7 @@ module _ (reg : Register) (regValid : R.Valid reg) (sch : Scheme) (schValid : S.
   pub encoding-front : (rest : List ℕ) → Valid c reg sch k → Encodes k s → certificateInJob c reg sch (s ++ rest) ≡ accepted (reached 0x3F k) (length s)
   unfolding certificateInJob dominanceChecked
   encoding-front rest v e =
-      let x = certificate-front reg sch (omega (arith, regValid.within.choices.few, schValid.within.products-within)) k s rest v.within e in
+      let x = certificate-front reg sch (omega (arith, regValid.within.choices.few, schValid.within.products-within)) regValid.within.rows.few k s rest v.within e in
       let (inJob, _) = whole-accepted reg sch c s _ _ (encoding-accepted v e) in
       let t : carries c reg sch k ≡ true = (T_true (carries c reg sch k)).0 (commands-accepted reg sch c s _ _ inJob).1 in
       rw (x, t)

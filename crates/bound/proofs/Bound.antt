@@ -1,5 +1,5 @@
 -- What a valid certificate proves: the bound in the relaxation, and with it the bound on the cost of every plan that P holds of,
--- where the rules are sound over these. Ours are over every plan.
+-- where the rules are sound over these. Ours are over the plans that fit, and where there are no rows over every plan.
 use Prim.Native.Nat.{ℕ, ◌≤◌}
 use mathlib.Core.Path.{◌≡◌, ◌∙◌, ap, ap₂}
 use mathlib.Core.List.{[], ◌∷◌}
@@ -17,6 +17,8 @@ use Rattle.forms.specs.Form.{Form, places, value, times}
 use Rattle.forms.proofs.Form.{Below, below-[], below-∷, below-append, below-flatMap, below-times, form-law, value-append, value-flatMap, value-times}
 use Rattle.register.specs.declared.Register.{Register}
 use Rattle.plan.specs.Plan.{cost}
+use Rattle.plan.specs.Fits.{Fits}
+use Rattle.plan.proofs.Fits.{every-fits}
 use Rattle.scheme.specs.declared.Scheme.{Scheme}
 use Rattle.scheme.specs.Scheme.{side}
 use Rattle.scheme.specs.Filling.{factor, induced}
@@ -34,7 +36,7 @@ use Rattle.certificate.specs.Within.{Allowed, Within}
 use Rattle.bound.specs.Valid.{Valid}
 use Rattle.bound.proofs.Relaxation.{induced-relaxed}
 use Rattle.residual.proofs.Semidefinite.{semidefinite}
-use Rattle.residual.proofs.Rules.{Sound, EveryPlan, rule-sound, null-below, subtracted-below, null-0, subtracted-nonneg}
+use Rattle.residual.proofs.Rules.{Sound, rule-sound, null-below, subtracted-below, null-0, subtracted-nonneg}
 
 -- the bound is the least whole number that is at least T/s
 pub bound-is : (k : Certificate) → 1 ≤ k.scale → IsCeilDiv k.target k.scale (bound k)
@@ -57,7 +59,7 @@ module _ (c : ℕ → ℤ) (r : Register) (s : Scheme) (k : Certificate) (scheme
   abbrev filling : ℕ → ℕ → ℤ
   filling plan = factor (induced n s plan)
 
-  sound : (t : Multiplier) → Sound EveryPlan n s (ruleOf r s t)
+  sound : (t : Multiplier) → Sound (Fits r) n s (ruleOf r s t)
   sound = rule-sound r s scheme.within.products
 
   value-B : (y : ℕ → ℤ) → value y (shifted c r s k)
@@ -139,6 +141,10 @@ module _ (c : ℕ → ℤ) (r : Register) (s : Scheme) (k : Certificate) (scheme
       pub bound-over : bound k ≤ℤ cost c r plan
       bound-over = (bound-is k valid.within.scale-above).least (cost c r plan) scaled-bound
 
-    -- every plan costs at least the bound
-    pub plan-bound : (plan : ℕ) → bound k ≤ℤ cost c r plan
-    plan-bound plan = bound-over sound plan tt
+    -- every plan that fits costs at least the bound
+    pub plan-bound : (plan : ℕ) → Fits r plan → bound k ≤ℤ cost c r plan
+    plan-bound = bound-over sound
+
+    -- and without rows every plan
+    pub every-plan-bound : r.rows ≡ 0 → (plan : ℕ) → bound k ≤ℤ cost c r plan
+    every-plan-bound none plan = plan-bound plan (every-fits r none plan)

@@ -27,7 +27,7 @@ use Rattle.scheme.proofs.Example.{exampleScheme}
 use Rattle.bound.proofs.Conditions.{carries-iff}
 use Rattle.bound.proofs.Worked.{exampleCertificate, w9}
 use Rattle.certificate.proofs.Commands.{command-38, command-39}
-use Rattle.bound.proofs.Bound.{plan-bound}
+use Rattle.bound.proofs.Bound.{every-plan-bound}
 
 -- ---- products and splits, as tests
 
@@ -100,4 +100,4 @@ example-valid = record {
 
 no-plan-below : (plan : ℕ) → pos 0 ≤ℤ cost (coefficient exampleRegister) exampleRegister plan
 unfolding bound ceilDiv
-no-plan-below = plan-bound (coefficient exampleRegister) exampleRegister exampleScheme (exampleCertificate (pos 0)) example-scheme example-valid
+no-plan-below = every-plan-bound (coefficient exampleRegister) exampleRegister exampleScheme (exampleCertificate (pos 0)) example-scheme example-valid refl

@@ -103,7 +103,7 @@ module _ (reg : Register) (regValid : R.Valid reg) (sch : Scheme) (schValid : S.
     front_read k end l w e =
         let few : variables reg.choices sch ≤ maxVariables = omega (arith, regValid.within.choices.few, schValid.within.products-within) in
         let n : length (take end s) ≡ end = length-take-le end s l in
-        let q = whole-front (certificatePart reg sch) (take end s) (drop end s) (reached 0x3F k) (bytes_take end s b) (certificate-accepted reg sch few k (take end s) w e) in
+        let q = whole-front (certificatePart reg sch) (take end s) (drop end s) (reached 0x3F k) (bytes_take end s b) (certificate-accepted reg sch few regValid.within.rows.few k (take end s) w e) in
         rw (take-append-drop end s, n) at q
 
     certificate-refuses : (n at : ℕ) → CertificateRefused c reg sch s n at → certificateInJob c reg sch s ≡ refused n at

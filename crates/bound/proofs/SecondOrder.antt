@@ -54,6 +54,7 @@ rules-linear r s i j k l =
     ▹ (λ t. refl ▹ refl ▹ refl ▹ refl ▹ tt)
     ▹ (λ t. refl ▹ tt)
     ▹ (λ t. refl ▹ refl ▹ tt)
+    ▹ (λ t. absurd t)
     ▹ tt
 
 rule-linear : (r : Register) (s : Scheme) (t : Multiplier) → SubtractedLinear (ruleOf r s t)

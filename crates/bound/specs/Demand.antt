@@ -6,6 +6,7 @@ use Rattle.register.specs.Register.{coefficient}
 use Rattle.register.specs.Encoding as RE
 use Rattle.register.specs.Valid as R
 use Rattle.plan.specs.Plan.{cost}
+use Rattle.plan.specs.Fits.{Fits}
 use Rattle.plan.specs.Answer.{costAnswer}
 use Rattle.scheme.specs.declared.Scheme.{Scheme}
 use Rattle.scheme.specs.Encoding as SE
@@ -30,8 +31,8 @@ pub record Shown (register scheme certificate : List ℕ) (a : CheckAnswer) : Ty
   pub scheme-valid : S.Valid reg sch
   pub certificate-valid : Valid (coefficient reg) reg sch cert
   pub bound-is : a.bound ≡ bound cert
-  -- no plan is cheaper than the bound, nor any that the cost call reads with these bytes
-  pub costs : (plan : ℕ) → a.bound ≤ℤ cost (coefficient reg) reg plan
+  -- no plan that fits is cheaper than the bound, nor any that the cost call reads with these bytes
+  pub costs : (plan : ℕ) → Fits reg plan → a.bound ≤ℤ cost (coefficient reg) reg plan
   pub answered-costs : (plan : List ℕ) → (costAnswer register plan).number ≡ 0 → a.bound ≤ℤ (costAnswer register plan).cost
   -- the second-order part is positive semidefinite
   pub second-order-part : (x : ℕ → ℤ) → pos 0 ≤ℤ secondOrder (coefficient reg) reg sch cert x

@@ -12,6 +12,7 @@ use Rattle.wire.specs.Rows.{Progress}
 use Rattle.wire.proofs.Part.{Ways, by-ways, readFrom-end}
 use Rattle.wire.proofs.Accepting.{reached}
 use Rattle.wire.proofs.Acceptance as A
+use Rattle.register.specs.Limits.{maxRows}
 use Rattle.register.specs.declared.Register.{Register}
 use Rattle.scheme.specs.declared.Scheme.{Scheme}
 use Rattle.scheme.specs.Scheme.{maxVariables, variables}
@@ -74,11 +75,11 @@ module _ (reg : Register) (sch : Scheme) where
   encodes-accepted s p end e b l = rw (take_all end s (omega arith)) at (front-encodes s p end b e).0
 
   -- every encoding of a certificate within the limits is accepted
-  module _ (few : variables reg.choices sch ≤ maxVariables) (k : Certificate) (s : List ℕ) where
+  module _ (few : variables reg.choices sch ≤ maxVariables) (rows : reg.rows ≤ maxRows) (k : Certificate) (s : List ℕ) where
     -- at the front of a run of bytes
     pub certificate-front : (rest : List ℕ) → Within reg sch k → Encodes k s → commandsInJob reg sch (s ++ rest) ≡ accepted (reached 0x3F k) (length s)
     unfolding commandsInJob
-    certificate-front rest w e = A.front-accepted fresh (certificateRows reg sch) (laws reg sch) (means reg sch) k s rest w (encodes-says reg sch few k s w e)
+    certificate-front rest w e = A.front-accepted fresh (certificateRows reg sch) (laws reg sch) (means reg sch) k s rest w (encodes-says reg sch few rows k s w e)
 
     -- by itself
     pub certificate-accepted : Within reg sch k → Encodes k s → commandsInJob reg sch s ≡ accepted (reached 0x3F k) (length s)

@@ -1,6 +1,7 @@
 -- What each kind of multiplier command asks, as the code has it: by the sets that it keeps.
 use mathlib.Core.Path.{◌≡◌, refl, sym, ◌∙◌, ap, ap₂}
 use mathlib.Core.Bool.{Bool, true, false, cond, not, ◌&&◌, ◌||◌}
+use mathlib.Core.Logic.{inl, inr}
 use mathlib.Core.List.{List, [], ◌∷◌}
 use Prim.Native.Nat.{ℕ, ◌≤◌}
 use native.Mathlib.Omega.{arith}
@@ -23,13 +24,16 @@ use Rattle.certificate.specs.declared.Rule.{Rule as RuleTests}
 use Rattle.certificate.specs.declared.Multiplier.{Multiplier as Named}
 use Rattle.certificate.specs.Certificate.{Multiplier}
 use Rattle.certificate.specs.Rules.{Rule, byKey, noRule, rules, ruleOf}
-use Rattle.certificate.specs.Limits.{maxMultipliers, maxMultiplier}
+use Rattle.certificate.specs.Limits.{maxMultipliers, maxMultiplier, maxRowMultiplier}
 use Rattle.certificate.specs.Format.{multiplierChecks}
-use Rattle.certificate.specs.Answer.{named_of, ruleAsked, TestsOf}
+use Rattle.certificate.specs.Answer.{IsMultiplier, named_of, ruleAsked, TestsOf}
 use Rattle.certificate.proofs.Ranges.{among-all, in-range}
 
 abbrev pub nullTests : Bool → Bool → Bool → RuleTests
 nullTests there ordered fits = record { least = neg_ℤ (pos maxMultiplier); most = pos maxMultiplier; there = there; ordered = ordered; fits = fits }
+
+abbrev pub rowTests : Bool → RuleTests
+rowTests there = record { least = neg_ℤ (pos maxRowMultiplier); most = pos maxRowMultiplier; there = there; ordered = true; fits = true }
 
 abbrev pub subtractedTests : Bool → RuleTests
 subtractedTests there = record { least = pos 0; most = pos maxMultiplier; there = there; ordered = true; fits = true }
@@ -66,11 +70,11 @@ module _ (reg : Register) (sch : Scheme) (sets : List ℕ) (i j k l : ℕ) where
   abbrev pub asked : ℕ → Rule
   asked kind = byKey noRule kind (rules reg sch i j k l)
 
-  pub no-rule : (kind : ℕ) → (0x31 ≤ kind → kind ≤ 0x39 → ⊥) → TestsOf (asked kind) (nullTests false false false)
+  pub no-rule : (kind : ℕ) → (IsMultiplier kind → ⊥) → TestsOf (asked kind) (nullTests false false false)
   unfolding byKey
   no-rule kind h =
-      let other : (b : ℕ) → 0x31 ≤ b → b ≤ 0x39 → eqb kind b ≡ false = λ b p q. ne_eqb kind b (λ e. h (omega arith) (omega arith)) in
-      rw (other 0x31 (omega arith) (omega arith), other 0x32 (omega arith) (omega arith), other 0x33 (omega arith) (omega arith), other 0x34 (omega arith) (omega arith), other 0x35 (omega arith) (omega arith), other 0x36 (omega arith) (omega arith), other 0x37 (omega arith) (omega arith), other 0x38 (omega arith) (omega arith), other 0x39 (omega arith) (omega arith))
+      let other : (b : ℕ) → 0x31 ≤ b → b ≤ 0x39 → eqb kind b ≡ false = λ b p q. ne_eqb kind b (λ e. h (inl (omega arith, omega arith))) in
+      rw (other 0x31 (omega arith) (omega arith), other 0x32 (omega arith) (omega arith), other 0x33 (omega arith) (omega arith), other 0x34 (omega arith) (omega arith), other 0x35 (omega arith) (omega arith), other 0x36 (omega arith) (omega arith), other 0x37 (omega arith) (omega arith), other 0x38 (omega arith) (omega arith), other 0x39 (omega arith) (omega arith), ne_eqb kind 0x3B (λ e. h (inr e)))
       (as_is noRule)
 
   module _ (h : SetsBelow n sch (variables n sch) sets) where
@@ -119,3 +123,8 @@ module _ (reg : Register) (sch : Scheme) (sets : List ℕ) (i j k l : ℕ) where
       among-all (λ kind. TestsOf (asked kind) (subtractedTests (ltb i (variables n sch)))) (0x38 ∷ 0x39 ∷ [])
       (as_is _ ▹ as_is _ ▹ tt)
       kind (in-range 0x38 2 (0x38 ∷ 0x39 ∷ []) tt kind p (omega arith))
+
+  -- `3B` names a row and a variable
+  pub tests-row : TestsOf (asked 0x3B) (rowTests (ltb i reg.rows && ltb j (variables reg.choices sch)))
+  unfolding byKey
+  tests-row = as_is _

@@ -22,32 +22,36 @@ use Rattle.certificate.specs.Limits.{maxMultipliers}
 use Rattle.certificate.specs.Certificate.{Multiplier}
 use Rattle.certificate.specs.Rules.{arity, byKey, rules, noRule, ruleOf}
 use Rattle.certificate.specs.Format.{multiplierChecks, multiplierKinds}
+use Rattle.certificate.specs.Answer.{IsMultiplier}
 use Rattle.certificate.specs.Within.{Allowed}
 use Rattle.certificate.proofs.Passes.{multiplier-passes}
 use Rattle.certificate.proofs.Conditions.{allowed-iff, tested}
 use Rattle.certificate.proofs.Ranges.{among-all, is-multiplier}
 
--- ---- the variables that a command names are there
+-- ---- the numbers that a command names are those of variables that are there, of `3B` that of a row first: all below a limit of
+-- both counts
 
-module _ (f : ℕ → ℕ) (N : ℕ) where
-  below_more : (k : ℕ) → ((i : ℕ) → i < k → f i < N) → f k < N → (i : ℕ) → i < suc k → f i < N
+module _ (f : ℕ → ℕ) (K : ℕ) where
+  below_more : (k : ℕ) → ((i : ℕ) → i < k → f i < K) → f k < K → (i : ℕ) → i < suc k → f i < K
   below_more k h l i b = by (ℕ_discrete i k)
     where
-      by : Dec (i ≡ k) → f i < N
+      by : Dec (i ≡ k) → f i < K
       by (yes e) = rw e l
       by (no d) = h i (omega arith)
 
-  below_one : f 0 < N → (i : ℕ) → i < 1 → f i < N
+  below_one : f 0 < K → (i : ℕ) → i < 1 → f i < K
   below_one = below_more 0 (λ i b. absurd (omega arith))
 
-pub names-there : (reg : Register) (sch : Scheme) (t : Multiplier) → Allowed reg sch t → (i : ℕ) → i < arity t.kind → get_or t.names i 0 < variables reg.choices sch
+pub names-there : (reg : Register) (sch : Scheme) (K : ℕ) → variables reg.choices sch ≤ K → reg.rows ≤ K → (t : Multiplier) → Allowed reg sch t → (i : ℕ) → i < arity t.kind → get_or t.names i 0 < K
 unfolding ruleOf byKey arity
-names-there reg sch t a = let h = tested reg sch t a in among-all There multiplierKinds
-    (one ▹ (λ h. let (x, y) = (T_and (v 0) (v 1)).0 h in two x y)
+names-there reg sch K few rows t a = let h = tested reg sch t a in among-all There multiplierKinds
+    (one ▹ (λ h. let (x, y) = (T_and (v 0) (v 1)).0 h in two (low 0 x) (low 1 y))
     ▹ (λ h. let (u, z) = (T_and (v 0 && v 1) (v 2)).0 h in let (x, y) = (T_and (v 0) (v 1)).0 u in three x y z)
-    ▹ (λ h. let (w, k) = (T_and (v 0 && v 1 && v 2) (v 3)).0 h in let (u, z) = (T_and (v 0 && v 1) (v 2)).0 w in let (x, y) = (T_and (v 0) (v 1)).0 u in below_more f N 3 (three x y z) (ltb→lt _ _ k))
-    ▹ product ▹ product ▹ product ▹ one ▹ one ▹ tt)
-    t.kind (is-multiplier t.kind h.kind-above h.kind-within) h.rule.there
+    ▹ (λ h. let (w, k) = (T_and (v 0 && v 1 && v 2) (v 3)).0 h in let (u, z) = (T_and (v 0 && v 1) (v 2)).0 w in let (x, y) = (T_and (v 0) (v 1)).0 u in below_more f K 3 (three x y z) (low 3 k))
+    ▹ product ▹ product ▹ product ▹ one ▹ one
+    ▹ (λ h. let (x, y) = (T_and (ltb (f 0) reg.rows) (v 1)).0 h in let l = ltb→lt (f 0) reg.rows x in two (omega arith) (low 1 y))
+    ▹ tt)
+    t.kind (is-multiplier t.kind h.kind) h.rule.there
   where
     f : ℕ → ℕ
     f i = get_or t.names i 0
@@ -59,18 +63,21 @@ names-there reg sch t a = let h = tested reg sch t a in among-all There multipli
     v i = ltb (f i) N
 
     There : ℕ → Type 0
-    There kind = T (byKey noRule kind (rules reg sch (f 0) (f 1) (f 2) (f 3))).there → (i : ℕ) → i < arity kind → f i < N
+    There kind = T (byKey noRule kind (rules reg sch (f 0) (f 1) (f 2) (f 3))).there → (i : ℕ) → i < arity kind → f i < K
 
-    one : T (v 0) → (i : ℕ) → i < 1 → f i < N
-    one h = below_one f N (ltb→lt (f 0) N h)
+    low : (i : ℕ) → T (v i) → f i < K
+    low i h = let l = ltb→lt (f i) N h in omega arith
 
-    two : T (v 0) → T (v 1) → (i : ℕ) → i < 2 → f i < N
-    two x y = below_more f N 1 (one x) (ltb→lt (f 1) N y)
+    one : T (v 0) → (i : ℕ) → i < 1 → f i < K
+    one h = below_one f K (low 0 h)
 
-    three : T (v 0) → T (v 1) → T (v 2) → (i : ℕ) → i < 3 → f i < N
-    three x y z = below_more f N 2 (two x y) (ltb→lt (f 2) N z)
+    two : f 0 < K → f 1 < K → (i : ℕ) → i < 2 → f i < K
+    two x y = below_more f K 1 (below_one f K x) y
 
-    product : T (leb reg.choices (f 0) && v 0) → (i : ℕ) → i < 1 → f i < N
+    three : T (v 0) → T (v 1) → T (v 2) → (i : ℕ) → i < 3 → f i < K
+    three x y z = below_more f K 2 (two (low 0 x) (low 1 y)) (low 2 z)
+
+    product : T (leb reg.choices (f 0) && v 0) → (i : ℕ) → i < 1 → f i < K
     product h = one ((T_and (leb reg.choices (f 0)) (v 0)).0 h).1
 
 -- ---- no check fails
@@ -95,10 +102,10 @@ multiplier-checked multipliers reg sch t few a =
     passes : (b : Bool) → T b → not b ≡ false
     passes b h = rw ((T_true b).0 h)
 
--- so a command of `31` to `39` with the names of its kind passes just where it is allowed, while there is room for it
-pub multiplier-iff : (multipliers : ℕ) (reg : Register) (sch : Scheme) (t : Multiplier) → multipliers < maxMultipliers → 0x31 ≤ t.kind → t.kind ≤ 0x39 → length t.names ≡ arity t.kind →
+-- so a multiplier command with the names of its kind passes just where it is allowed, while there is room for it
+pub multiplier-iff : (multipliers : ℕ) (reg : Register) (sch : Scheme) (t : Multiplier) → multipliers < maxMultipliers → IsMultiplier t.kind → length t.names ≡ arity t.kind →
     (refusal (multiplierChecks multipliers (ruleOf reg sch t) t.m) ≡ 0) ↔ Allowed reg sch t
-multiplier-iff multipliers reg sch t few x y l = (
-  (λ e. (allowed-iff reg sch t).1 (record { kind-above = x; kind-within = y; names = l; rule = (multiplier-passes _ _ _ e).1 })),
+multiplier-iff multipliers reg sch t few x l = (
+  (λ e. (allowed-iff reg sch t).1 (record { kind = x; names = l; rule = (multiplier-passes _ _ _ e).1 })),
   multiplier-checked multipliers reg sch t few,
 )

@@ -1,7 +1,7 @@
 -- The conditions of `specs/Within` are just what the reader tests of a multiplier command by its rule.
 use Prim.Native.Nat.{ℕ, zero, suc, ◌≤◌, ◌<◌}
 use mathlib.Core.Path.{◌≡◌, refl, sym, subst, ap}
-use mathlib.Core.Logic.{◌↔◌}
+use mathlib.Core.Logic.{◌↔◌, inl, inr}
 use mathlib.Core.Bool.{Bool, ◌&&◌}
 use mathlib.Core.List.{List, [], ◌∷◌}
 use native.Mathlib.Omega.{arith}
@@ -20,20 +20,20 @@ use Rattle.sets.proofs.Sets.{proper-iff}
 use Rattle.register.specs.declared.Register.{Register}
 use Rattle.scheme.specs.declared.Scheme.{Scheme}
 use Rattle.scheme.specs.Scheme.{variables}
-use Rattle.certificate.specs.Limits.{maxMultiplier}
+use Rattle.certificate.specs.Limits.{maxMultiplier, maxRowMultiplier}
 use Rattle.certificate.specs.Certificate.{Multiplier}
-use Rattle.certificate.specs.Rules.{arity, byKey, nullRule, subtractedRule, ruleOf}
+use Rattle.certificate.specs.Rules.{arity, byKey, nullRule, rowRule, subtractedRule, ruleOf}
 use Rattle.certificate.specs.Format.{multiplierKinds}
-use Rattle.certificate.specs.Within.{Variable, Product, NullRange, SubtractedRange, conditions, Allowed}
+use Rattle.certificate.specs.Answer.{IsMultiplier}
+use Rattle.certificate.specs.Within.{Variable, Product, NullRange, SubtractedRange, RowRange, conditions, Allowed}
 use Rattle.certificate.proofs.Ranges.{among-all, is-multiplier}
 use Rattle.certificate.proofs.Passes.{RulePasses}
 
 -- ---- a multiplier command
 
--- what the reader tests of it: its byte, how many variables it names, and its rule
+-- what the reader tests of it: its byte, how many numbers it names, and its rule
 pub record Tested (r : Register) (s : Scheme) (t : Multiplier) : Type 0 where
-  pub kind-above : 0x31 ≤ t.kind
-  pub kind-within : t.kind ≤ 0x39
+  pub kind : IsMultiplier t.kind
   pub names : length t.names ≡ arity t.kind
   pub rule : RulePasses (ruleOf r s t) t.m
 
@@ -67,6 +67,9 @@ equal-iff a b = (eqb→eq a b, λ e. rw e (eqb_refl b))
 abs-within : (m : ℤ) → neg_ℤ (pos maxMultiplier) ≤ℤ m → m ≤ℤ pos maxMultiplier → nat_abs m ≤ maxMultiplier
 abs-within = diff₁ _ λ p q. simp diffs (omega arith)
 
+row-within : (m : ℤ) → neg_ℤ (pos maxRowMultiplier) ≤ℤ m → m ≤ℤ pos maxRowMultiplier → nat_abs m ≤ maxRowMultiplier
+row-within = diff₁ _ λ p q. simp diffs (omega arith)
+
 -- ---- the conditions, row by row
 
 module _ (r : Register) (s : Scheme) (m : ℤ) where
@@ -87,6 +90,14 @@ module _ (r : Register) (s : Scheme) (m : ℤ) where
   null-within : {there ordered fits : Bool} {form : Form} → RulePasses (nullRule there ordered fits form) m → NullRange m
   null-within p = null-range.1 (p.m-above, p.m-below)
 
+  -- a row form's
+
+  row-passes : {there : Bool} {form : Form} → T there → RowRange m → RulePasses (rowRule there form) m
+  row-passes t l = record { m-above = omega (arith, orders, natAbs-parts m); m-below = omega (arith, orders, natAbs-parts m); there = t; ordered = tt; fits = tt }
+
+  row-inside : {there : Bool} {form : Form} → RulePasses (rowRule there form) m → RowRange m
+  row-inside p = row-within m p.m-above p.m-below
+
   subtracted-passes : {there : Bool} {form : Form} {P : Type 0} → T there ↔ P → (P × SubtractedRange m) ↔ RulePasses (subtractedRule there form) m
   subtracted-passes e = (
     (λ h. record { m-above = h.1.0; m-below = h.1.1; there = e.1 h.0; ordered = tt; fits = tt }),
@@ -100,12 +111,12 @@ module _ (r : Register) (s : Scheme) (m : ℤ) where
   product-iff k = simp T_and ((λ h. (leb→le n k h.0, ltb→lt k (variables n s) h.1)), (λ h. (le→leb n k h.0, lt→ltb k (variables n s) h.1)))
 
   -- a command that names one variable
-  one_name : (kind : ℕ) (P : ℕ → Type 0) (Q : Type 0) → 0x31 ≤ kind → kind ≤ 0x39 → 1 ≡ arity kind →
+  one_name : (kind : ℕ) (P : ℕ → Type 0) (Q : Type 0) → IsMultiplier kind → 1 ≡ arity kind →
       ((i : ℕ) → (P i × Q) ↔ RulePasses (ruleOf r s (command kind (i ∷ []))) m) →
       (names : List ℕ) → ((i : ℕ) × (names ≡ i ∷ []) × P i × Q) ↔ Tested r s (command kind names)
   unfolding firsts
-  one_name kind P Q above within one h names = (
-    (λ c. subst (λ l. Tested r s (command kind l)) (sym c.1) (record { kind-above = above; kind-within = within; names = one; rule = (h c.0).0 (c.2, c.3) })),
+  one_name kind P Q k one h names = (
+    (λ c. subst (λ l. Tested r s (command kind l)) (sym c.1) (record { kind = k; names = one; rule = (h c.0).0 (c.2, c.3) })),
     (λ t.
         let e = listed 1 names (omega (arith, t.names)) in
         let p = (h (get_or names 0 0)).1 (subst (λ l. RulePasses (ruleOf r s (command kind l)) m) e t.rule) in
@@ -120,8 +131,7 @@ module _ (r : Register) (s : Scheme) (m : ℤ) where
   unfolding ruleOf byKey arity firsts
   row-32 names = (
     (λ c. subst (λ l. Tested r s (command 0x32 l)) (sym c.2) (record {
-      kind-above = omega arith;
-      kind-within = omega arith;
+      kind = inl (omega arith, omega arith);
       names = refl;
       rule = null-passes (simp T_and ((variable-iff _).1 c.3, (variable-iff _).1 c.4)) tt ((proper-iff _ _).1 c.5) c.6;
     })),
@@ -134,8 +144,7 @@ module _ (r : Register) (s : Scheme) (m : ℤ) where
   unfolding ruleOf byKey arity firsts
   row-33 names = (
     (λ c. subst (λ l. Tested r s (command 0x33 l)) (sym c.3) (record {
-      kind-above = omega arith;
-      kind-within = omega arith;
+      kind = inl (omega arith, omega arith);
       names = refl;
       rule = null-passes (simp T_and (((variable-iff _).1 c.4, (variable-iff _).1 c.5), (variable-iff _).1 c.6)) ((below-iff _ _).1 c.7) ((equal-iff _ _).1 c.8) c.9;
     })),
@@ -148,8 +157,7 @@ module _ (r : Register) (s : Scheme) (m : ℤ) where
   unfolding ruleOf byKey arity firsts
   row-34 names = (
     (λ c. subst (λ l. Tested r s (command 0x34 l)) (sym c.4) (record {
-      kind-above = omega arith;
-      kind-within = omega arith;
+      kind = inl (omega arith, omega arith);
       names = refl;
       rule = null-passes (simp T_and ((((variable-iff _).1 c.5, (variable-iff _).1 c.6), (variable-iff _).1 c.7), (variable-iff _).1 c.8))
           (simp T_and ((below-iff _ _).1 c.9, (below-iff _ _).1 c.10)) ((equal-iff _ _).1 c.11) c.12;
@@ -160,25 +168,39 @@ module _ (r : Register) (s : Scheme) (m : ℤ) where
         (get_or names 0 0, get_or names 1 0, get_or names 2 0, get_or names 3 0, listed 4 names t.names, (variable-iff _).0 h.0.0.0, (variable-iff _).0 h.0.0.1, (variable-iff _).0 h.0.1, (variable-iff _).0 h.1, (below-iff _ _).0 o.0, (below-iff _ _).0 o.1, (equal-iff _ _).0 t.rule.fits, null-within t.rule)),
   )
 
+  row-3B : RowIff 0x3B
+  unfolding ruleOf byKey arity firsts
+  row-3B names = (
+    (λ c. subst (λ l. Tested r s (command 0x3B l)) (sym c.2) (record {
+      kind = inr refl;
+      names = refl;
+      rule = row-passes (simp T_and ((below-iff _ _).1 c.3, (variable-iff _).1 c.4)) c.5;
+    })),
+    (λ t.
+        let h = simp T_and at t.rule.there in
+        (get_or names 0 0, get_or names 1 0, listed 2 names t.names, (below-iff _ _).0 h.0, (variable-iff _).0 h.1, row-inside t.rule)),
+  )
+
   every-row : All RowIff multiplierKinds
   unfolding ruleOf byKey arity
   every-row =
-      one_name 0x31 (Variable n s) (NullRange m) (omega arith) (omega arith) refl
+      one_name 0x31 (Variable n s) (NullRange m) (inl (omega arith, omega arith)) refl
       (λ i. ((λ h. null-passes ((variable-iff i).1 h.0) tt tt h.1), (λ p. ((variable-iff i).0 p.there, null-within p))))
       ▹ row-32
       ▹ row-33
       ▹ row-34
-      ▹ one_name 0x35 (Product n s) (SubtractedRange m) (omega arith) (omega arith) refl (λ k. subtracted-passes (product-iff k))
-      ▹ one_name 0x36 (Product n s) (SubtractedRange m) (omega arith) (omega arith) refl (λ k. subtracted-passes (product-iff k))
-      ▹ one_name 0x37 (Product n s) (SubtractedRange m) (omega arith) (omega arith) refl (λ k. subtracted-passes (product-iff k))
-      ▹ one_name 0x38 (Variable n s) (SubtractedRange m) (omega arith) (omega arith) refl (λ i. subtracted-passes (variable-iff i))
-      ▹ one_name 0x39 (Variable n s) (SubtractedRange m) (omega arith) (omega arith) refl (λ i. subtracted-passes (variable-iff i))
+      ▹ one_name 0x35 (Product n s) (SubtractedRange m) (inl (omega arith, omega arith)) refl (λ k. subtracted-passes (product-iff k))
+      ▹ one_name 0x36 (Product n s) (SubtractedRange m) (inl (omega arith, omega arith)) refl (λ k. subtracted-passes (product-iff k))
+      ▹ one_name 0x37 (Product n s) (SubtractedRange m) (inl (omega arith, omega arith)) refl (λ k. subtracted-passes (product-iff k))
+      ▹ one_name 0x38 (Variable n s) (SubtractedRange m) (inl (omega arith, omega arith)) refl (λ i. subtracted-passes (variable-iff i))
+      ▹ one_name 0x39 (Variable n s) (SubtractedRange m) (inl (omega arith, omega arith)) refl (λ i. subtracted-passes (variable-iff i))
+      ▹ row-3B
       ▹ tt
 
   condition-iff : (kind : ℕ) → RowIff kind
   condition-iff kind names = (
-    (λ c. (row (by_key (λ kind. T (isAmong kind multiplierKinds)) kind (conditions r s names m) ((λ _. tt) ▹ (λ _. tt) ▹ (λ _. tt) ▹ (λ _. tt) ▹ (λ _. tt) ▹ (λ _. tt) ▹ (λ _. tt) ▹ (λ _. tt) ▹ (λ _. tt) ▹ tt) c)).0 c),
-    (λ t. (row (is-multiplier kind t.kind-above t.kind-within)).1 t),
+    (λ c. (row (by_key (λ kind. T (isAmong kind multiplierKinds)) kind (conditions r s names m) ((λ _. tt) ▹ (λ _. tt) ▹ (λ _. tt) ▹ (λ _. tt) ▹ (λ _. tt) ▹ (λ _. tt) ▹ (λ _. tt) ▹ (λ _. tt) ▹ (λ _. tt) ▹ (λ _. tt) ▹ tt) c)).0 c),
+    (λ t. (row (is-multiplier kind t.kind)).1 t),
   )
     where
       row : T (isAmong kind multiplierKinds) → byKey ⊥ kind (conditions r s names m) ↔ Tested r s (command kind names)
@@ -197,7 +219,7 @@ pub m-within : (r : Register) (s : Scheme) (t : Multiplier) → Allowed r s t �
 unfolding Allowed
 m-within r s t =
     by_key (λ kind. nat_abs t.m ≤ maxMultiplier) t.kind (conditions r s t.names t.m)
-    ((λ c. c.3) ▹ (λ c. c.6) ▹ (λ c. c.9) ▹ (λ c. c.12) ▹ (λ c. small c.3) ▹ (λ c. small c.3) ▹ (λ c. small c.3) ▹ (λ c. small c.3) ▹ (λ c. small c.3) ▹ tt)
+    ((λ c. c.3) ▹ (λ c. c.6) ▹ (λ c. c.9) ▹ (λ c. c.12) ▹ (λ c. small c.3) ▹ (λ c. small c.3) ▹ (λ c. small c.3) ▹ (λ c. small c.3) ▹ (λ c. small c.3) ▹ (λ c. omega (arith, c.5)) ▹ tt)
   where
     small : SubtractedRange t.m → nat_abs t.m ≤ maxMultiplier
     small h = abs-within t.m (≤ℤ-trans _ _ _ (le_z_yes tt) h.0) h.1

@@ -1,5 +1,5 @@
 -- The bytes of a certificate's commands: the encoding of the paper is that of the rows.
-use Prim.Native.Nat.{ℕ, zero, suc, ◌^◌, ◌≤◌, ◌<◌}
+use Prim.Native.Nat.{ℕ, ◌^◌, ◌≤◌, ◌<◌}
 use native.Mathlib.Omega.{arith}
 use mathlib.Core.Path.{◌≡◌, refl, sym, ◌∙◌, ap, ap₂}
 use mathlib.Core.List.{List, [], ◌∷◌, ◌++◌, map, flat_map, append_assoc, append-nil}
@@ -16,6 +16,8 @@ use Rattle.wire.specs.Rows.{Progress, row_of}
 use Rattle.wire.specs.Encoding.{fields, encodeCommand, encode}
 use Rattle.wire.specs.Grammar as G
 use Rattle.wire.proofs.Encoding.{encode-append}
+use Rattle.wire.proofs.Many.{fields-signed}
+use Rattle.register.specs.Limits.{maxRows}
 use Rattle.register.specs.declared.Register.{Register}
 use Rattle.scheme.specs.declared.Scheme.{Scheme}
 use Rattle.scheme.specs.Scheme.{maxVariables, variables}
@@ -24,7 +26,7 @@ use Rattle.certificate.specs.Certificate.{Certificate}
 use Rattle.certificate.specs.Format.{certificatePart}
 use Rattle.certificate.specs.Within.{Allowed, SquareAllowed, Within}
 use Rattle.certificate.specs.Encoding.{Entry, multiplier, square, multipliersOf, squaresOf, encodeScale, encodeMultiplier, encodeSquare, encodeEntry, encodeBody, Encodes}
-use Rattle.certificate.proofs.Ranges.{among-between}
+use Rattle.certificate.proofs.Ranges.{multiplier-between, among-between}
 use Rattle.certificate.proofs.Conditions.{tested, m-within}
 use Rattle.certificate.proofs.Checked.{names-there}
 use Rattle.certificate.proofs.Readback.{fit-names, fit-entries}
@@ -38,13 +40,6 @@ fields-names : (xs : List ℕ) (m : ℕ) → fields (replicate (length xs) 1 ++ 
 unfolding fields flat_map
 fields-names [] m = append-nil (bytes_of 8 m)
 fields-names (x ∷ xs) m = rw (fields-names xs m, append_assoc)
-
-fields-signed : (k : ℕ) (v : List ℤ) → length v ≡ k → fields (replicate k 2) (map (of_z w16) v) ≡ flat_map (λ x. bytes_of 2 (of_z w16 x)) v
-unfolding fields flat_map
-fields-signed zero [] l = refl
-fields-signed zero (x ∷ v) l = absurd (omega arith)
-fields-signed (suc k) [] l = absurd (omega arith)
-fields-signed (suc k) (x ∷ v) l = rw (fields-signed k v (omega arith))
 
 module _ (reg : Register) (sch : Scheme) where
   abbrev P : Part (Progress Certificate)
@@ -73,20 +68,20 @@ module _ (reg : Register) (sch : Scheme) where
   unfolding encodeCommand encodeMultiplier encodeSquare row_of fields
   entry-bytes (multiplier t) a =
       let h = tested reg sch t a in
-      rw (row-multiplier reg sch t.kind h.kind-above h.kind-within, ← h.names) (ap (λ xs. t.kind ∷ xs) (fields-names t.names (of_z w64 t.m)))
-  entry-bytes (square q) a = ap (λ xs. 0x3A ∷ (bytes_of 4 q.w ++ xs)) (fields-signed squareEntries q.v a.entries)
+      rw (row-multiplier reg sch t.kind h.kind, ← h.names) (ap (λ xs. t.kind ∷ xs) (fields-names t.names (of_z w64 t.m)))
+  entry-bytes (square q) a = ap (λ xs. 0x3A ∷ (bytes_of 4 q.w ++ xs)) (fields-signed w16 2 squareEntries q.v a.entries)
 
-  entry-fits : variables n sch ≤ maxVariables → (x : Entry) → EntryAllowed x → Fits reg sch (commandOf x)
+  entry-fits : variables n sch ≤ maxVariables → reg.rows ≤ maxRows → (x : Entry) → EntryAllowed x → Fits reg sch (commandOf x)
   unfolding row_of
-  entry-fits few (multiplier t) a =
+  entry-fits few rows (multiplier t) a =
       let h = tested reg sch t a in
-      let named : (i : ℕ) → i < length t.names → get_or t.names i 0 < 256 = λ i b. omega (arith, names-there reg sch t a i (omega (arith, h.names))) in
+      let named : (i : ℕ) → i < length t.names → get_or t.names i 0 < 256 = λ i b. names-there reg sch 256 (omega arith) (omega arith) t a i (omega (arith, h.names)) in
       let wide : of_z w64 t.m < 256 ^ 8 = (Fits-of_z (fits_signed w64 t.m (omega (arith, m-within reg sch t a)))).fits in
       record {
-        between = among-between t.kind (omega (arith, h.kind-above)) (omega (arith, h.kind-within));
-        operands = rw (row-multiplier reg sch t.kind h.kind-above h.kind-within) (rw h.names at (fit-names t.names (of_z w64 t.m) named wide));
+        between = let r = multiplier-between t.kind h.kind in among-between t.kind (omega arith) r.1;
+        operands = rw (row-multiplier reg sch t.kind h.kind) (rw h.names at (fit-names t.names (of_z w64 t.m) named wide));
       }
-  entry-fits few (square q) a = record { between = refl; operands = (omega (arith, a.w-within), fit-entries n sch q a) }
+  entry-fits few rows (square q) a = record { between = refl; operands = (omega (arith, a.w-within), fit-entries n sch q a) }
 
   -- ---- all of them
 
@@ -103,13 +98,13 @@ module _ (reg : Register) (sch : Scheme) where
         each [] a = refl
         each (x ∷ es) a = ap₂ (λ y z. y ++ z) (entry-bytes x a.0) (each es a.1)
 
-    commands-fit : variables n sch ≤ maxVariables → All (Fits reg sch) (scaleCommand s target ∷ map commandOf es)
+    commands-fit : variables n sch ≤ maxVariables → reg.rows ≤ maxRows → All (Fits reg sch) (scaleCommand s target ∷ map commandOf es)
     unfolding row_of
-    commands-fit few = (record { between = refl; operands = (omega (arith, w.scale-within), ((Fits-of_z (fits_signed w64 target (omega (arith, w.target-within)))).fits, tt)) }, each es allowed)
+    commands-fit few rows = (record { between = refl; operands = (omega (arith, w.scale-within), ((Fits-of_z (fits_signed w64 target (omega (arith, w.target-within)))).fits, tt)) }, each es allowed)
       where
         each : (es : List Entry) → All EntryAllowed es → All (Fits reg sch) (map commandOf es)
         each [] a = tt
-        each (x ∷ es) a = (entry-fits few x a.0, each es a.1)
+        each (x ∷ es) a = (entry-fits few rows x a.0, each es a.1)
 
   -- ---- an encoding of a certificate within the limits is the bytes of commands that say it
 
@@ -123,8 +118,8 @@ module _ (reg : Register) (sch : Scheme) where
         bytes = e.bytes ∙ ap (encode P) (c.whole ∙ rw (f.whole, c.is-second.whole, c.is-second.form)) ∙ commands-bytes f.scale f.target f.entries (rw f.is at w);
       })
 
-  pub encodes-says : variables n sch ≤ maxVariables → (k : Certificate) (s : List ℕ) → Within reg sch k → Encodes k s → G.Encodes P (Commands reg sch) k s
-  encodes-says few k s w e =
+  pub encodes-says : variables n sch ≤ maxVariables → reg.rows ≤ maxRows → (k : Certificate) (s : List ℕ) → Within reg sch k → Encodes k s → G.Encodes P (Commands reg sch) k s
+  encodes-says few rows k s w e =
       let cs = scaleCommand k.scale k.target ∷ map commandOf e.entries in
       let is : k ≡ certificateOf k.scale k.target e.entries = λ i. record { scale = k.scale; target = k.target; multipliers = sym e.commands.multipliers-are i; squares = sym e.commands.squares-are i } in
       let w' = rw is at w in
@@ -133,7 +128,7 @@ module _ (reg : Register) (sch : Scheme) where
         are = record {
           first = cs;
           second = endCommand ∷ [];
-          is-first = record { scale = k.scale; target = k.target; entries = e.entries; is = is; fit = commands-fit k.scale k.target e.entries w' few; whole = refl };
+          is-first = record { scale = k.scale; target = k.target; entries = e.entries; is = is; fit = commands-fit k.scale k.target e.entries w' few rows; whole = refl };
           is-second = record { command = endCommand; form = refl; whole = refl };
           whole = refl;
         };

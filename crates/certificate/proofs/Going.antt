@@ -21,7 +21,7 @@ use Rattle.certificate.specs.Limits.{maxMultipliers, maxSquares}
 use Rattle.certificate.specs.Certificate.{Certificate, fresh, withMultiplier, withSquare}
 use Rattle.certificate.specs.Rules.{byKey}
 use Rattle.certificate.specs.Format.{commandSize, certificateRows, certificatePart, commandsInJob}
-use Rattle.certificate.specs.Answer.{countsOf, freshCounts, multiplierAt, squareRead, seenOf}
+use Rattle.certificate.specs.Answer.{IsMultiplier, countsOf, freshCounts, multiplierAt, squareRead, seenOf}
 use Rattle.certificate.proofs.Sizes.{size_is}
 use Rattle.certificate.proofs.Rows.{row-multiplier, only_end}
 use Rattle.certificate.proofs.Laws.{Good, laws}
@@ -53,17 +53,17 @@ module _ (reg : Register) (sch : Scheme) where
       unfolding row_of total operandsAt intAt commandSize byKey
       scale-on e = rw e (going_on fresh rows (laws reg sch) g l q 0x30 e refl)
 
-      pub multiplier-on : 0x31 ≤ b → b ≤ 0x39 → Going s b (withMultiplier k (multiplierAt s at)) (at + commandSize b)
+      pub multiplier-on : IsMultiplier b → Going s b (withMultiplier k (multiplierAt s at)) (at + commandSize b)
       unfolding multiplierAt
-      multiplier-on x y =
-          rw (size_is reg sch b, row-multiplier reg sch b x y) at (going_on fresh rows (laws reg sch) g l q b refl (ap (λ (r : Row Certificate). r.last) (row-multiplier reg sch b x y)))
+      multiplier-on x =
+          rw (size_is reg sch b, row-multiplier reg sch b x) at (going_on fresh rows (laws reg sch) g l q b refl (ap (λ (r : Row Certificate). r.last) (row-multiplier reg sch b x)))
 
       pub square-on : b ≡ 0x3A → Going s b (withSquare k (squareRead s at)) (at + commandSize b)
       unfolding row_of total squareRead commandSize byKey
       square-on e = rw e (going_on fresh rows (laws reg sch) g l q 0x3A e refl)
 
       -- no other byte is left than the end's
-      pub ends : (0x30 ≤ b → b ≤ 0x3A → ⊥) → commandsInJob reg sch s ≡ accepted (reached 0x3F k) (at + commandSize b)
+      pub ends : (0x30 ≤ b → b ≤ 0x3B → ⊥) → commandsInJob reg sch s ≡ accepted (reached 0x3F k) (at + commandSize b)
       unfolding commandsInJob row_of total commandSize byKey
       ends x =
           let e : b ≡ 0x3F = only_end reg sch b previous here.place x in
@@ -82,7 +82,7 @@ module _ (reg : Register) (sch : Scheme) where
   module _ {s : List ℕ} {previous : ℕ} {counts : Counts} {at : ℕ} (g : Counted s previous counts at) where
     -- what the checks look at
     pub seen : seenOf reg sch (reached previous g.parsed)
-        ≡ record { previous = previous; multipliers = counts.multipliers; squares = counts.squares; choices = reg.choices; variables = variables reg.choices sch }
+        ≡ record { previous = previous; multipliers = counts.multipliers; squares = counts.squares; choices = reg.choices; variables = variables reg.choices sch; rows = reg.rows }
     seen = rw g.counts-are
 
     pub few-counts : (counts.multipliers ≤ maxMultipliers) × (counts.squares ≤ maxSquares)
@@ -92,9 +92,9 @@ module _ (reg : Register) (sch : Scheme) where
       pub scale-counted : get_or s at 0 ≡ 0x30 → Counted s (get_or s at 0) (record { scale = natAt 4 s (at + 1); target = intAt w64 s (at + 1 + 4); multipliers = counts.multipliers; squares = counts.squares }) (at + commandSize (get_or s at 0))
       scale-counted e = record { parsed = record { scale = natAt 4 s (at + 1); target = intAt w64 s (at + 1 + 4); multipliers = g.parsed.multipliers; squares = g.parsed.squares }; counts-are = rw g.counts-are; going = scale-on g.going l q e }
 
-      pub multiplier-counted : 0x31 ≤ get_or s at 0 → get_or s at 0 ≤ 0x39 →
+      pub multiplier-counted : IsMultiplier (get_or s at 0) →
           Counted s (get_or s at 0) (record { scale = counts.scale; target = counts.target; multipliers = counts.multipliers + 1; squares = counts.squares }) (at + commandSize (get_or s at 0))
-      multiplier-counted x y = record { parsed = withMultiplier g.parsed (multiplierAt s at); counts-are = rw (g.counts-are, length-append); going = multiplier-on g.going l q x y }
+      multiplier-counted x = record { parsed = withMultiplier g.parsed (multiplierAt s at); counts-are = rw (g.counts-are, length-append); going = multiplier-on g.going l q x }
 
       pub square-counted : get_or s at 0 ≡ 0x3A →
           Counted s (get_or s at 0) (record { scale = counts.scale; target = counts.target; multipliers = counts.multipliers; squares = counts.squares + 1 }) (at + commandSize (get_or s at 0))

@@ -1,6 +1,6 @@
 -- The laws of the certificate's rows: what has been read is within its limits, from commands that say it; and the last command
 -- can be taken back.
-use Prim.Native.Nat.{ℕ, ◌≤◌}
+use Prim.Native.Nat.{ℕ}
 use native.Mathlib.Omega.{arith}
 use mathlib.Core.Path.{◌≡◌, refl, sym, ◌∙◌, ap}
 use mathlib.Core.Logic.{◌⊎◌, inl, inr, ⊎_elim}
@@ -19,6 +19,7 @@ use Rattle.wire.specs.Rows.{Row, row_of, isAmong}
 use Rattle.wire.specs.Encoding.{Command, Fit, Allowed}
 use Rattle.wire.specs.Grammar.{Only, Then}
 use Rattle.wire.proofs.Encoding.{fit_none}
+use Rattle.wire.proofs.Many.{length-first}
 use Rattle.wire.proofs.Grammar.{lastFrom, lastFrom-one}
 use Rattle.wire.proofs.Accepting.{reached, Grows, Back, Laws}
 use Rattle.wire.proofs.Acceptance.{Means}
@@ -27,10 +28,10 @@ use Rattle.scheme.specs.declared.Scheme.{Scheme}
 use Rattle.certificate.specs.Certificate.{Multiplier, Certificate, fresh, withMultiplier}
 use Rattle.certificate.specs.Rules.{arity, ruleOf}
 use Rattle.certificate.specs.Format.{multiplierOf, multiplierChecks, multiplierKinds, squareOf, scaleRow, multiplierRow, squareRow, endRow, anyBefore, certificateRows, certificatePart}
+use Rattle.certificate.specs.Answer.{IsMultiplier}
 use Rattle.certificate.specs.Within.{Within}
 use Rattle.certificate.specs.Encoding.{Entry, multiplier, square}
-use Rattle.certificate.proofs.Ranges.{among-between, rows_alike}
-use Rattle.certificate.proofs.Operands.{length-first}
+use Rattle.certificate.proofs.Ranges.{multiplier-between, among-between, rows_alike}
 use Rattle.certificate.proofs.Passes.{scale-iff, multiplier-passes, square-iff}
 use Rattle.certificate.proofs.Conditions.{tested}
 use Rattle.certificate.proofs.Checked.{multiplier-checked, multiplier-iff}
@@ -119,14 +120,14 @@ module _ (reg : Register) (sch : Scheme) where
           };
     }
 
-    multiplier-grows : (kind : ℕ) → 0x31 ≤ kind → kind ≤ 0x39 → Grows B (Good B) (Done B) kind (multiplierRow reg sch kind)
-    multiplier-grows kind x y = record {
+    multiplier-grows : (kind : ℕ) → IsMultiplier kind → Grows B (Good B) (Done B) kind (multiplierRow reg sch kind)
+    multiplier-grows kind x = record {
       on = λ k cs xs g e q fit.
           let t = multiplierOf kind xs in
           let p = multiplier-passes _ _ _ q in
           inr (entry-grows k cs (multiplier t) (record { byte = kind; operands = xs }) (followed e g)
-          (p.0, (multiplier-iff _ _ sch t p.0 x y (length-first (arity kind) xs)).0 q)
-          (among-between kind (omega arith) (omega arith)) (λ b. rw (row-multiplier reg sch kind x y) (fit b)) (λ b. operands-are kind (multiplier-said kind xs (fit b))));
+          (p.0, (multiplier-iff _ _ sch t p.0 x (length-first (arity kind) xs)).0 q)
+          (let r = multiplier-between kind x in among-between kind (omega arith) r.1) (λ b. rw (row-multiplier reg sch kind x) (fit b)) (λ b. operands-are kind (multiplier-said kind xs (fit b))));
     }
 
     square-grows : Grows B (Good B) (Done B) 0x3A (squareRow reg sch)
@@ -182,11 +183,11 @@ module _ (reg : Register) (sch : Scheme) where
   stands previous k (multiplier t) b (few, a) f =
       let h = tested reg sch t a in
       let xs = (commandOf (multiplier t)).operands in
-      let row = row-multiplier reg sch t.kind h.kind-above h.kind-within in
+      let row = row-multiplier reg sch t.kind h.kind in
       let back = multiplier-back reg sch t a in
       record {
         allowed = record {
-          byte = omega (arith, h.kind-within);
+          byte = omega (arith, multiplier-between t.kind h.kind);
           here = ap (λ (r : Row Certificate). isAmong previous r.follows) row ∙ b;
           operands = f.operands;
           passes =

@@ -17,3 +17,4 @@ pub mod Accept
 pub mod Going
 pub mod Lowest
 pub mod Prefix
+pub mod RowForm

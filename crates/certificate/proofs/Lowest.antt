@@ -21,7 +21,7 @@ module _ (reg : Register) (sch : Scheme) where
   certificate-rises =
       let square : Rises (squareRow reg sch) = λ r xs. tt in
       let end : Rises endRow = λ r xs. tt in
-      (λ r xs. tt) ▹ All-append Rises (map (multiplierRow reg sch) multiplierKinds) (squareRow reg sch ∷ endRow ∷ []) (rows_alike Rises (multiplierRow reg sch) (λ kind p q r xs. tt)) (square ▹ end ▹ tt)
+      (λ r xs. tt) ▹ All-append Rises (map (multiplierRow reg sch) multiplierKinds) (squareRow reg sch ∷ endRow ∷ []) (rows_alike Rises (multiplierRow reg sch) (λ kind h r xs. tt)) (square ▹ end ▹ tt)
 
   certificate-rising : Rising (certificatePart reg sch)
   certificate-rising = rows-rising fresh (certificateRows reg sch) certificate-rises

@@ -1,6 +1,6 @@
 -- Numbers in a range, and numbers in a list.
-use mathlib.Core.Path.{◌≡◌, sym, subst, ◌∙◌, ap}
-use mathlib.Core.Logic.{⊎_elim}
+use mathlib.Core.Path.{◌≡◌, refl, sym, subst, ◌∙◌, ap}
+use mathlib.Core.Logic.{inl, inr, ⊎_elim}
 use mathlib.Core.Bool.{true, ◌&&◌}
 use mathlib.Core.List.{List, [], ◌∷◌, ◌++◌, map}
 use Prim.Native.Nat.{ℕ, ◌+◌, ◌-◌, ◌≤◌, ◌<◌}
@@ -9,9 +9,10 @@ use native.Mathlib.Decide.{ℕ_discrete}
 use lib.Dec.{T, eqb, leb, eqb→eq, leb→le}
 use borrow.Author.Tests.{ne_eqb, eq-eqb}
 use Rattle.integers.specs.Lists.{All, all_below}
-use Rattle.integers.proofs.Lists.{T_and, T-or, T-ext, T_true, All-map, allBelow-at, ◌▹◌}
+use Rattle.integers.proofs.Lists.{T_and, T-or, T-ext, T_true, All-append, All-map, allBelow-at, ◌▹◌}
 use Rattle.wire.specs.Rows.{Row, isAmong, row_of}
 use Rattle.certificate.specs.Format.{multiplierKinds, anyBefore}
+use Rattle.certificate.specs.Answer.{IsMultiplier}
 
 -- what holds of each number in a list holds of a number in it
 pub among-all : (P : ℕ → Type 0) (cs : List ℕ) → All P cs → (b : ℕ) → T (isAmong b cs) → P b
@@ -26,26 +27,36 @@ in-range m k cs t b p q =
     let e : m + (b - m) ≡ b = omega arith in
     subst (λ x. T (isAmong x cs)) e (allBelow-at k (λ i. isAmong (m + i) cs) t (b - m) (omega arith))
 
--- `31` to `39`
-pub is-multiplier : (b : ℕ) → 0x31 ≤ b → b ≤ 0x39 → T (isAmong b multiplierKinds)
+-- `31` to `39` and `3B`
+
+pub is-multiplier : (b : ℕ) → IsMultiplier b → T (isAmong b multiplierKinds)
 unfolding all_below
-is-multiplier b p q = in-range 0x31 9 multiplierKinds tt b p (omega arith)
+is-multiplier b (inl (p, q)) = in-range 0x31 9 multiplierKinds tt b p (omega arith)
+is-multiplier b (inr e) = subst (λ b. T (isAmong b multiplierKinds)) (sym e) tt
 
--- what holds of `31` to `39`
-pub all_kinds : (P : ℕ → Type 0) → ((kind : ℕ) → 0x31 ≤ kind → kind ≤ 0x39 → P kind) → All P multiplierKinds
-all_kinds P h = All-map (λ kind. (0x31 ≤ kind) × (kind ≤ 0x39)) P (λ kind r. h kind r.0 r.1) multiplierKinds (omega arith)
+pub multiplier-between : (b : ℕ) → IsMultiplier b → (0x31 ≤ b) × (b ≤ 0x3B)
+multiplier-between b (inl (p, q)) = (p, omega arith)
+multiplier-between b (inr e) = (omega arith, omega arith)
 
--- what may stand before a command is `30` to `3A`
+-- what holds of each of them
+pub all_kinds : (P : ℕ → Type 0) → ((kind : ℕ) → IsMultiplier kind → P kind) → All P multiplierKinds
+all_kinds P h =
+    let ranged : (kind : ℕ) → (0x31 ≤ kind) × (kind ≤ 0x39) → P kind = λ kind r. h kind (inl r) in
+    All-append P (0x31 ∷ 0x32 ∷ 0x33 ∷ 0x34 ∷ 0x35 ∷ 0x36 ∷ 0x37 ∷ 0x38 ∷ 0x39 ∷ []) (0x3B ∷ [])
+    (All-map (λ kind. (0x31 ≤ kind) × (kind ≤ 0x39)) P ranged (0x31 ∷ 0x32 ∷ 0x33 ∷ 0x34 ∷ 0x35 ∷ 0x36 ∷ 0x37 ∷ 0x38 ∷ 0x39 ∷ []) (omega arith))
+    (h 0x3B (inr refl), tt)
 
-pub among-between : (b : ℕ) → 0x30 ≤ b → b ≤ 0x3A → isAmong b anyBefore ≡ true
+-- what may stand before a command is `30` to `3B`
+
+pub among-between : (b : ℕ) → 0x30 ≤ b → b ≤ 0x3B → isAmong b anyBefore ≡ true
 unfolding all_below
-among-between b p q = (T_true _).0 (in-range 0x30 11 anyBefore tt b p (omega arith))
+among-between b p q = (T_true _).0 (in-range 0x30 12 anyBefore tt b p (omega arith))
 
-pub before-any : (b : ℕ) → (leb 0x30 b && leb b 0x3A) ≡ isAmong b anyBefore
+pub before-any : (b : ℕ) → (leb 0x30 b && leb b 0x3B) ≡ isAmong b anyBefore
 before-any b =
-    T-ext (leb 0x30 b && leb b 0x3A) (isAmong b anyBefore) (
-      (λ t. let (p, q) = (T_and (leb 0x30 b) (leb b 0x3A)).0 t in (T_true _).1 (among-between b (leb→le 0x30 b p) (leb→le b 0x3A q))),
-      (λ t. among-all (λ b. T (leb 0x30 b && leb b 0x3A)) anyBefore (tt ▹ tt ▹ tt ▹ tt ▹ tt ▹ tt ▹ tt ▹ tt ▹ tt ▹ tt ▹ tt ▹ tt) b t),
+    T-ext (leb 0x30 b && leb b 0x3B) (isAmong b anyBefore) (
+      (λ t. let (p, q) = (T_and (leb 0x30 b) (leb b 0x3B)).0 t in (T_true _).1 (among-between b (leb→le 0x30 b p) (leb→le b 0x3B q))),
+      (λ t. among-all (λ b. T (leb 0x30 b && leb b 0x3B)) anyBefore (tt ▹ tt ▹ tt ▹ tt ▹ tt ▹ tt ▹ tt ▹ tt ▹ tt ▹ tt ▹ tt ▹ tt ▹ tt) b t),
     )
 
 -- the row of a byte
@@ -71,7 +82,7 @@ module _ {R : Type 0} where
       by (no d) later = row-later (row k) _ b (λ e. d (e ∙ same k)) ∙ later (⊎_elim (λ u. absurd (d (eqb→eq b k u))) (λ u. u) ((T-or (eqb b k) (isAmong b (l ∷ ks))).0 t))
 
   -- what holds of the row of each multiplier command
-  pub rows_alike : (P : Row R → Type 0) (row : ℕ → Row R) → ((kind : ℕ) → 0x31 ≤ kind → kind ≤ 0x39 → P (row kind)) → All P (map row multiplierKinds)
+  pub rows_alike : (P : Row R → Type 0) (row : ℕ → Row R) → ((kind : ℕ) → IsMultiplier kind → P (row kind)) → All P (map row multiplierKinds)
   rows_alike P row h = mapped multiplierKinds (all_kinds (λ kind. P (row kind)) h)
     where
       mapped : (ks : List ℕ) → All (λ kind. P (row kind)) ks → All P (map row ks)

@@ -1,26 +1,27 @@
 -- The operands of a multiplier command and of a square say it, and are read back as it.
-use Prim.Native.Nat.{ℕ, zero, suc, ◌^◌, ◌≤◌, ◌<◌}
+use Prim.Native.Nat.{ℕ, zero, suc, ◌^◌, ◌<◌}
 use native.Mathlib.Omega.{arith}
-use mathlib.Core.Path.{◌≡◌, refl, sym, ◌∙◌, ap, ap₂}
+use mathlib.Core.Path.{◌≡◌, ◌∙◌, ap}
 use mathlib.Core.List.{List, [], ◌∷◌, ◌++◌, map}
-use lib.IntN.{ℤ, pos, nat_abs}
+use lib.IntN.{pos}
 use lib.ListN.{length, get_or, drop, replicate, length-map}
 use lib.Seq.{get_or_at}
 use mir.Syntax.{w16, w64}
-use mir.Val.{to_z, of_z}
-use mir.Facts.{of_z-to_z, Fits-of_z}
+use mir.Val.{SFits, to_z, of_z}
+use mir.Facts.{of_z-to_z}
 use Rattle.integers.proofs.Machine.{read-signed, fits_signed}
+use Rattle.wire.specs.Rows.{first_of}
 use Rattle.wire.specs.Encoding.{Fit}
-use Rattle.wire.proofs.Encoding.{fit_none, fit-one, fit-two}
+use Rattle.wire.proofs.Encoding.{fit-one, fit-two}
+use Rattle.wire.proofs.Many.{length-first, first-at, signed-said, fit-signed, signed-back}
 use Rattle.register.specs.declared.Register.{Register}
 use Rattle.scheme.specs.declared.Scheme.{Scheme}
-use Rattle.certificate.specs.Limits.{squareEntries, maxEntry}
+use Rattle.certificate.specs.Limits.{squareEntries}
 use Rattle.certificate.specs.Certificate.{Multiplier, Square}
 use Rattle.certificate.specs.Rules.{arity}
-use Rattle.certificate.specs.Format.{first_of, scaleWidths, multiplierWidths, multiplierOf, squareWidths, squareOf}
+use Rattle.certificate.specs.Format.{scaleWidths, multiplierWidths, multiplierOf, squareWidths, squareOf}
 use Rattle.certificate.specs.Within.{Allowed, SquareAllowed}
 use Rattle.certificate.proofs.Conditions.{tested, m-within}
-use Rattle.certificate.proofs.Operands.{length-first, first-at, first-all}
 
 -- ---- operands that fit are those of what they say
 
@@ -35,14 +36,9 @@ names-said (suc n) (x ∷ xs) f = ap (λ l. x ∷ l) (names-said n xs f.1)
 pub multiplier-said : (kind : ℕ) (xs : List ℕ) → Fit (multiplierWidths kind) xs → xs ≡ (multiplierOf kind xs).names ++ (of_z w64 (multiplierOf kind xs).m ∷ [])
 multiplier-said kind = names-said (arity kind)
 
-entries-said : (n : ℕ) (xs : List ℕ) → Fit (replicate n 2) xs → xs ≡ map (of_z w16) (map (to_z w16) (first_of n xs))
-entries-said zero xs f = fit_none xs f
-entries-said (suc n) [] f = absurd f
-entries-said (suc n) (x ∷ xs) f = ap₂ (λ y ys. y ∷ ys) (sym (of_z-to_z {w = w16} (record { fits = f.0 }))) (entries-said n xs f.1)
-
 pub square-said : (xs : List ℕ) → Fit squareWidths xs → xs ≡ (squareOf xs).w ∷ map (of_z w16) (squareOf xs).v
 square-said [] f = absurd f
-square-said (x ∷ xs) f = ap (λ l. x ∷ l) (entries-said squareEntries xs f.1)
+square-said (x ∷ xs) f = ap (λ l. x ∷ l) (signed-said w16 squareEntries xs f.1)
 
 pub entries-long : (xs : List ℕ) → length (squareOf xs).v ≡ squareEntries
 entries-long xs = length-map (first_of squareEntries (drop 1 xs)) (to_z w16) ∙ length-first squareEntries (drop 1 xs)
@@ -53,16 +49,6 @@ pub fit-names : (xs : List ℕ) (m : ℕ) → ((i : ℕ) → i < length xs → g
 fit-names [] m h l = (l, tt)
 fit-names (x ∷ xs) m h l = (h 0 (omega arith), fit-names xs m (λ i b. h (suc i) (omega arith)) l)
 
--- entries within their range
-signed : (k : ℕ) (v : List ℤ) → length v ≡ k → ((i : ℕ) → i < k → nat_abs (get_or v i (pos 0)) ≤ maxEntry) → Fit (replicate k 2) (map (of_z w16) v) × (map (to_z w16) (map (of_z w16) v) ≡ v)
-signed zero [] l h = (tt, refl)
-signed zero (x ∷ v) l h = absurd (omega arith)
-signed (suc k) [] l h = absurd (omega arith)
-signed (suc k) (x ∷ v) l h =
-    let small = h 0 (omega arith) in
-    let (a, b) = signed k v (omega arith) (λ i b. h (suc i) (omega arith)) in
-    (((Fits-of_z (fits_signed w16 x (omega arith))).fits, a), ap₂ (λ y ys. y ∷ ys) (read-signed w16 x (omega arith)) b)
-
 pub multiplier-back : (reg : Register) (sch : Scheme) (t : Multiplier) → Allowed reg sch t → multiplierOf t.kind (t.names ++ (of_z w64 t.m ∷ [])) ≡ t
 multiplier-back reg sch t a =
     let h = tested reg sch t a in
@@ -71,10 +57,12 @@ multiplier-back reg sch t a =
     λ i. record { kind = t.kind; names = x i; m = y i }
 
 module _ (n : ℕ) (sch : Scheme) (q : Square) (a : SquareAllowed n sch q) where
+  -- entries within their range
+  small : (i : ℕ) → i < squareEntries → SFits w16 (get_or q.v i (pos 0))
+  small i l = fits_signed w16 (get_or q.v i (pos 0)) (omega (arith, a.entries-within i l))
+
   pub fit-entries : Fit (replicate squareEntries 2) (map (of_z w16) q.v)
-  fit-entries = (signed squareEntries q.v a.entries a.entries-within).0
+  fit-entries = fit-signed w16 squareEntries q.v a.entries small
 
   pub square-back : squareOf (q.w ∷ map (of_z w16) q.v) ≡ q
-  square-back =
-      let same : first_of squareEntries (map (of_z w16) q.v) ≡ map (of_z w16) q.v = first-all squareEntries (map (of_z w16) q.v) (length-map q.v (of_z w16) ∙ a.entries) in
-      λ i. record { w = q.w; v = (ap (map (to_z w16)) same ∙ (signed squareEntries q.v a.entries a.entries-within).1) i }
+  square-back = λ i. record { w = q.w; v = signed-back w16 squareEntries q.v a.entries small i }

@@ -16,6 +16,7 @@ use Rattle.scheme.specs.declared.Scheme.{Scheme}
 use Rattle.certificate.specs.Limits.{squareEntries}
 use Rattle.certificate.specs.Rules.{arity, byKey}
 use Rattle.certificate.specs.Format.{scaleWidths, multiplierWidths, squareWidths, multiplierKinds, widthsByByte, commandSize, certificatePart}
+use Rattle.certificate.specs.Answer.{IsMultiplier}
 use Rattle.certificate.proofs.Ranges.{among-all, in-range, is-multiplier}
 
 -- what stands by no key
@@ -44,12 +45,12 @@ unfolding commandSize
 size_above b = omega arith
 
 -- a byte that is no command
-pub no-command : (b : ℕ) → (0x30 ≤ b → b ≤ 0x3A → ⊥) → (b ≡ 0x3F → ⊥) → All (λ e. b ≡ e.0 → ⊥) widthsByByte
+pub no-command : (b : ℕ) → (0x30 ≤ b → b ≤ 0x3B → ⊥) → (b ≡ 0x3F → ⊥) → All (λ e. b ≡ e.0 → ⊥) widthsByByte
 no-command b h d =
     let inside : List (ℕ × List ℕ) = (0x30, scaleWidths) ∷ (map (λ kind. (kind, multiplierWidths kind)) multiplierKinds ++ ((0x3A, squareWidths) ∷ [])) in
-    All-append (λ e. b ≡ e.0 → ⊥) inside ((0x3F, []) ∷ []) (All-map (λ e. (0x30 ≤ e.0) × (e.0 ≤ 0x3A)) (λ e. b ≡ e.0 → ⊥) (λ e r q. h (omega arith) (omega arith)) inside (omega arith)) (d, tt)
+    All-append (λ e. b ≡ e.0 → ⊥) inside ((0x3F, []) ∷ []) (All-map (λ e. (0x30 ≤ e.0) × (e.0 ≤ 0x3B)) (λ e. b ≡ e.0 → ⊥) (λ e r q. h (omega arith) (omega arith)) inside (omega arith)) (d, tt)
 
-pub size_none : (b : ℕ) → (0x30 ≤ b → b ≤ 0x3A → ⊥) → (b ≡ 0x3F → ⊥) → commandSize b ≡ 1
+pub size_none : (b : ℕ) → (0x30 ≤ b → b ≤ 0x3B → ⊥) → (b ≡ 0x3F → ⊥) → commandSize b ≡ 1
 unfolding commandSize total
 size_none b h d = ap (λ ws. suc (total ws)) (byKey-none [] b widthsByByte (no-command b h d))
 
@@ -65,11 +66,11 @@ unfolding commandSize byKey arity total
 size-ten b (inl e) = rw e
 size-ten b (inr r) = size-one b r.0 r.1
 
--- a multiplier command: its byte, the variables that it names and the 8 bytes of its multiplier
-pub size-multiplier : (b : ℕ) → 0x31 ≤ b → b ≤ 0x39 → commandSize b ≡ 9 + arity b
+-- a multiplier command: its byte, the numbers that it names and the 8 bytes of its multiplier
+pub size-multiplier : (b : ℕ) → IsMultiplier b → commandSize b ≡ 9 + arity b
 unfolding commandSize byKey arity total
-size-multiplier b p q =
-    among-all (λ b. commandSize b ≡ 9 + arity b) multiplierKinds (refl ▹ refl ▹ refl ▹ refl ▹ refl ▹ refl ▹ refl ▹ refl ▹ refl ▹ tt) b (is-multiplier b p q)
+size-multiplier b h =
+    among-all (λ b. commandSize b ≡ 9 + arity b) multiplierKinds (refl ▹ refl ▹ refl ▹ refl ▹ refl ▹ refl ▹ refl ▹ refl ▹ refl ▹ refl ▹ tt) b (is-multiplier b h)
 
 pub size_scale : commandSize 0x30 ≡ 13
 unfolding commandSize byKey total

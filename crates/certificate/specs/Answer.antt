@@ -1,6 +1,6 @@
 -- What the code keeps of a certificate, what its checks look at, and what the certificate's calls answer, by what reading leads
 -- to. The code's records have the paper's names too: here they are Counts, Named, Filled and RuleTests.
-use Rattle.std.specs.Prelude.{ℕ, ◌+◌, ◌≡◌, Bool, true, ◌&&◌, ◌||◌, List, leb, ℤ, pos, nat_abs, length, get_or, replicate}
+use Rattle.std.specs.Prelude.{ℕ, ◌+◌, ◌≤◌, ◌⊎◌, ◌≡◌, Bool, true, ◌&&◌, ◌||◌, List, leb, ℤ, pos, nat_abs, length, get_or, replicate}
 use Rattle.wire.specs.Part.{Reading, refused, accepted, operandsAt}
 use Rattle.wire.specs.Rows.{Progress}
 use Rattle.register.specs.declared.Register.{Register}
@@ -29,7 +29,11 @@ countsOf k = record {
   squares = length k.squares;
 }
 
--- a multiplier command by the variables that it names, 0 where it names fewer
+-- the byte of a multiplier command: `31` to `39` or `3B`
+abbrev pub IsMultiplier : ℕ → Type 0
+IsMultiplier kind = ((0x31 ≤ kind) × (kind ≤ 0x39)) ⊎ (kind ≡ 0x3B)
+
+-- a multiplier command by the numbers that it names, 0 where it names fewer
 abbrev pub named_of : Multiplier → Named
 named_of t = record {
   kind = t.kind;
@@ -66,10 +70,11 @@ smallPast place limit v i =
 
 -- ---- what the checks look at
 
--- n choices, N variables, and the sets of the variables
-pub record Known (reg : Register) (sch : Scheme) (n N : ℕ) (sets : List ℕ) : Type 0 where
+-- n choices, N variables, so many rows, and the sets of the variables
+pub record Known (reg : Register) (sch : Scheme) (n N rows : ℕ) (sets : List ℕ) : Type 0 where
   pub choices-is : reg.choices ≡ n
   pub variables-is : variables reg.choices sch ≡ N
+  pub rows-is : reg.rows ≡ rows
   pub sets-are : SetsBelow reg.choices sch N sets
 
 -- of what has been read so far, with a register and a scheme
@@ -80,6 +85,7 @@ seenOf reg sch p = record {
   squares = length p.parsed.squares;
   choices = reg.choices;
   variables = variables reg.choices sch;
+  rows = reg.rows;
 }
 
 -- the rule of a multiplier command

@@ -1,7 +1,7 @@
 -- What a certificate says.
 use Rattle.std.specs.Prelude.{ℕ, List, [], ◌∷◌, ◌++◌, ℤ, pos}
 
--- a multiplier command: its byte, the variables that it names, and the multiplier m
+-- a multiplier command: its byte, the variables that it names, for `3B` a row and a variable, and the multiplier m
 pub record Multiplier : Type 0 where
   pub kind : ℕ
   pub names : List ℕ

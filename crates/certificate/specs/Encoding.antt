@@ -1,4 +1,4 @@
--- The certificate's bytes: `30` scale and target, then the commands `31` to `3A` in any order, `3F`. Written without the reader.
+-- The certificate's bytes: `30` scale and target, then the commands `31` to `3B` in any order, `3F`. Written without the reader.
 use Rattle.std.specs.Prelude.{ℕ, ◌≡◌, ℤ}
 use mathlib.Core.List.{List, [], ◌∷◌, ◌++◌, flat_map}
 use Rattle.std.specs.Int.{w16, w64}
@@ -31,7 +31,7 @@ squaresOf es = flat_map squaresIn es
 unfoldable pub encodeScale : ℕ → ℤ → List ℕ
 encodeScale s target = 0x30 ∷ (bytes_of 4 s ++ bytes_of 8 (of_z w64 target))
 
--- `31` to `39`: a byte for each variable named, eight for m
+-- `31` to `39` and `3B`: a byte for each number named, eight for m
 unfoldable pub encodeMultiplier : Multiplier → List ℕ
 encodeMultiplier t = t.kind ∷ (flat_map (bytes_of 1) t.names ++ bytes_of 8 (of_z w64 t.m))
 

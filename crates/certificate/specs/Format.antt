@@ -1,13 +1,13 @@
--- The certificate's commands, with a register and a scheme: `30` scale and target, `31` to `39` multipliers, `3A` square,
+-- The certificate's commands, with a register and a scheme: `30` scale and target, `31` to `39` and `3B` multipliers, `3A` square,
 -- `3F` end.
-use Rattle.std.specs.Prelude.{ℕ, zero, suc, true, false, not, ◌||◌, List, [], ◌∷◌, ◌++◌, map, ltb, leb, eqb, ℤ, pos, nat_abs, length, get_or, drop, replicate}
+use Rattle.std.specs.Prelude.{ℕ, suc, true, false, not, ◌||◌, List, [], ◌∷◌, ◌++◌, map, ltb, leb, eqb, ℤ, pos, nat_abs, length, get_or, drop, replicate}
 use Rattle.std.specs.Int.Signed.{lt_z}
 use Rattle.std.specs.Int.{w16, w64}
 use Rattle.std.proofs.Common.{to_z}
 use Rattle.integers.specs.Lists.{all_below}
 use Rattle.wire.specs.Checks.{Check, check}
 use Rattle.wire.specs.Part.{Part, Reading, total, readPart}
-use Rattle.wire.specs.Rows.{Progress, Row, part_of, binary}
+use Rattle.wire.specs.Rows.{Progress, Row, part_of, binary, first_of}
 use Rattle.register.specs.declared.Register.{Register}
 use Rattle.scheme.specs.declared.Scheme.{Scheme}
 use Rattle.scheme.specs.Scheme.{variables}
@@ -21,7 +21,7 @@ use Rattle.certificate.specs.Rules.{Rule, arity, byKey, ruleOf}
 abbrev pub scaleWidths : List ℕ
 scaleWidths = 4 ∷ 8 ∷ []
 
--- `31` to `39`: a byte for each variable named, eight for m
+-- `31` to `39` and `3B`: a byte for each number named, eight for m
 abbrev pub multiplierWidths : ℕ → List ℕ
 multiplierWidths kind = replicate (arity kind) 1 ++ (8 ∷ [])
 
@@ -30,7 +30,7 @@ abbrev pub squareWidths : List ℕ
 squareWidths = 4 ∷ replicate squareEntries 2
 
 abbrev pub multiplierKinds : List ℕ
-multiplierKinds = 0x31 ∷ 0x32 ∷ 0x33 ∷ 0x34 ∷ 0x35 ∷ 0x36 ∷ 0x37 ∷ 0x38 ∷ 0x39 ∷ []
+multiplierKinds = 0x31 ∷ 0x32 ∷ 0x33 ∷ 0x34 ∷ 0x35 ∷ 0x36 ∷ 0x37 ∷ 0x38 ∷ 0x39 ∷ 0x3B ∷ []
 
 -- by the command's byte: those of its row below, with every register and scheme (`size_is` in proofs/Sizes)
 abbrev pub widthsByByte : List (ℕ × List ℕ)
@@ -58,13 +58,7 @@ scaleRow = record {
   last = false;
 }
 
--- the first n operands, 0 where there are fewer; a command has no fewer
-abbrev pub first_of : ℕ → List ℕ → List ℕ
-first_of zero xs = []
-first_of (suc n) [] = 0 ∷ first_of n []
-first_of (suc n) (x ∷ xs) = x ∷ first_of n xs
-
--- the multiplier command with this byte and these operands: the variables, one byte each, and m
+-- the multiplier command with this byte and these operands: the numbers named, one byte each, and m
 abbrev pub multiplierOf : ℕ → List ℕ → Multiplier
 multiplierOf kind xs = record { kind = kind; names = first_of (arity kind) xs; m = to_z w64 (get_or xs (arity kind) 0) }
 
@@ -82,7 +76,7 @@ multiplierChecks multipliers rule m =
 abbrev pub anyBefore : List ℕ
 anyBefore = 0x30 ∷ (multiplierKinds ++ (0x3A ∷ []))
 
--- `31` to `39`, in any order
+-- `31` to `39` and `3B`, in any order
 abbrev pub multiplierRow : Register → Scheme → ℕ → Row Certificate
 multiplierRow reg sch kind = record {
   byte = kind;

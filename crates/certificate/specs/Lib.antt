@@ -1,6 +1,7 @@
 -- Part 3 of the job file as far as its commands go: multipliers and squares, how they are read, their conditions and their bytes.
 pub mod Limits
 pub mod Certificate
+pub mod RowForm
 pub mod Rules
 pub mod Format
 pub mod Within

@@ -18,6 +18,11 @@ maxMultipliers = 1_024
 abbrev pub maxMultiplier : ℕ
 maxMultiplier = 1_000_000_000_000
 
+-- of a row form within ±10⁹
+
+abbrev pub maxRowMultiplier : ℕ
+maxRowMultiplier = 1_000_000_000
+
 -- at most 64 squares; the range of a weight; an entry for the constant and one for each variable, and their range
 
 abbrev pub maxSquares : ℕ

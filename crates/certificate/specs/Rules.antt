@@ -1,4 +1,5 @@
--- The multiplier commands `31` to `39`: null forms, added m times, and forms never negative on plans, subtracted m times.
+-- The multiplier commands `31` to `39` and `3B`: null forms and row forms, added m times, and forms never negative on plans,
+-- subtracted m times.
 use Rattle.std.specs.Prelude.{ℕ, List, [], ◌∷◌, Bool, true, false, cond, ◌&&◌, ℤ, pos, negsuc, neg_ℤ, get_or, eqb, ltb, leb}
 use Rattle.std.specs.Int.Bits.{bit_or}
 use Rattle.forms.specs.Form.{Form, mono, place}
@@ -7,17 +8,18 @@ use Rattle.register.specs.declared.Register.{Register}
 use Rattle.scheme.specs.declared.Scheme.{Scheme}
 use Rattle.scheme.specs.Scheme.{left, right, variables}
 use Rattle.scheme.specs.Variables.{E}
-use Rattle.certificate.specs.Limits.{maxMultiplier}
+use Rattle.certificate.specs.Limits.{maxMultiplier, maxRowMultiplier}
 use Rattle.certificate.specs.Certificate.{Multiplier}
+use Rattle.certificate.specs.RowForm.{rowFormOf}
 
 -- what the paper says of a multiplier command
 pub record Rule : Type 0 where
-  -- a null form (the paper's own term; 000's null function): 0 on every plan; the others are never negative on plans
+  -- a null form (the paper's own term; 000's null function): 0 on every plan that fits; the others are never negative on plans
   pub null : Bool
   -- m is from the least to the most, or it is refused 4
   pub least : ℤ
   pub most : ℤ
-  -- the variables or the product that it names are there, or it is refused 5
+  -- the variables, the product or the row that it names are there, or it is refused 5
   pub there : Bool
   -- its pairs are in order, or it is refused 6
   pub ordered : Bool
@@ -37,12 +39,16 @@ minus1 = negsuc 0
 abbrev pub nullRule : Bool → Bool → Bool → Form → Rule
 nullRule there ordered fits form = record { null = true; least = neg_ℤ (pos maxMultiplier); most = pos maxMultiplier; there = there; ordered = ordered; fits = fits; form = form }
 
+-- m within ±10⁹
+abbrev pub rowRule : Bool → Form → Rule
+rowRule there form = record { null = true; least = neg_ℤ (pos maxRowMultiplier); most = pos maxRowMultiplier; there = there; ordered = true; fits = true; form = form }
+
 -- m 0–10¹²
 abbrev pub subtractedRule : Bool → Form → Rule
 subtractedRule there form = record { null = false; least = pos 0; most = pos maxMultiplier; there = there; ordered = true; fits = true; form = form }
 
 -- the rules, with a register and a scheme, where i, j, k, l are the variables named; for `35` to `37` product i is the paper's
--- product k, and a and b are its operands
+-- product k, and a and b are its operands; for `3B` i is the row and j the variable
 abbrev pub rules : Register → Scheme → ℕ → ℕ → ℕ → ℕ → List (ℕ × Rule)
 rules r s i j k l =
     let n = r.choices in
@@ -69,11 +75,13 @@ rules r s i j k l =
     ∷ (0x38, subtractedRule (variable i) (mono 0 (place i) (pos 1) ∷ []))
     -- 1 − z_i
     ∷ (0x39, subtractedRule (variable i) (mono 0 0 (pos 1) ∷ mono 0 (place i) minus1 ∷ []))
+    -- z_j (row sum − b), of row i
+    ∷ (0x3B, rowRule (ltb i r.rows && variable j) (rowFormOf r i j))
     ∷ []
 
--- how many variables each command names
+-- how many numbers each command names
 unfoldable pub arity : ℕ → ℕ
-arity kind = byKey 1 kind ((0x32, 2) ∷ (0x33, 3) ∷ (0x34, 4) ∷ [])
+arity kind = byKey 1 kind ((0x32, 2) ∷ (0x33, 3) ∷ (0x34, 4) ∷ (0x3B, 2) ∷ [])
 
 abbrev pub noRule : Rule
 noRule = nullRule false false false []

@@ -8,7 +8,7 @@ use Rattle.register.specs.declared.Register.{Register}
 use Rattle.scheme.specs.declared.Scheme.{Scheme}
 use Rattle.scheme.specs.Scheme.{variables}
 use Rattle.scheme.specs.Variables.{E}
-use Rattle.certificate.specs.Limits.{maxScale, maxTarget, maxMultipliers, maxMultiplier, maxSquares, maxWeight, squareEntries, maxEntry}
+use Rattle.certificate.specs.Limits.{maxScale, maxTarget, maxMultipliers, maxMultiplier, maxRowMultiplier, maxSquares, maxWeight, squareEntries, maxEntry}
 use Rattle.certificate.specs.Certificate.{Multiplier, Square, Certificate}
 use Rattle.certificate.specs.Rules.{byKey}
 
@@ -27,6 +27,11 @@ NullRange m = nat_abs m ≤ maxMultiplier
 
 abbrev pub SubtractedRange : ℤ → Type 0
 SubtractedRange m = (pos 0 ≤ℤ m) × (m ≤ℤ pos maxMultiplier)
+
+-- of a row form within ±10⁹
+
+abbrev pub RowRange : ℤ → Type 0
+RowRange m = nat_abs m ≤ maxRowMultiplier
 
 -- the condition of each multiplier command by its byte: how many variables it names, which are there, their order, their
 -- sets, and the range of m
@@ -48,6 +53,8 @@ conditions r s names m =
     -- for a variable
     ∷ (0x38, (i : ℕ) × (names ≡ i ∷ []) × Variable n s i × SubtractedRange m)
     ∷ (0x39, (i : ℕ) × (names ≡ i ∷ []) × Variable n s i × SubtractedRange m)
+    -- for a row and a variable
+    ∷ (0x3B, (k : ℕ) × (i : ℕ) × (names ≡ k ∷ i ∷ []) × (k < r.rows) × Variable n s i × RowRange m)
     ∷ []
 
 -- a multiplier command is allowed where the condition of its byte holds; no other byte is one
@@ -68,7 +75,7 @@ pub record Within (reg : Register) (s : Scheme) (k : Certificate) : Type 0 where
   pub scale-above : 1 ≤ k.scale
   pub scale-within : k.scale ≤ maxScale
   pub target-within : nat_abs k.target ≤ maxTarget
-  -- of `31` to `39`
+  -- of `31` to `39` and `3B`
   pub multipliers-within : length k.multipliers ≤ maxMultipliers
   pub multipliers : All (Allowed reg s) k.multipliers
   -- of `3A`

@@ -39,9 +39,9 @@ fn is_proper_subset(a: u32, b: u32) -> bool
     ((b & a) == a) & (a != b)
 }
 
-// What a multiplier command's kind asks, by the sets of the variables, where there are n choices and count variables.
-fn rule_of(sets: &[u32], n: usize, count: usize, t: Multiplier) -> Rule
-    ensures { (reg : Register) (sch : Scheme) → Known reg sch n count sets.now → TestsOf (ruleAsked reg sch t) result }
+// What a multiplier command's kind asks, by the sets of the variables, where there are n choices, count variables and so many rows.
+fn rule_of(sets: &[u32], n: usize, count: usize, rows: usize, t: Multiplier) -> Rule
+    ensures { (reg : Register) (sch : Scheme) → Known reg sch n count rows sets.now → TestsOf (ruleAsked reg sch t) result }
 {
     let kind = t.kind;
     let i = t.i;
@@ -63,6 +63,7 @@ fn rule_of(sets: &[u32], n: usize, count: usize, t: Multiplier) -> Rule
         0x34 => Rule::null_form(four, (i < j) & (k < l), (a | b) == (c | d)),
         0x35..=0x37 => Rule::subtracted((n <= i as usize) & one),
         0x38..=0x39 => Rule::subtracted(one),
+        0x3b => Rule::row_form(((i as usize) < rows) & ((j as usize) < count)),
         _ => Rule::null_form(false, false, false),
     }
 }
@@ -116,7 +117,7 @@ fn square_refusal(squares: usize, count: usize, square: Square) -> u8
 fn after_scale(previous: u8) -> bool
     ensures { result ≡ isAmong previous anyBefore }
 {
-    (0x30 <= previous) & (previous <= 0x3a)
+    (0x30 <= previous) & (previous <= 0x3b)
 }
 
 // A command may stand directly after another, or first where that is 0.
@@ -125,7 +126,7 @@ fn stands_after(previous: u8, command: u8) -> bool
 {
     match command {
         0x30 => previous == 0,
-        0x31..=0x3a => after_scale(previous),
+        0x31..=0x3b => after_scale(previous),
         0x3f => after_scale(previous),
         _ => false,
     }
@@ -158,7 +159,7 @@ pub fn refusal_at(bytes: &[u8], at: usize, seen: Seen, sets: &[u32]) -> u8
         0x3f => 0,
         _ => {
             let t = super::multiplier_at(bytes, at);
-            let rule = rule_of(sets, seen.choices, seen.variables, t);
+            let rule = rule_of(sets, seen.choices, seen.variables, seen.rows, t);
             multiplier_refusal(seen.multipliers, rule, t.m)
         }
     }

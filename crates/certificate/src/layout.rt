@@ -2,11 +2,11 @@
 ghost use Rattle.std.specs.Prelude.{◌≡◌, ◌+◌, ◌≤◌, length, get_or, replicate};
 ghost use Rattle.wire.specs.Part.{operandsAt};
 ghost use Rattle.certificate.specs.Format.{commandSize};
-ghost use Rattle.certificate.specs.Answer.{named_of, filledOf, multiplierAt, squareRead};
+ghost use Rattle.certificate.specs.Answer.{IsMultiplier, named_of, filledOf, multiplierAt, squareRead};
 
 use super::{Multiplier, Square};
 
-// The bytes of a command: its byte, then a scale u32 and a target i64; or variables u8 each and m i64; or a weight u32 and entries
+// The bytes of a command: its byte, then a scale u32 and a target i64; or the numbers that it names, u8 each, and m i64; or a weight u32 and entries
 // i16 each; or nothing. 1 where the byte is no command.
 pub fn command_size(command: u8) -> usize
     ensures { result ≡ commandSize command }
@@ -18,12 +18,13 @@ pub fn command_size(command: u8) -> usize
         0x33 => 12,
         0x34 => 13,
         0x3a => 5 + 2 * Square::ENTRIES,
+        0x3b => 11,
         0x3f => 1,
-        0x00..=0x2f | 0x3b..=0x3e | 0x40..=0xff => 1,
+        0x00..=0x2f | 0x3c..=0x3e | 0x40..=0xff => 1,
     }
 }
 
-// The variable that the multiplier command at a position names at a place, 0 where it names fewer.
+// The number that the multiplier command at a position names at a place, 0 where it names fewer.
 fn name_at(bytes: &[u8], at: usize, count: usize, place: usize) -> u8
     requires { at + 1 + count ≤ length bytes.now }
     ensures { result ≡ get_or (operandsAt (replicate count 1) bytes.now (at + 1)) place 0 }
@@ -37,12 +38,12 @@ fn name_at(bytes: &[u8], at: usize, count: usize, place: usize) -> u8
 
 // The multiplier command at a position.
 pub fn multiplier_at(bytes: &[u8], at: usize) -> Multiplier
-    requires bound { (0x31 ≤ get_or bytes.now at 0) × (get_or bytes.now at 0 ≤ 0x39) }
+    requires kind { IsMultiplier (get_or bytes.now at 0) }
     requires at_in_bounds { at + commandSize (get_or bytes.now at 0) ≤ length bytes.now }
     ensures { result ≡ named_of (multiplierAt bytes.now at) }
 {
     let kind = bytes[at];
-    // The variables stand between the command's byte and the 8 bytes of m.
+    // The numbers named stand between the command's byte and the 8 bytes of m.
     let count = command_size(kind) - 9;
     Multiplier {
         kind: kind,

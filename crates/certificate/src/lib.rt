@@ -13,7 +13,7 @@ ghost use Rattle.register.specs.Valid.{Valid as RegisterValid};
 ghost use Rattle.scheme.specs.Valid.{Valid as SchemeValid};
 ghost use Rattle.scheme.specs.Sets.{SetsBelow};
 ghost use Rattle.scheme.specs.Scheme.{variables};
-ghost use Rattle.certificate.specs.Limits.{maxMultiplier};
+ghost use Rattle.certificate.specs.Limits.{maxMultiplier, maxRowMultiplier};
 ghost use Rattle.certificate.specs.Format.{commandsInJob};
 ghost use Rattle.certificate.specs.Answer.{freshCounts, freshSquare, refusedRead, commandsRead};
 
@@ -30,7 +30,8 @@ pub struct Certificate {
     pub squares: usize,
 }
 
-// A multiplier command: its byte, the variables that it names, 0 where it names fewer, and the multiplier m.
+// A multiplier command: its byte, the numbers that it names, 0 where it names fewer, and the multiplier m. They are variables; of `3B`
+// i is a row and j a variable.
 #[derive(Clone, Copy)]
 pub struct Multiplier {
     pub kind: u8,
@@ -48,7 +49,7 @@ pub struct Square {
     pub entries: [i16; Square::ENTRIES],
 }
 
-// What a multiplier command's kind asks: m is from the least to the most; the variables are there; the pairs are in order;
+// What a multiplier command's kind asks: m is from the least to the most; what it names is there; the pairs are in order;
 // the sets fit.
 #[derive(Clone, Copy)]
 pub struct Rule {
@@ -59,7 +60,7 @@ pub struct Rule {
     pub fits: bool,
 }
 
-// What the checks of a command look at: the byte of the last command, the counts, and how many choices and variables there are.
+// What the checks of a command look at: the byte of the last command, the counts, and how many choices, variables and rows there are.
 #[derive(Clone, Copy)]
 pub struct Seen {
     pub previous: u8,
@@ -67,6 +68,7 @@ pub struct Seen {
     pub squares: usize,
     pub choices: usize,
     pub variables: usize,
+    pub rows: usize,
 }
 
 // What reading the commands at the front of a run of bytes leads to: a refusal's number and position, or 0, the position
@@ -103,6 +105,9 @@ impl Certificate {
 impl Multiplier {
     // The largest magnitude of m.
     pub const MAX_MAGNITUDE: i64 = 1_000_000_000_000;
+
+    // The largest magnitude of the m of a row form.
+    pub const MAX_ROW_MAGNITUDE: i64 = 1_000_000_000;
 }
 
 impl Square {
@@ -134,6 +139,18 @@ impl Rule {
             there: there,
             ordered: ordered,
             fits: fits,
+        }
+    }
+
+    fn row_form(there: bool) -> Rule
+        ensures { result ≡ record { least = neg_ℤ (pos maxRowMultiplier); most = pos maxRowMultiplier; there = there; ordered = true; fits = true } }
+    {
+        Rule {
+            least: -Multiplier::MAX_ROW_MAGNITUDE,
+            most: Multiplier::MAX_ROW_MAGNITUDE,
+            there: there,
+            ordered: true,
+            fits: true,
         }
     }
 
@@ -182,6 +199,7 @@ fn read_with_sets(bytes: &[u8], sets: &[u32], register: Register, scheme: Scheme
             squares: squares,
             choices: register.choices,
             variables: register.choices + scheme.products,
+            rows: register.rows,
         };
         let number = refusal_at(bytes, at, seen, sets);
         if number != 0 {
@@ -196,7 +214,7 @@ fn read_with_sets(bytes: &[u8], sets: &[u32], register: Register, scheme: Scheme
                 certificate.target = wire::i64_at(bytes, at + 1 + 4);
                 at += size;
             }
-            0x31..=0x39 => {
+            0x31..=0x39 | 0x3b => {
                 certificate.multipliers = multipliers + 1;
                 at += size;
             }

@@ -1,5 +1,8 @@
 // register.txt: name REG | number part position base n m, then n times: tank minute, then m times: mask coefficient,
-// then w, then w times: tank from to, then the day length.
+// then w, then w times: tank from to, then the day length, then q, then q times: b and 32 entries.
+ghost use Rattle.std.specs.Prelude.{◌<◌};
+ghost use Rattle.register.specs.Limits.{maxRows};
+
 use register::Register;
 use vectors::Cursor;
 
@@ -81,6 +84,51 @@ fn windows(from: Cursor, line: &[u8], register: Register) -> Cursor {
     next
 }
 
+// An entry of a row, or past the count zero.
+fn entry(next: Cursor, line: &[u8], is_counted: bool, entry: i8) -> Cursor {
+    if is_counted {
+        next.signed(line, entry as i64)
+    } else {
+        next.also(entry == 0)
+    }
+}
+
+// The entries of row k, or past the count zeros.
+fn entries(
+    from: Cursor,
+    line: &[u8],
+    is_counted: bool,
+    entries: &[i8; Register::MAX_ROWS * Register::ROW_ENTRIES],
+    k: usize,
+) -> Cursor
+    requires { k < maxRows }
+{
+    let mut next = from;
+    for j in 0..Register::ROW_ENTRIES {
+        next = entry(next, line, is_counted, entries[k * Register::ROW_ENTRIES + j]);
+    }
+    next
+}
+
+// A row's sum, or past the count zero.
+fn sum(next: Cursor, line: &[u8], is_counted: bool, sum: i16) -> Cursor {
+    if is_counted {
+        next.signed(line, sum as i64)
+    } else {
+        next.also(sum == 0)
+    }
+}
+
+fn rows(from: Cursor, line: &[u8], register: Register) -> Cursor {
+    let mut next = from;
+    for k in 0..Register::MAX_ROWS {
+        let is_counted = k < register.rows;
+        next = sum(next, line, is_counted, register.row_totals[k]);
+        next = entries(next, line, is_counted, &register.row_entries, k);
+    }
+    next
+}
+
 pub fn agrees(line: &[u8]) -> bool {
     let mut buffer = [0u8; console::TEXT];
     let start = Cursor::past_name(line);
@@ -98,5 +146,7 @@ pub fn agrees(line: &[u8]) -> bool {
     let next = next.unsigned(line, register.windows as u64);
     let next = windows(next, line, register);
     let next = next.unsigned(line, register.day_length as u64);
+    let next = next.unsigned(line, register.rows as u64);
+    let next = rows(next, line, register);
     next.ends(line)
 }

@@ -21,7 +21,7 @@ use Rattle.search.specs.Answer.{search, withinLimit, refusedSearch, acceptedSear
 use Rattle.console.specs.Cheapest.{cheapestLines}
 
 -- the bytes that can matter
-pub reach-is : registerReach ≡ 2_929
+pub reach-is : registerReach ≡ 3_235
 unfolding registerReach total
 reach-is = refl
 
@@ -59,11 +59,12 @@ pub answer-position : (s : List ℕ) (limit : ℕ) → (searchAnswer s limit).po
 unfolding searchAnswer
 answer-position s limit = by (registerByItself s) (itself-position s)
   where
-    within : (w : Best) (b : Bool) → (answerBy refusedSearch acceptedSearch (cond b (refuses 14 0 0) (accepts w))).position ≤ registerReach
-    within w true = omega arith
-    within w false = omega arith
+    within : (w : Best) (b m : Bool) → (answerBy refusedSearch acceptedSearch (cond b (refuses 14 0 0) (cond m (accepts w) (refuses 16 0 0)))).position ≤ registerReach
+    within w true m = omega arith
+    within w false true = omega arith
+    within w false false = omega arith
 
     by : (x : Reading (Progress Register)) → position_of x ≤ registerReach →
         (answerBy refusedSearch acceptedSearch (and_then (given 1 x) λ reg. withinLimit limit (search (coefficient reg) reg))).position ≤ registerReach
     by (refused n at) l = l
-    by (accepted p end) l = let w = search (coefficient p.parsed) p.parsed in within w (ltb limit w.visits)
+    by (accepted p end) l = let w = search (coefficient p.parsed) p.parsed in within w (ltb limit w.visits) w.met

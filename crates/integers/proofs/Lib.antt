@@ -7,6 +7,7 @@ pub mod Lists
 pub mod Join
 pub mod Search
 pub mod Entries
+pub mod Blocks
 pub mod Any
 pub mod Sum
 pub mod Quadratic

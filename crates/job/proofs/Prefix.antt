@@ -45,11 +45,11 @@ jobLongest = registerLongest + schemeLongest + certificateLongest + planLongest
 unfoldable pub jobReach : ℕ
 jobReach = registerLongest + schemeLongest + certificateReach
 
-pub longest-is : jobLongest ≡ 25_757
+pub longest-is : jobLongest ≡ 26_037
 unfolding jobLongest registerLongest schemeLongest certificateLongest planLongest commandSize total arity byKey
 longest-is = refl
 
-pub reach-is : jobReach ≡ 25_886
+pub reach-is : jobReach ≡ 26_166
 unfolding jobReach registerLongest schemeLongest certificateReach commandSize total arity byKey
 reach-is = refl
 

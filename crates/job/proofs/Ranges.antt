@@ -19,7 +19,7 @@ use Rattle.wire.proofs.Outcome.{number_of, position_of}
 use Rattle.register.specs.declared.Register.{Register}
 use Rattle.register.specs.Register.{coefficient}
 use Rattle.register.specs.Register as R
-use Rattle.register.specs.Format.{baseChecks, choiceChecks, termChecks, windowChecks, lengthChecks, registerRows, registerPart, registerInJob}
+use Rattle.register.specs.Format.{baseChecks, choiceChecks, termChecks, windowChecks, rowChecks, lengthChecks, registerRows, registerPart, registerInJob}
 use Rattle.register.specs.Format as RF
 use Rattle.scheme.specs.declared.Scheme.{Scheme}
 use Rattle.scheme.specs.Scheme as S
@@ -37,7 +37,7 @@ use Rattle.job.proofs.Prefix.{jobReach, outcome-prefix}
 
 -- the highest number of a refusal
 abbrev highest : ℕ
-highest = 13
+highest = 15
 
 -- ---- the numbers of a part's checks
 
@@ -74,8 +74,8 @@ module _ {A : Type 0} where
   }) P.start 0
 
 register-small : (s : List ℕ) → number_of (registerInJob s) ≤ highest
-unfolding registerInJob baseChecks choiceChecks termChecks windowChecks lengthChecks RF.endChecks
-register-small s = part_small R.fresh registerRows ((λ r xs. tt) ▹ (λ r xs. tt) ▹ (λ r xs. tt) ▹ (λ r xs. tt) ▹ (λ r xs. tt) ▹ (λ r xs. tt) ▹ tt) s
+unfolding registerInJob baseChecks choiceChecks termChecks windowChecks rowChecks lengthChecks RF.endChecks
+register-small s = part_small R.fresh registerRows ((λ r xs. tt) ▹ (λ r xs. tt) ▹ (λ r xs. tt) ▹ (λ r xs. tt) ▹ (λ r xs. tt) ▹ (λ r xs. tt) ▹ (λ r xs. tt) ▹ tt) s
 
 scheme-small : (reg : Register) (s : List ℕ) → number_of (schemeInJob reg s) ≤ highest
 unfolding schemeInJob productChecks splitChecks SF.endChecks
@@ -87,7 +87,7 @@ certificate-small reg sch s = go (commandsInJob reg sch s) (part_small C.fresh (
   where
     each : All Small (certificateRows reg sch)
     each =
-        (λ r xs. tt) ▹ (λ r xs. tt) ▹ (λ r xs. tt) ▹ (λ r xs. tt) ▹ (λ r xs. tt) ▹ (λ r xs. tt) ▹ (λ r xs. tt) ▹ (λ r xs. tt) ▹ (λ r xs. tt) ▹ (λ r xs. tt) ▹ (λ r xs. tt) ▹ (λ r xs. tt) ▹ tt
+        (λ r xs. tt) ▹ (λ r xs. tt) ▹ (λ r xs. tt) ▹ (λ r xs. tt) ▹ (λ r xs. tt) ▹ (λ r xs. tt) ▹ (λ r xs. tt) ▹ (λ r xs. tt) ▹ (λ r xs. tt) ▹ (λ r xs. tt) ▹ (λ r xs. tt) ▹ (λ r xs. tt) ▹ (λ r xs. tt) ▹ tt
 
     by : (p : Progress C.Certificate) (end : ℕ) (b : Bool) → number_of {S = Progress C.Certificate} (cond b (accepted p end) (refused 9 (end - 1))) ≤ highest
     by p end true = omega arith

@@ -1,5 +1,5 @@
 -- What a job's outcome says: a refusal has a number that is not 0, and the parts of an accepted job meet the paper's conditions.
-use Prim.Native.Nat.{ℕ, ◌+◌, ◌^◌, ◌<◌}
+use Prim.Native.Nat.{ℕ, ◌+◌}
 use native.Mathlib.Omega.{arith}
 use mathlib.Core.Path.{◌≡◌}
 use mathlib.Core.Bool.{Bool, true, false, cond}
@@ -26,7 +26,8 @@ use Rattle.bound.specs.Valid as C
 use Rattle.bound.proofs.Accept as CA
 use Rattle.bound.proofs.Answers.{job-numbered}
 use Rattle.plan.specs.Format.{planPart, planInJob}
-use Rattle.plan.proofs.Accept.{named-accepted}
+use Rattle.plan.specs.Valid.{Valid as PlanValid}
+use Rattle.plan.proofs.Accept.{valid-accepted as plan-accepted}
 use Rattle.job.specs.Outcome.{Parts, ofRegister, withScheme, withCertificate, withPlan, JobPart, partThree, partFour, in_turn, ended, outcome}
 use Rattle.job.specs.Rest.{rest, fromPlan, fromCertificate, fromScheme}
 use Rattle.job.specs.Valid.{Valid}
@@ -50,9 +51,9 @@ module _ (s : List ℕ) where
     from-plan : (sch : Scheme) (cert : Certificate) (from : ℕ) → S.Valid reg sch → C.Valid (coefficient reg) reg sch cert → Sound (fromPlan s reg sch cert from)
     unfolding planInJob
     from-plan sch cert from w k = follows 4 from (withPlan (withCertificate (withScheme (ofRegister reg) sch) cert)) (planInJob reg (drop from s)) [] (readPart-numbered (planPart reg) (drop from s)) λ read end e.
-        last (ltb (from + end) (length s)) (from + end) read.parsed (named-accepted reg v.within.choices.few (drop from s) read end e).0
+        last (ltb (from + end) (length s)) (from + end) read.parsed (plan-accepted reg v.within.choices.few (drop from s) read end e).0
       where
-        last : (b : Bool) (end plan : ℕ) → plan < 2 ^ reg.choices → Sound (cond b (refuses 12 4 end) (accepts (record { register = reg; scheme = sch; certificate = cert; plan = plan })))
+        last : (b : Bool) (end plan : ℕ) → PlanValid reg plan → Sound (cond b (refuses 12 4 end) (accepts (record { register = reg; scheme = sch; certificate = cert; plan = plan })))
         last true end plan h = λ e. absurd (omega arith)
         last false end plan h = record { register = v; scheme = w; certificate = k; plan = h }
 

@@ -1,5 +1,5 @@
 -- The paper's conditions on the parts of a job, and the bytes of a job. Written without the readers.
-use Rattle.std.specs.Prelude.{ℕ, ◌^◌, ◌<◌, ◌≡◌, List, ◌++◌}
+use Rattle.std.specs.Prelude.{ℕ, ◌≡◌, List, ◌++◌}
 use Rattle.register.specs.Register.{coefficient}
 use Rattle.register.specs.Valid.{Valid as RegisterValid}
 use Rattle.register.specs.Encoding as RE
@@ -8,6 +8,7 @@ use Rattle.scheme.specs.Encoding as SE
 use Rattle.bound.specs.Valid.{Valid as CertificateValid}
 use Rattle.certificate.specs.Encoding.{Encodes as CertificateEncodes}
 use Rattle.plan.specs.Encoding as PE
+use Rattle.plan.specs.Valid.{Valid as PlanValid}
 use Rattle.job.specs.Outcome.{Parts}
 
 -- each part meets its conditions, with the parts before it
@@ -15,8 +16,7 @@ pub record Valid (p : Parts) : Type 0 where
   pub register : RegisterValid p.register
   pub scheme : SchemeValid p.register p.scheme
   pub certificate : CertificateValid (coefficient p.register) p.register p.scheme p.certificate
-  -- every choice that the plan feeds is there
-  pub plan : p.plan < 2 ^ p.register.choices
+  pub plan : PlanValid p.register p.plan
 
 -- four parts follow each other, each in an encoding of it
 pub record Encodes (p : Parts) (s : List ℕ) : Type 0 where

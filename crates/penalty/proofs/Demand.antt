@@ -1,7 +1,7 @@
 -- What the penalty call hands back, over all bytes. Where both parts are accepted it answers zeros, the value read from the table
--- is that of h and exactly half of the table's sum, its least value over the fillings is the least cost over the plans, and the
--- numbers past the table are the lent ones. Where it answers zeros the bytes are those of a register and a scheme that meet the
--- paper's conditions. Where it answers a refusal the table is the lent one.
+-- is that of h and exactly half of the table's sum, its least value over the fillings whose choices fit is the least cost over the
+-- plans that fit, where one does, and the numbers past the table are the lent ones. Where it answers zeros the bytes are those of a
+-- register and a scheme that meet the paper's conditions. Where it answers a refusal the table is the lent one.
 use Prim.Native.Nat.{ℕ, ◌*◌, ◌≤◌, ◌<◌}
 use mathlib.Core.Path.{◌≡◌, refl, sym, ◌∙◌, ap, subst}
 use mathlib.Core.List.{List}
@@ -24,12 +24,14 @@ use Rattle.scheme.specs.Filling.{Filling, factor}
 use Rattle.scheme.specs.Answer.{openParts}
 use Rattle.scheme.specs.Valid.{Valid}
 use Rattle.scheme.proofs.Opened.{Opened, opened, opening-numbered, register-bytes, scheme-bytes}
+use Rattle.plan.specs.Fits.{Fits}
+use Rattle.plan.proofs.Fits.{register-fits?}
 use Rattle.penalty.specs.Penalty.{h}
 use Rattle.penalty.specs.Demand.{Holds, Made}
 use Rattle.penalty.specs.Answer.{answer, penaltyAnswer, withPenalty, penaltyTable}
 use Rattle.penalty.proofs.Penalty.{below-h}
 use Rattle.penalty.proofs.Bounds.{side-square}
-use Rattle.penalty.proofs.Least.{table-twice, table-least}
+use Rattle.penalty.proofs.Least.{table-twice, table-least-where}
 use Rattle.penalty.proofs.Answers.{parts-accepted}
 
 -- the table of h does
@@ -37,7 +39,7 @@ pub penalty-holds : (reg : Register) (sch : Scheme) → R.Valid reg → Valid re
 penalty-holds reg sch ok valid lent l = record {
   reads = reads;
   twice = λ z. table-twice c reg sch valid lent z ∙ ap (λ v. pos 2 *ℤ v) (sym (reads z));
-  least = table-least c reg sch valid lent;
+  least = λ plan fits. table-least-where c reg sch valid lent (Fits reg) (register-fits? reg) plan fits;
   long = withTable-length n (entry (h c reg sch)) lent fits;
   past = withTable-past n (entry (h c reg sch)) lent;
 }

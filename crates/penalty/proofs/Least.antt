@@ -120,6 +120,9 @@ module _ (c : ℕ → ℤ) (r : Register) (s : Scheme) (valid : Valid r s) where
     same-least = penalty-least _ (λ p. yes tt) (record { fed = 0; inside = pow_pos r.choices }) tt
 
   -- of the form
+  pub form-least-where : (P : ℕ → Type 0) → ((p : ℕ) → Dec (P p)) → (p : Plan r.choices) → P p.fed → SameLeastWhere P c r (λ z. value (factor z) (h c r s))
+  form-least-where = penalty-least _ (λ z. refl)
+
   pub form-least : SameLeast c r (λ z. value (factor z) (h c r s))
   form-least = same-least _ (λ z. refl)
 
@@ -127,6 +130,10 @@ module _ (c : ℕ → ℤ) (r : Register) (s : Scheme) (valid : Valid r s) where
   module _ (lent : List ℤ) where
     pub table-twice : (z : Filling) → tableSum (side r.choices s) (withTable (side r.choices s) (entry (h c r s)) lent) (factor z) ≡ pos 2 *ℤ value (factor z) (h c r s)
     table-twice z = tableSum-form (below-h c r s valid) lent (factor z)
+
+    pub table-least-where : (P : ℕ → Type 0) → ((p : ℕ) → Dec (P p)) → (p : Plan r.choices) → P p.fed →
+        SameLeastWhere P c r (λ z. tableValue (side r.choices s) (withTable (side r.choices s) (entry (h c r s)) lent) (factor z))
+    table-least-where = penalty-least _ (λ z. tableValue-form (below-h c r s valid) lent (factor z))
 
     pub table-least : SameLeast c r (λ z. tableValue (side r.choices s) (withTable (side r.choices s) (entry (h c r s)) lent) (factor z))
     table-least = same-least _ (λ z. tableValue-form (below-h c r s valid) lent (factor z))

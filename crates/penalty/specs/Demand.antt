@@ -13,7 +13,9 @@ use Rattle.scheme.specs.Filling.{Filling, factor}
 use Rattle.scheme.specs.Encoding as SE
 use Rattle.scheme.specs.Valid.{Valid}
 use Rattle.penalty.specs.Penalty.{h}
-use Rattle.penalty.specs.Least.{SameLeast}
+use Rattle.plan.specs.Plan.{Plan}
+use Rattle.plan.specs.Fits.{Fits}
+use Rattle.penalty.specs.Least.{SameLeastWhere}
 use Rattle.penalty.specs.Answer.{penaltyTable}
 
 -- what is demanded of a table that holds the penalty form of a register and a scheme, where `lent` was lent
@@ -21,8 +23,9 @@ pub record Holds (reg : Register) (sch : Scheme) (lent table : List ℤ) : Type 
   -- the value read from it at every filling is that of h, and the sum is exactly twice the value
   pub reads : (z : Filling) → tableValue (side reg.choices sch) table (factor z) ≡ value (factor z) (h (coefficient reg) reg sch)
   pub twice : (z : Filling) → tableSum (side reg.choices sch) table (factor z) ≡ pos 2 *ℤ tableValue (side reg.choices sch) table (factor z)
-  -- the least value over the fillings is the least cost over the plans, and every filling that reaches it carries such a plan
-  pub least : SameLeast (coefficient reg) reg (λ z. tableValue (side reg.choices sch) table (factor z))
+  -- where some plan fits, the least value over the fillings whose choices fit is the least cost over the plans that fit, and every
+  -- such filling that reaches it carries a plan of exactly that cost
+  pub least : (plan : Plan reg.choices) → Fits reg plan.fed → SameLeastWhere (Fits reg) (coefficient reg) reg (λ z. tableValue (side reg.choices sch) table (factor z))
   -- nothing else has changed
   pub long : length table ≡ length lent
   pub past : (k : ℕ) → side reg.choices sch * side reg.choices sch ≤ k → get_or table k (pos 0) ≡ get_or lent k (pos 0)

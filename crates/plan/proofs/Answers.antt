@@ -24,7 +24,8 @@ use Rattle.plan.specs.Format.{planPart, planInJob, planByItself}
 use Rattle.plan.specs.Answer.{refusedRead, planRead, refusedCost, acceptedCost, costAnswer}
 use Rattle.plan.specs.Encoding.{Encodes}
 use Rattle.register.proofs.Opened.{Opened, opened-refused, opened}
-use Rattle.plan.proofs.Accept.{Named, whole-accepted as plan-accepted, whole-named, whole-encodes}
+use Rattle.plan.specs.Valid.{Valid}
+use Rattle.plan.proofs.Accept.{whole-accepted as plan-accepted, whole-valid, whole-encodes}
 
 pub plan-tells : Tells planRead (λ r. r.number) (λ r. r.position)
 plan-tells = record { refusals = λ n at. (refl, refl); readings = λ p end. (refl, refl) }
@@ -99,7 +100,7 @@ costed s plan z = by (ℕ_discrete first.number 0)
     by (yes h) = go (opened s first refl h) (planByItself first.register plan) refl (plan-numbered first.register plan)
 
 -- the bytes of a valid register and of a plan whose choices are all there are given the plan's cost
-pub cost-encodings : (s plan : List ℕ) (reg : Register) (p : ℕ) → R.Valid reg → RE.Encodes reg s → Named reg.choices p → Encodes reg p plan → costAnswer s plan ≡ acceptedCost (cost (coefficient reg) reg p)
+pub cost-encodings : (s plan : List ℕ) (reg : Register) (p : ℕ) → R.Valid reg → RE.Encodes reg s → Valid reg p → Encodes reg p plan → costAnswer s plan ≡ acceptedCost (cost (coefficient reg) reg p)
 unfolding costAnswer
 cost-encodings s plan reg p v e named e' = rw (Ra.encoding-accepted s reg v e, plan-accepted reg v.within.choices.few p plan named e')
 
@@ -111,8 +112,8 @@ module _ (s plan : List ℕ) (c : Costed s plan) where
   abbrev few : c.reg.choices ≤ maxChoices
   few = c.first.valid.within.choices.few
 
-  pub costed-named : Named c.reg.choices c.read.parsed
-  costed-named = (whole-named c.reg few plan c.read c.end c.reads).0
+  pub costed-valid : Valid c.reg c.read.parsed
+  costed-valid = (whole-valid c.reg few plan c.read c.end c.reads).0
 
   pub costed-plan : Bytes plan → Encodes c.reg c.read.parsed plan
   costed-plan = whole-encodes c.reg few plan c.read c.end c.reads

@@ -16,23 +16,23 @@ use Rattle.wire.proofs.Checks.{Passed, refusal-none}
 use Rattle.wire.proofs.Part.{readFrom-missing, readFrom-refused, readFrom-ends}
 use Rattle.wire.proofs.Accepting.{reached}
 use Rattle.register.specs.declared.Register.{Register}
+use Rattle.plan.specs.Fits.{fits}
 use Rattle.plan.specs.Format.{planChecks, planPart, planInJob}
 
--- the checks of the plan at the front of a run of bytes, where there are n choices, and its refusal
+-- the checks of the plan of a register at the front of a run of bytes, and its refusal
 
-abbrev pub checksOf : ℕ → List ℕ → List Check
-checksOf n s = commandChecks (eqb (get_or s 0 0) 0x40) (length s) 5 (planChecks n (natAt 4 s 1))
+abbrev pub checksOf : Register → List ℕ → List Check
+checksOf reg s = let plan = natAt 4 s 1 in commandChecks (eqb (get_or s 0 0) 0x40) (length s) 5 (planChecks reg.choices plan (fits reg plan))
 
-abbrev pub refusalOf : ℕ → List ℕ → ℕ
-refusalOf n s = refusal (checksOf n s)
+abbrev pub refusalOf : Register → List ℕ → ℕ
+refusalOf reg s = refusal (checksOf reg s)
 
 module _ (reg : Register) (s : List ℕ) where
-  -- the refusal does not look at other numbers of the register
-  pub refusal_is : refusalOf reg.choices s ≡ refusal (checksAt (planPart reg) s (planPart reg).start 0)
+  pub refusal_is : refusalOf reg s ≡ refusal (checksAt (planPart reg) s (planPart reg).start 0)
   unfolding checksAt row_of operandsAt total commandChecks refusal
   refusal_is = go (ℕ_discrete (get_or s 0 0) 0x40)
     where
-      go : Dec (get_or s 0 0 ≡ 0x40) → refusalOf reg.choices s ≡ refusal (checksAt (planPart reg) s (planPart reg).start 0)
+      go : Dec (get_or s 0 0 ≡ 0x40) → refusalOf reg s ≡ refusal (checksAt (planPart reg) s (planPart reg).start 0)
       go (yes e) = rw (e, sub-zero)
       go (no d) = rw (ne_eqb _ _ d)
 
@@ -40,15 +40,15 @@ module _ (reg : Register) (s : List ℕ) where
   unfolding planInJob readPart
   plan-missing e = readFrom-missing (planPart reg) s (planPart reg).start 0 (omega arith)
 
-  pub plan-refused : (n : ℕ) → (length s ≡ 0 → ⊥) → n ≡ refusalOf reg.choices s → (n ≡ 0 → ⊥) → planInJob reg s ≡ refused n 0
+  pub plan-refused : (n : ℕ) → (length s ≡ 0 → ⊥) → n ≡ refusalOf reg s → (n ≡ 0 → ⊥) → planInJob reg s ≡ refused n 0
   unfolding planInJob readPart
   plan-refused n l e h = readFrom-refused (planPart reg) s (planPart reg).start 0 n (omega arith) (sym (e ∙ refusal_is)) h
 
   -- where the command is not refused
-  module _ (l : length s ≡ 0 → ⊥) (e : refusalOf reg.choices s ≡ 0) where
-    passed : Passed (checksOf reg.choices s)
+  module _ (l : length s ≡ 0 → ⊥) (e : refusalOf reg s ≡ 0) where
+    passed : Passed (checksOf reg s)
     unfolding commandChecks planChecks
-    passed = refusal-none (checksOf reg.choices s) (omega arith) e
+    passed = refusal-none (checksOf reg s) (omega arith, (omega arith, (omega arith, (omega arith, tt)))) e
 
     pub plan-byte : get_or s 0 0 ≡ 0x40
     unfolding commandChecks planChecks

@@ -5,3 +5,4 @@ pub mod Lowest
 pub mod Answers
 pub mod Bounds
 pub mod Prefix
+pub mod Fits

@@ -1,13 +1,14 @@
 -- The plan's command, `40`, with a register.
-use Rattle.std.specs.Prelude.{ℕ, ◌^◌, true, List, [], ◌∷◌, leb}
+use Rattle.std.specs.Prelude.{ℕ, ◌^◌, Bool, true, not, List, [], ◌∷◌, leb}
 use Rattle.wire.specs.Checks.{Check, check}
 use Rattle.wire.specs.Part.{Part, Reading, readPart, byItself}
 use Rattle.wire.specs.Rows.{Progress, Row, part_of, unary}
 use Rattle.register.specs.declared.Register.{Register}
+use Rattle.plan.specs.Fits.{fits}
 
--- every choice that the plan feeds is there, of n choices
-unfoldable pub planChecks : (n plan : ℕ) → List Check
-planChecks n plan = check 5 (leb (2 ^ n) plan) ∷ []
+-- every choice that the plan feeds is there, of n choices, and the plan fits the rows
+unfoldable pub planChecks : (n plan : ℕ) → (fitting : Bool) → List Check
+planChecks n plan fitting = check 5 (leb (2 ^ n) plan) ∷ check 15 (not fitting) ∷ []
 
 -- `40`: a set of choices as four bytes, one bit each; nothing follows it
 abbrev pub planRow : Register → Row ℕ
@@ -15,7 +16,7 @@ planRow reg = record {
   byte = 0x40;
   follows = 0 ∷ [];
   widths = 4 ∷ [];
-  checks = λ p. unary (planChecks reg.choices);
+  checks = λ p. unary λ plan. planChecks reg.choices plan (fits reg plan);
   after = λ p. unary λ plan. plan;
   last = true;
 }

@@ -1,5 +1,7 @@
--- Part 4 of the job file, and the cost of a plan.
+-- Part 4 of the job file, whether a plan fits rows, and the cost of a plan.
 pub mod Plan
+pub mod Fits
+pub mod Valid
 pub mod Format
 pub mod Encoding
 pub mod Answer

@@ -6,13 +6,18 @@ ghost use Rattle.std.specs.Prelude.{◌≡◌, cond, ◌<◌, ◌≤◌, eqb, le
 ghost use Rattle.wire.specs.Number.{natAt};
 ghost use Rattle.wire.specs.Checks.{commandChecks, refusal};
 ghost use Rattle.sets.specs.Sets.{isSubset};
-ghost use Rattle.register.specs.Limits.{maxChoices};
+ghost use Rattle.register.specs.Limits.{maxChoices, maxRows};
 ghost use Rattle.register.specs.Register.{coefficient};
 ghost use Rattle.register.specs.Valid.{Within};
 ghost use Rattle.plan.specs.Plan.{cost};
+ghost use Rattle.plan.specs.Fits.{storedFits};
 ghost use Rattle.plan.specs.Format.{planChecks, planInJob, planByItself};
 ghost use Rattle.plan.specs.Answer.{refusedRead, planRead, refusedCost, costAnswer};
 
+mod rows;
+
+use register::Register;
+pub use rows::fits_rows;
 use wire::{command_refusal, first_of};
 
 // What reading the plan at the front of a run of bytes leads to: a refusal's number and position, or 0, the position past the
@@ -59,12 +64,19 @@ impl CostAnswer {
     }
 }
 
-// The refusal of the plan at the front of a run of bytes, where there are n choices, or 0.
-fn plan_refusal(bytes: &[u8], n: usize) -> u8
+// The refusal of the plan at the front of a run of bytes, where there are n choices and so many rows, or 0.
+fn plan_refusal<'a>(
+    bytes: &[u8],
+    n: usize,
+    totals: &'a [i16; Register::MAX_ROWS],
+    entries: &'a [i8; Register::MAX_ROWS * Register::ROW_ENTRIES],
+    rows: usize,
+) -> u8
     requires bytes_nonzero { 0 < length bytes.now }
     requires n_le_max_choices { n ≤ maxChoices }
+    requires rows_le_max_rows { rows ≤ maxRows }
     ensures { result ≡ refusal (commandChecks (eqb (get_or bytes.now 0 0) 0x40) (length bytes.now) 5
-        (planChecks n (natAt 4 bytes.now 1))) }
+        (planChecks n (natAt 4 bytes.now 1) (storedFits totals.now entries.now rows n (natAt 4 bytes.now 1)))) }
 {
     let command = bytes[0];
     let placed = command_refusal(command == 0x40, bytes.len(), 5);
@@ -72,18 +84,26 @@ fn plan_refusal(bytes: &[u8], n: usize) -> u8
         return placed;
     }
     let plan = wire::u32_at(bytes, 1);
-    first_of(1u64 << n <= plan as u64, 5, 0)
+    let fitting = fits_rows(totals, entries, rows, n, plan);
+    first_of(1u64 << n <= plan as u64, 5, first_of(!fitting, 15, 0))
 }
 
 // The plan at the front of a run of bytes.
-pub fn read_plan(bytes: &[u8], register: register::Register) -> PlanRead
-    requires { register.choices ≤ maxChoices }
+pub fn read_plan(bytes: &[u8], register: Register) -> PlanRead
+    requires choices_within { register.choices ≤ maxChoices }
+    requires rows_within { register.rows ≤ maxRows }
     ensures { result ≡ planRead (planInJob register bytes.now) }
 {
     if bytes.len() == 0 {
         return PlanRead::refused(2, 0);
     }
-    let number = plan_refusal(bytes, register.choices);
+    let number = plan_refusal(
+        bytes,
+        register.choices,
+        &register.row_totals,
+        &register.row_entries,
+        register.rows,
+    );
     if number != 0 {
         return PlanRead::refused(number, 0);
     }
@@ -96,8 +116,9 @@ pub fn read_plan(bytes: &[u8], register: register::Register) -> PlanRead
 }
 
 // The plan as a run of bytes by itself.
-fn read_whole(bytes: &[u8], register: register::Register) -> PlanRead
-    requires { register.choices ≤ maxChoices }
+fn read_whole(bytes: &[u8], register: Register) -> PlanRead
+    requires choices_within { register.choices ≤ maxChoices }
+    requires rows_within { register.rows ≤ maxRows }
     ensures { result ≡ planRead (planByItself register bytes.now) }
 {
     let part = read_plan(bytes, register);
@@ -131,7 +152,7 @@ fn term_cost(mask: u32, coefficient: i32, plan: u32) -> i64
 }
 
 // The cost of a plan: the base cost and what each term adds.
-pub fn cost_of(register: register::Register, plan: u32) -> i64
+pub fn cost_of(register: Register, plan: u32) -> i64
     requires { Within register }
     ensures { result ≡ cost (coefficient register) register plan }
 {

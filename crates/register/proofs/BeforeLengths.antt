@@ -1,25 +1,53 @@
--- A register that says no day length is read as before there were any, in number, position and every field. The length stands at 5,
--- after the base cost; with no `18` there, one that stands where a command is due is refused 1, as it was.
+-- A register that says no day length and no row is read as before there were either, in number, position and every field. It is read
+-- as before there were rows, by `BeforeRows`, and that reading is held here to the one before there were day lengths: the length stood
+-- at 5, after the base cost; with no `18` there, one that stands where a command is due is refused 1, as it was.
 use Prim.Native.Nat.{ℕ, ◌<◌}
 use native.Mathlib.Omega.{arith}
-use mathlib.Core.Path.{◌≡◌, refl, ap}
-use mathlib.Core.Bool.{false≢true, or-false}
+use mathlib.Core.Path.{◌≡◌, refl, sym, ◌∙◌, ap}
+use mathlib.Core.Bool.{true, false≢true, or-false}
 use mathlib.Core.List.{List}
 use lib.ListN.{get_or}
 use borrow.Author.Tests.{eqb-true, ne_eqb}
 use Rattle.integers.proofs.Lists.{◌▹◌}
 use Rattle.wire.specs.Checks.{refusal}
-use Rattle.wire.specs.Part.{accepted, total, byItself}
+use Rattle.wire.specs.Part.{Reading, accepted, total, readPart, byItself}
 use Rattle.wire.specs.Rows.{Progress, isAmong, row_of}
 use Rattle.wire.proofs.Rest.{NoneOf, no-row, by_bytes}
 use Rattle.wire.proofs.Encoding.{byItself-accepted}
-use Rattle.wire.proofs.Alike.{Alike, Ended, neither, read_alike}
+use Rattle.wire.proofs.Part.{Ways, by-ways}
+use Rattle.wire.proofs.Alike.{Alike, neither, read_alike}
 use Rattle.register.specs.declared.Register.{Register}
 use Rattle.register.specs.Limits.{usualDay}
 use Rattle.register.specs.Format.{choiceChecks, windowChecks, registerRows, registerPart, registerInJob, registerByItself}
-use Rattle.register.specs.Encoding.{SaysLength}
+use Rattle.register.specs.Encoding.{SaysLength, SaysRow}
+use Rattle.register.specs.BeforeRows.{rowsBeforeRows, partBeforeRows, inJobBeforeRows}
 use Rattle.register.specs.BeforeLengths.{choiceChecksBeforeLengths, windowChecksBeforeLengths, rowsBeforeLengths, partBeforeLengths, inJobBeforeLengths, byItselfBeforeLengths}
-use Rattle.register.proofs.Accept.{valid-accepted}
+use Rattle.register.proofs.DayLengths.{length-said}
+use Rattle.register.proofs.BeforeRows.{as-before-rows-in-job}
+
+-- only `10` may come first, so an accepted register starts with it
+
+first-base : (b : ℕ) → registerPart.here registerPart.start b ≡ true → b ≡ 0x10
+unfolding row_of
+first-base b =
+    by_bytes (λ b. registerPart.here registerPart.start b ≡ true → b ≡ 0x10) registerRows b
+    (λ n h. absurd (false≢true (ap (λ row. isAmong 0 row.follows) (sym (no-row registerRows b n)) ∙ h)))
+    ((λ h. refl) ▹ (λ h. absurd (false≢true h)) ▹ (λ h. absurd (false≢true h)) ▹ (λ h. absurd (false≢true h)) ▹ (λ h. absurd (false≢true h)) ▹ (λ h. absurd (false≢true h)) ▹ (λ h. absurd (false≢true h)) ▹ tt)
+
+starts-base : (s : List ℕ) {p : Progress Register} {end : ℕ} → registerInJob s ≡ accepted p end → get_or s 0 0 ≡ 0x10
+unfolding registerInJob readPart
+starts-base s {p} {end} e = first-base (get_or s 0 0) (by-ways registerPart s Here ways registerPart.start 0 e)
+  where
+    Here : Progress Register → ℕ → Reading (Progress Register) → Type 0
+    Here read at x = x ≡ accepted p end → registerPart.here read (get_or s at 0) ≡ true
+
+    ways : Ways registerPart s Here
+    ways = record {
+      missing = λ read at l q. let z : ◌≡◌ {A = ℕ} 0 1 = cc in absurd (omega arith);
+      refuses = λ read at n l e d q. let z : ◌≡◌ {A = ℕ} 0 1 = cc in absurd (omega arith);
+      goes = λ read at x p l rest q. p.here;
+      ends = λ read at p l q. p.here;
+    }
 
 module _ (s : List ℕ) (none : SaysLength s → ⊥) where
   -- no `18` was read, so from the base cost on the length is the usual one; the command after the base cost stands at 5
@@ -34,7 +62,7 @@ module _ (s : List ℕ) (none : SaysLength s → ⊥) where
 
   module _ (p : Progress Register) (at : ℕ) (r : Reach p at) where
     abbrev AlikeAt : ℕ → Type 0
-    AlikeAt b = Alike registerPart partBeforeLengths Reach p at b
+    AlikeAt b = Alike partBeforeRows partBeforeLengths Reach p at b
 
     base-alike : get_or s at 0 ≡ 0x10 → AlikeAt 0x10
     unfolding row_of total
@@ -85,34 +113,34 @@ module _ (s : List ℕ) (none : SaysLength s → ⊥) where
 
     length-alike : get_or s at 0 ≡ 0x18 → AlikeAt 0x18
     unfolding row_of
-    length-alike e = neither registerPart partBeforeLengths Reach (ne_eqb p.previous 0x10 (λ b. let (k, first) = r.base b in none (first, rw k at e))) refl
+    length-alike e = neither partBeforeRows partBeforeLengths Reach (ne_eqb p.previous 0x10 (λ b. let (k, first) = r.base b in none (first, rw k at e))) refl
 
-    none_alike : (b : ℕ) → NoneOf registerRows b → AlikeAt b
+    none_alike : (b : ℕ) → NoneOf rowsBeforeRows b → AlikeAt b
     none_alike b n =
-        neither registerPart partBeforeLengths Reach
-        (ap (λ row. isAmong p.previous row.follows) (no-row registerRows b n))
+        neither partBeforeRows partBeforeLengths Reach
+        (ap (λ row. isAmong p.previous row.follows) (no-row rowsBeforeRows b n))
         (ap (λ row. isAmong p.previous row.follows) (no-row rowsBeforeLengths b (n.0 ▹ n.1.0 ▹ n.1.1.0 ▹ n.1.1.1.0 ▹ n.1.1.1.1.1)))
 
     alike : AlikeAt (get_or s at 0)
     alike =
-        by_bytes (λ b. get_or s at 0 ≡ b → AlikeAt b) registerRows (get_or s at 0) (λ n e. none_alike (get_or s at 0) n)
+        by_bytes (λ b. get_or s at 0 ≡ b → AlikeAt b) rowsBeforeRows (get_or s at 0) (λ n e. none_alike (get_or s at 0) n)
         (base-alike ▹ (λ e. choice-alike) ▹ (λ e. term-alike) ▹ (λ e. window-alike) ▹ length-alike ▹ (λ e. end-alike) ▹ tt) refl
 
-  both : (registerInJob s ≡ inJobBeforeLengths s) × Ended Reach (registerInJob s)
-  unfolding registerInJob inJobBeforeLengths
-  both = read_alike registerPart partBeforeLengths Reach s alike refl (record { start = λ e. refl; base = λ e. absurd (omega arith); no_length = λ e. absurd (omega arith); usual = λ d. absurd (d refl) })
+  both : inJobBeforeRows s ≡ inJobBeforeLengths s
+  unfolding inJobBeforeRows inJobBeforeLengths
+  both = (read_alike partBeforeRows partBeforeLengths Reach s alike refl (record { start = λ e. refl; base = λ e. absurd (omega arith); no_length = λ e. absurd (omega arith); usual = λ d. absurd (d refl) })).0
 
-  pub as-before-lengths-in-job : registerInJob s ≡ inJobBeforeLengths s
-  as-before-lengths-in-job = both.0
+  module _ (no-row-said : SaysRow s → ⊥) where
+    pub as-before-lengths-in-job : registerInJob s ≡ inJobBeforeLengths s
+    as-before-lengths-in-job = as-before-rows-in-job s no-row-said ∙ both
 
-  pub as-before-lengths : registerByItself s ≡ byItselfBeforeLengths s
-  unfolding registerByItself byItselfBeforeLengths
-  as-before-lengths = ap (byItself s) as-before-lengths-in-job
+    pub as-before-lengths : registerByItself s ≡ byItselfBeforeLengths s
+    unfolding registerByItself byItselfBeforeLengths
+    as-before-lengths = ap (byItself s) as-before-lengths-in-job
 
-  -- and where it is accepted, the day has the usual length
+  -- and where it is accepted, rows or not, the day has the usual length
   pub usual-day : {p : Progress Register} {end : ℕ} → registerByItself s ≡ accepted p end → p.parsed.day_length ≡ usualDay
   unfolding registerByItself
   usual-day {p} {end} e =
       let q = (byItself-accepted s (registerInJob s) p end e).0 in
-      let r : Ended Reach (accepted p end) = rw q at both.1 in
-      r.usual (λ z. absurd (omega (arith, z, (valid-accepted s p end q).1)))
+      length-said s q ∙ rw (ne_eqb (get_or s 5 0) 0x18 (λ f. none (starts-base s q, f)))

@@ -1,5 +1,5 @@
--- A register without windows that says no day length is read as before there were either, in number, position and every field. It is
--- read as before there were day lengths, by `BeforeLengths`, and that reading is held here to the one before there were windows: the
+-- A register without windows that says no day length and no row is read as before there were any of these, in number, position and
+-- every field. It is read as before there were day lengths, by `BeforeLengths`, and that reading is held here to the one before there were windows: the
 -- first window stood at 5, after the base cost; with no `13` there, one that stands where a command is due is refused 1, as it was.
 use Prim.Native.Nat.{ℕ, ◌<◌}
 use native.Mathlib.Omega.{arith}
@@ -18,7 +18,7 @@ use Rattle.wire.proofs.Alike.{Alike, Ended, neither, read_alike}
 use Rattle.register.specs.declared.Register.{Register}
 use Rattle.register.specs.Register.{fresh}
 use Rattle.register.specs.Format.{registerInJob, registerByItself}
-use Rattle.register.specs.Encoding.{SaysLength}
+use Rattle.register.specs.Encoding.{SaysLength, SaysRow}
 use Rattle.register.specs.BeforeLengths.{choiceChecksBeforeLengths, rowsBeforeLengths, partBeforeLengths, inJobBeforeLengths}
 use Rattle.register.specs.BeforeWindows.{choiceChecksBeforeWindows, rowsBeforeWindows, partBeforeWindows, inJobBeforeWindows, byItselfBeforeWindows}
 use Rattle.register.proofs.BeforeLengths.{as-before-lengths-in-job}
@@ -96,9 +96,9 @@ module _ (s : List ℕ) (none : get_or s 5 0 ≡ 0x13 → ⊥) where
   unfolding inJobBeforeLengths inJobBeforeWindows
   both = read_alike partBeforeLengths partBeforeWindows Reach s alike refl (record { start = λ e. refl; base = λ e. absurd (omega arith); no-window = λ e. absurd (omega arith); windows = refl })
 
-  module _ (no_length : SaysLength s → ⊥) where
+  module _ (no_length : SaysLength s → ⊥) (no-row-said : SaysRow s → ⊥) where
     pub as-before-windows-in-job : registerInJob s ≡ inJobBeforeWindows s
-    as-before-windows-in-job = as-before-lengths-in-job s no_length ∙ both.0
+    as-before-windows-in-job = as-before-lengths-in-job s no_length no-row-said ∙ both.0
 
     pub as-before-windows : registerByItself s ≡ byItselfBeforeWindows s
     unfolding registerByItself byItselfBeforeWindows
@@ -108,4 +108,4 @@ module _ (s : List ℕ) (none : get_or s 5 0 ≡ 0x13 → ⊥) where
     pub no-windows : {p : Progress Register} {end : ℕ} → registerByItself s ≡ accepted p end → windowsOf p.parsed ≡ windowsOf fresh
     unfolding registerByItself
     no-windows {p} {end} e =
-        let q : Ended Reach (accepted p end) = rw (sym (as-before-lengths-in-job s no_length) ∙ (byItself-accepted s (registerInJob s) p end e).0) at both.1 in q.windows
+        let q : Ended Reach (accepted p end) = rw (sym (as-before-lengths-in-job s no_length no-row-said) ∙ (byItself-accepted s (registerInJob s) p end e).0) at both.1 in q.windows

@@ -94,6 +94,7 @@ module _ (s : List ℕ) where
         ▹ other-moves 0x11 (omega arith) (λ z. omega arith) refl (λ xs. refl)
         ▹ other-moves 0x12 (omega arith) (λ z. omega arith) refl (λ xs. refl)
         ▹ other-moves 0x13 (omega arith) (λ z. omega arith) refl (λ xs. refl)
+        ▹ other-moves 0x14 (omega arith) (λ z. omega arith) refl (λ xs. refl)
         ▹ length-moves
         ▹ other-moves 0x1F (omega arith) (λ z. omega arith) refl (λ xs. refl)
         ▹ tt) refl

@@ -29,4 +29,7 @@ exampleRegister = record {
   window_tanks = replicate 64 0;
   window_froms = replicate 64 0;
   window_tos = replicate 64 0;
+  rows = 0;
+  row_totals = replicate 8 (pos 0);
+  row_entries = replicate 256 (pos 0);
 }

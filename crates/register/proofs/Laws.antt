@@ -6,13 +6,14 @@ use mathlib.Core.Path.{◌≡◌, refl, sym, ◌∙◌, ap}
 use mathlib.Core.Logic.{◌⊎◌, inl, inr, ⊎_elim}
 use mathlib.Core.Bool.{true, false, false≢true}
 use mathlib.Core.List.{List, [], ◌∷◌, ◌++◌}
-use lib.ListN.{get_or}
-use lib.IntN.{ℤ, nat_abs}
+use lib.ListN.{length, get_or}
+use lib.IntN.{ℤ, pos, nat_abs}
 use lib.Pow.{pow_mono}
-use mir.Syntax.{w32}
-use mir.Val.{of_z, to_z, hbits}
-use mir.Facts.{of_z-to_z, Fits-of_z}
+use mir.Syntax.{w8, w16, w32}
+use mir.Val.{SFits, of_z, to_z, hbits}
+use mir.Facts.{to_z-of_z, of_z-to_z, Fits-of_z}
 use Rattle.integers.proofs.Lists.{◌▹◌}
+use Rattle.integers.proofs.Blocks.{length-ones}
 use Rattle.integers.proofs.Machine.{read-signed, fits_signed}
 use Rattle.wire.specs.Checks.{refusal}
 use Rattle.wire.specs.Rows.{isAmong, row_of}
@@ -23,14 +24,15 @@ use Rattle.wire.proofs.Grammar.{lastFrom, lastFrom-one, said, Last, then-missing
 use Rattle.wire.proofs.Accepting.{Grows, Back, Laws}
 use Rattle.wire.proofs.Ends.{Ends}
 use Rattle.register.specs.declared.Register.{Register}
-use Rattle.register.specs.Limits.{maxBase, usualDay}
-use Rattle.register.specs.Register.{tank, minute, mask, coefficient, windowTank, windowFrom, windowTo, fresh, withBase, withLength, withChoice, withTerm, withWindow}
-use Rattle.register.specs.Format.{baseRow, choiceRow, termRow, windowRow, lengthRow, endRow, baseChecks, lengthChecks, registerRows}
+use Rattle.register.specs.Limits.{rowEntries, maxBase, usualDay}
+use Rattle.register.specs.Register.{tank, minute, mask, coefficient, windowTank, windowFrom, windowTo, rowTotal, rowEntry, fresh, withBase, withLength, withChoice, withTerm, withWindow, withRow}
+use Rattle.register.specs.Format.{baseRow, choiceRow, termRow, windowRow, rowRow, entriesOf, lengthRow, endRow, baseChecks, lengthChecks, registerRows}
 use Rattle.register.specs.Valid.{DayLength, Within, Valid, windowAt}
-use Rattle.register.specs.Encoding.{baseCommand, lengthCommand, choiceCommand, termCommand, windowCommand, endCommand, choiceKind, termKind, windowKind, kinds}
-use Rattle.register.proofs.Passes.{base-iff, choice-iff, term-iff, window-iff, length-within, length-iff, end-iff}
+use Rattle.register.specs.Encoding.{baseCommand, lengthCommand, choiceCommand, termCommand, windowCommand, rowList, rowCommand, endCommand, choiceKind, termKind, windowKind, rowKind, kinds}
+use Rattle.register.proofs.Passes.{base-iff, choice-iff, term-iff, window-iff, row-iff, within-byte, length-within, length-iff, end-iff}
 use Rattle.register.proofs.MayFeed.{may-iff}
-use Rattle.register.proofs.Entries.{fresh-within, base_more, length_more, base_back, choice-kept, choice-new, choice-more, lessChoice, choice-less, choice-back, choice-next, termAt, term-kept, term-new, term-more, lessTerm, term-less, term-back, term-next, window-kept, window-new, window_more, lessWindow, window-less, window-back, window-next}
+use Rattle.register.proofs.RowOperands.{entries-long, entries-read, row-said, row-fit, entries-back}
+use Rattle.register.proofs.Entries.{fresh-within, base_more, length_more, base_back, choice-kept, choice-new, choice-more, lessChoice, choice-less, choice-back, choice-next, termAt, term-kept, term-new, term-more, lessTerm, term-less, term-back, term-next, window-kept, window-new, window_more, lessWindow, window-less, window-back, window-next, row-kept, row-new, row-more, lessRow, row-less, row-back, row-next}
 
 -- ---- what has been read; what commands say of it is known where B holds
 
@@ -82,21 +84,27 @@ header-stands B r h = ⊎_elim (λ b. inl (base-byte r b.1)) (λ l. inr (inl (le
 -- ---- each row keeps it
 
 module _ (B : Type 0) where
-  -- the kinds after the windows, and after the choices
+  -- the kinds after the windows, after the choices, and after the rows
 
   abbrev afterWindows : List (Kind Register)
-  afterWindows = underAll B (choiceKind ∷ termKind ∷ [])
+  afterWindows = underAll B (choiceKind ∷ rowKind ∷ termKind ∷ [])
 
   abbrev afterChoices : List (Kind Register)
-  afterChoices = underAll B (termKind ∷ [])
+  afterChoices = underAll B (rowKind ∷ termKind ∷ [])
 
-  -- up to the windows, and to the choices
+  abbrev afterRows : List (Kind Register)
+  afterRows = underAll B (termKind ∷ [])
+
+  -- up to the windows, to the choices, and to the rows
 
   abbrev ToWindows : Register → List Command → Type 0
   ToWindows r = Entries (HeaderWhere B r) r (under B windowKind)
 
   abbrev ToChoices : Register → List Command → Type 0
   ToChoices r = Entries (ToWindows r) r (under B choiceKind)
+
+  abbrev ToRows : Register → List Command → Type 0
+  ToRows r = Entries (ToChoices r) r (under B rowKind)
 
   base-grows : Grows B (Good B) (Done B) 0x10 baseRow
   unfolding fresh
@@ -109,7 +117,7 @@ module _ (B : Type 0) where
             within = base_more r g.within (to_z w32 (get_or xs 0 0)) ((base-iff _).0 q) (ap (λ r. r.choices) a) (ap (λ r. r.windows) a);
             body = inr (
               inr (inl refl),
-              none-kinds r' (HeaderWhere B r') (underAll B kinds) _ (ap (λ r. r.windows) a, (ap (λ r. r.choices) a, (ap (λ r. r.terms) a, tt)))
+              none-kinds r' (HeaderWhere B r') (underAll B kinds) _ (ap (λ r. r.windows) a, (ap (λ r. r.choices) a, (ap (λ r. r.rows) a, (ap (λ r. r.terms) a, tt))))
                   (then-missing (Only (BaseWhere B r')) (usualDay ≡ usualDay) (LengthWhere B r') refl
                   (record { command = record { byte = 0x10; operands = xs }; form = (refl, λ b. let (f, l) = fit-one 4 xs (fit b) in said 0x10 {ys = of_z w32 (to_z w32 (get_or xs 0 0)) ∷ []} (f ∙ rw (of_z-to_z (record { fits = l })))); whole = rw b })),
             );
@@ -124,7 +132,7 @@ module _ (B : Type 0) where
         let none = kinds-absent r (ToChoices r) afterChoices cs choiceRow.follows tt e b in
         let (p, may) = (choice-iff r.day_length r.choices _ _ t m _).0 q in
         record {
-          within = choice-more r g.within t m none.0 p ((may-iff r.window_tanks r.window_froms r.window_tos t m r.windows).0 may);
+          within = choice-more r g.within t m none.0 none.1.0 p ((may-iff r.window_tanks r.window_froms r.window_tos t m r.windows).0 may);
           body = inr (
             d,
             kinds-more (ToWindows r) r (withChoice r t m) (under B choiceKind) afterChoices none none cs (record { byte = 0x11; operands = xs }) refl
@@ -145,7 +153,7 @@ module _ (B : Type 0) where
           within = term-more r g.within m z p;
           body = inr (
             d,
-            kinds-more (ToChoices r) r (withTerm r m z) (under B termKind) [] tt tt cs (record { byte = 0x12; operands = xs }) refl
+            kinds-more (ToRows r) r (withTerm r m z) (under B termKind) [] tt tt cs (record { byte = 0x12; operands = xs }) refl
                 (λ i d l h b. h b ∙ ap (λ c. termCommand c.0 c.1) (sym (term-kept r g.within m z i l)))
                 (inl refl, λ b. let (f, _, l) = fit-two 4 4 xs (fit b) in said 0x12 {ys = m ∷ of_z w32 z ∷ []} (f ∙ rw (of_z-to_z (record { fits = l }))) ∙ ap (λ c. termCommand c.0 c.1) (sym (term-new r g.within m z p.few))) b,
           );
@@ -168,6 +176,25 @@ module _ (B : Type 0) where
             kinds-more (HeaderWhere B r) r (withWindow r t f o) (under B windowKind) afterWindows none none cs (record { byte = 0x13; operands = xs }) refl
                 (λ i d l h b. h b ∙ ap (λ c. windowCommand c.0 c.1 c.2) (sym (window-kept r g.within t f o i l)))
                 (inl refl, λ b. said 0x13 (fit-three 2 2 2 xs (fit b)) ∙ ap (λ c. windowCommand c.0 c.1 c.2) (sym (window-new r g.within t f o p.few))) b,
+          );
+        };
+  }
+
+  row-grows : Grows B (Good B) (Done B) 0x14 rowRow
+  row-grows = record {
+    on = λ r cs xs g e q fit.
+        let z = to_z w16 (get_or xs 0 0) in
+        let es = entriesOf xs in
+        let (d, b) = followed rowRow.follows refl e g in
+        let none = kinds-absent r (ToRows r) afterRows cs rowRow.follows tt e b in
+        let p = (row-iff r.choices r.rows z (λ j. get_or es j (pos 0)) (λ j l. entries-read xs j)).0 q in
+        record {
+          within = row-more r g.within z es (entries-long xs) p;
+          body = inr (
+            d,
+            kinds-more (ToChoices r) r (withRow r z es) (under B rowKind) afterRows none none cs (record { byte = 0x14; operands = xs }) refl
+                (λ i d l h b. h b ∙ ap (λ c. rowCommand c.0 c.1) (sym (row-kept r g.within z es (entries-long xs) i l)))
+                (inl refl, λ b. said 0x14 (row-said xs (fit b)) ∙ ap (λ c. rowCommand c.0 c.1) (sym (row-new r g.within z es (entries-long xs) p.few))) b,
           );
         };
   }
@@ -231,7 +258,7 @@ module _ (r : Register) (cs : List Command) (w : Within r) (d : DayLength r.day_
         command = baseCommand r.base;
         good = record { within = fresh-within; body = inl (refl, refl) };
         allowed = record { byte = omega arith; here = refl; operands = ((Fits-of_z (fits_signed w32 r.base (small r.base w.base))).fits, tt); passes = rw same ((base-iff r.base).1 w.base) };
-        after = rw same (base_back r w usual none.0 none.1.0 none.1.1.0);
+        after = rw same (base_back r w usual none.0 none.1.0 none.1.1.0 none.1.1.1.0);
         ends_is = refl;
         whole = h.whole ∙ rw (h.form.1 tt);
       }
@@ -257,11 +284,11 @@ module _ (r : Register) (cs : List Command) (w : Within r) (d : DayLength r.day_
   header-taken : None r (underAll U kinds) → Back fresh registerRows (Good U) false r cs
   header-taken none = ⊎_elim (base-taken none) (length_taken none) (header-by r (kinds-none r (HeaderWhere U r) (underAll U kinds) cs none b))
 
-  choice-taken : (n : ℕ) → r.choices ≡ suc n → None r (underAll U (termKind ∷ [])) → Back fresh registerRows (Good U) false r cs
+  choice-taken : (n : ℕ) → r.choices ≡ suc n → None r (underAll U (rowKind ∷ termKind ∷ [])) → Back fresh registerRows (Good U) false r cs
   unfolding row_of
   choice-taken n e none =
       let r' = lessChoice r n in
-      let (w', p, may) = choice-next r w n e none.0 in
+      let (w', p, may) = choice-next r w n e none.0 none.1.0 in
       let l = kinds-less (ToWindows U r) r r' (under U choiceKind) (afterChoices U) none none cs n e refl (λ i d k h u. h u ∙ ap (λ c. choiceCommand c.0 c.1) (choice-less r w n e i k)) b in
       record {
         before = r';
@@ -279,7 +306,7 @@ module _ (r : Register) (cs : List Command) (w : Within r) (d : DayLength r.day_
         whole = l.whole ∙ rw (l.form.1 tt);
       }
 
-  window-taken : (k : ℕ) → r.windows ≡ suc k → None r (underAll U (choiceKind ∷ termKind ∷ [])) → Back fresh registerRows (Good U) false r cs
+  window-taken : (k : ℕ) → r.windows ≡ suc k → None r (underAll U (choiceKind ∷ rowKind ∷ termKind ∷ [])) → Back fresh registerRows (Good U) false r cs
   unfolding row_of
   window-taken k e none =
       let r' = lessWindow r k in
@@ -301,6 +328,33 @@ module _ (r : Register) (cs : List Command) (w : Within r) (d : DayLength r.day_
         whole = l.whole ∙ rw (l.form.1 tt);
       }
 
+  row-taken : (k : ℕ) → r.rows ≡ suc k → None r (underAll U (termKind ∷ [])) → Back fresh registerRows (Good U) false r cs
+  unfolding row_of
+  row-taken k e none =
+      let r' = lessRow r k in
+      let (w', p) = row-next r w k e in
+      let z = rowTotal r k in
+      let es = rowList r k in
+      let long : length es ≡ rowEntries = length-ones (rowEntry r k) rowEntries in
+      let bytes : (j : ℕ) → j < rowEntries → SFits w8 (get_or es j (pos 0)) = λ j l. within-byte (get_or es j (pos 0)) (p.fits.entry-above j l) (p.fits.entry-below j l) in
+      let f : SFits w16 z = fits_signed w16 z (omega (arith, p.fits.sum-within)) in
+      let l = kinds-less (ToChoices U r) r r' (under U rowKind) (afterRows U) none none cs k e refl (λ i d k' h u. h u ∙ ap (λ c. rowCommand c.0 c.1) (row-less r w k e i k')) b in
+      record {
+        before = r';
+        front = l.front;
+        command = rowCommand z es;
+        good = record { within = w'; body = inr (d, l.before) };
+        allowed = record {
+          byte = omega arith;
+          here = kinds-stand r' (HeaderWhere U r) (underAll U (windowKind ∷ choiceKind ∷ rowKind ∷ [])) l.front (0x10 ∷ 0x18 ∷ []) rowRow.follows tt (header-stands U r) (kinds-none r' (ToRows U r') (afterRows U) l.front none l.before);
+          operands = row-fit z es long bytes f;
+          passes = rw (to_z-of_z f, entries-back z es long bytes) ((row-iff r.choices k z (λ j. get_or es j (pos 0)) bytes).1 p);
+        };
+        after = rw (to_z-of_z f, entries-back z es long bytes) (row-back r w k e);
+        ends_is = refl;
+        whole = l.whole ∙ rw (l.form.1 tt);
+      }
+
   term-taken : (k : ℕ) → r.terms ≡ suc k → Unit {0} → Back fresh registerRows (Good U) false r cs
   unfolding row_of
   term-taken k e none =
@@ -308,7 +362,7 @@ module _ (r : Register) (cs : List Command) (w : Within r) (d : DayLength r.day_
       let (w', p) = term-next r w k e in
       let h : nat_abs (coefficient r k) ≤ maxBase = omega (arith, p.fits.coefficient-within) in
       let same = read-signed w32 (coefficient r k) (small (coefficient r k) h) in
-      let l = kinds-less (ToChoices U r) r r' (under U termKind) [] tt tt cs k e refl (λ i d k' h u. h u ∙ ap (λ c. termCommand c.0 c.1) (term-less r w k e i k')) b in
+      let l = kinds-less (ToRows U r) r r' (under U termKind) [] tt tt cs k e refl (λ i d k' h u. h u ∙ ap (λ c. termCommand c.0 c.1) (term-less r w k e i k')) b in
       record {
         before = r';
         front = l.front;
@@ -348,7 +402,7 @@ end-taken r cs d =
 pub laws : Laws fresh registerRows Good Done
 laws = record {
   starts = λ B. record { within = fresh-within; body = inl (refl, refl) };
-  grows = λ B. base-grows B ▹ choice-grows B ▹ term-grows B ▹ window-grows B ▹ length-grows B ▹ end-grows B ▹ tt;
-  back = λ r cs g. ⊎_elim (λ h. inl h) (λ (d, b). inr (by_kind (Back fresh registerRows (Good U) false r cs) r (underAll U kinds) (header-taken r cs g.within d b) (window-taken r cs g.within d b, (choice-taken r cs g.within d b, (term-taken r cs g.within d b, tt))))) g.body;
+  grows = λ B. base-grows B ▹ choice-grows B ▹ term-grows B ▹ window-grows B ▹ row-grows B ▹ length-grows B ▹ end-grows B ▹ tt;
+  back = λ r cs g. ⊎_elim (λ h. inl h) (λ (d, b). inr (by_kind (Back fresh registerRows (Good U) false r cs) r (underAll U kinds) (header-taken r cs g.within d b) (window-taken r cs g.within d b, (choice-taken r cs g.within d b, (row-taken r cs g.within d b, (term-taken r cs g.within d b, tt)))))) g.body;
   back_end = end-taken;
 }

@@ -4,6 +4,7 @@ pub mod Answers
 pub mod Passes
 pub mod MayFeed
 pub mod Entries
+pub mod RowOperands
 pub mod Passed
 pub mod Laws
 pub mod Accept
@@ -13,5 +14,6 @@ pub mod Opened
 pub mod Prefix
 pub mod Position
 pub mod DayLengths
+pub mod BeforeRows
 pub mod BeforeLengths
 pub mod BeforeWindows

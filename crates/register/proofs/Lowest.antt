@@ -10,11 +10,11 @@ use Rattle.wire.specs.Part.{refused}
 use Rattle.wire.specs.Refused.{RefusedAt, RefusedByItself}
 use Rattle.wire.proofs.Lowest.{Rising, Rises, rows-rising, refused-iff, refused-by-itself-iff}
 use Rattle.register.specs.Register.{fresh}
-use Rattle.register.specs.Format.{baseChecks, choiceChecks, termChecks, windowChecks, lengthChecks, endChecks, registerRows, registerPart, registerInJob, registerByItself}
+use Rattle.register.specs.Format.{baseChecks, choiceChecks, termChecks, windowChecks, rowChecks, lengthChecks, endChecks, registerRows, registerPart, registerInJob, registerByItself}
 
 register-rises : All Rises registerRows
-unfolding baseChecks choiceChecks termChecks windowChecks lengthChecks endChecks
-register-rises = (λ r xs. tt) ▹ (λ r xs. tt) ▹ (λ r xs. tt) ▹ (λ r xs. tt) ▹ (λ r xs. tt) ▹ (λ r xs. tt) ▹ tt
+unfolding baseChecks choiceChecks termChecks windowChecks rowChecks lengthChecks endChecks
+register-rises = (λ r xs. tt) ▹ (λ r xs. tt) ▹ (λ r xs. tt) ▹ (λ r xs. tt) ▹ (λ r xs. tt) ▹ (λ r xs. tt) ▹ (λ r xs. tt) ▹ tt
 
 register-rising : Rising registerPart
 register-rising = rows-rising fresh registerRows register-rises

@@ -3,9 +3,10 @@ use Prim.Native.Nat.{ℕ, suc, ◌-◌, ◌<◌, ◌≤◌}
 use native.Mathlib.Omega.{arith}
 use mathlib.Core.Path.{◌≡◌, ap}
 use mathlib.Core.Logic.{◌⊎◌, ⊎_elim}
+use mathlib.Core.List.{List}
 use lib.IntN.{ℤ}
 use Rattle.register.specs.declared.Register.{Register}
-use Rattle.register.specs.Register.{tank, minute, windowTank, fresh, withBase, withLength, withChoice, withTerm, withWindow}
+use Rattle.register.specs.Register.{tank, minute, windowTank, fresh, setRows, withBase, withLength, withChoice, withTerm, withWindow}
 use Rattle.register.specs.Valid.{Within}
 use Rattle.register.proofs.Passes.{NextChoice}
 use Rattle.register.proofs.Entries.{choice-new, window-kept}
@@ -27,6 +28,9 @@ module _ (r : Register) (w : Within r) {k : ℕ} (p : Passed r k) where
 
   pub passed-term : (m : ℕ) (z : ℤ) → Passed (withTerm r m z) k
   passed-term m z = record { within = p.within; earlier = p.earlier }
+
+  pub passed-rows : (n : ℕ) (sums entries : List ℤ) → Passed (setRows r n sums entries) k
+  passed-rows n sums entries = record { within = p.within; earlier = p.earlier }
 
   pub passed-window : (t f o : ℕ) → Passed (withWindow r t f o) k
   passed-window t f o = record {

@@ -1,21 +1,25 @@
 -- What the checks of a command say of its operands: none fails just where these are as they should be.
-use mathlib.Core.Path.{◌≡◌}
+use mathlib.Core.Path.{◌≡◌, sym, ◌∙◌}
 use mathlib.Core.Logic.{◌⊎◌, ◌↔◌, inl, inr, ⊎_elim}
 use mathlib.Core.Bool.{Bool, true, or-false, or-true, and-false, ◌||◌, ◌&&◌}
 use mathlib.Core.List.{[], ◌∷◌}
 use Prim.Native.Nat.{ℕ, ◌^◌, ◌≤◌, ◌<◌}
 use native.Mathlib.Omega.{arith}
 use lib.Dec.{eqb, ltb}
-use lib.IntN.{ℤ, nat_abs}
+use lib.IntN.{ℤ, pos, negsuc, nat_abs}
+use lib.Signed.{◌≤ℤ◌, mag}
+use mir.Syntax.{w8}
+use mir.Val.{SFits}
 use borrow.Author.Tests.{eqb-true, eqb-false, ltb-true, ltb-false, leb-false, not-false, lt-ltb, le-ltb, lt-leb, eq-eqb, ne_eqb}
-use Rattle.integers.specs.Lists.{comesBefore}
-use Rattle.integers.proofs.Lists.{flag, or-none, or-either, and_both}
+use Rattle.integers.specs.Lists.{all_below, comesBefore}
+use Rattle.integers.proofs.Diff.{diff₁, diffs}
+use Rattle.integers.proofs.Lists.{T-ext, T_true, flag, or-none, or-either, and_both, allBelow-at, allBelow-by}
 use Rattle.integers.proofs.Entries.{Next}
 use Rattle.wire.specs.Checks.{refusal}
 use Rattle.wire.proofs.Checks.{refusal-none, none-refusal}
-use Rattle.register.specs.Limits.{maxChoices, maxTerms, maxWindows, maxBase, maxTank, maxCoefficient, longDay}
-use Rattle.register.specs.Format.{baseChecks, choiceChecks, termChecks, windowChecks, isLength, lengthChecks, endChecks}
-use Rattle.register.specs.Valid.{DayLength, Choice, Before, Term, Rises, Window}
+use Rattle.register.specs.Limits.{maxChoices, maxTerms, maxWindows, maxRows, rowEntries, maxRowTotal, lowestEntry, highestEntry, maxBase, maxTank, maxCoefficient, longDay}
+use Rattle.register.specs.Format.{baseChecks, choiceChecks, termChecks, windowChecks, zeroPast, rowChecks, isLength, lengthChecks, endChecks}
+use Rattle.register.specs.Valid.{DayLength, Choice, Before, Term, Rises, Window, FeedingRow}
 
 pub base-iff : (base : ℤ) → (refusal (baseChecks base) ≡ 0) ↔ (nat_abs base ≤ maxBase)
 unfolding baseChecks
@@ -156,6 +160,81 @@ window-iff length k last tank from to = (there, back)
               (⊎_elim (λ (e : k ≡ 0). rw e) (λ l. rw (earlier, (later-iff last.0 last.1 tank from).1 l, or-true)) p.rises, tt),
             ),
           ),
+        )
+
+-- the numbers of 8 bits are those that an entry of a row may be
+
+pub byte-within : (z : ℤ) → SFits w8 z → (lowestEntry ≤ℤ z) × (z ≤ℤ highestEntry)
+byte-within z f = (low z f.sfits, high z f.sfits)
+  where
+    low : (z : ℤ) → mag z < 128 → negsuc 127 ≤ℤ z
+    low = diff₁ _ λ p q. simp diffs (omega arith)
+
+    high : (z : ℤ) → mag z < 128 → z ≤ℤ pos 127
+    high = diff₁ _ λ p q. simp diffs (omega arith)
+
+pub within-byte : (z : ℤ) → lowestEntry ≤ℤ z → z ≤ℤ highestEntry → SFits w8 z
+within-byte z a b = record { sfits = small z a b }
+  where
+    small : (z : ℤ) → negsuc 127 ≤ℤ z → z ≤ℤ pos 127 → mag z < 128
+    small = diff₁ _ λ p q. simp diffs (omega arith)
+
+nothing : (z : ℤ) → nat_abs z ≡ 0 → z ≡ pos 0
+nothing = diff₁ _ λ p q. simp diffs (omega arith)
+
+pub zeros-iff : (n : ℕ) (entry : ℕ → ℤ) → (zeroPast n entry ≡ true) ↔ ((j : ℕ) → n ≤ j → j < rowEntries → entry j ≡ pos 0)
+zeros-iff n entry = (to, from)
+  where
+    zero : ℕ → Bool
+    zero j = ltb j n || eqb (nat_abs (entry j)) 0
+
+    to : all_below rowEntries zero ≡ true → (j : ℕ) → n ≤ j → j < rowEntries → entry j ≡ pos 0
+    to t j a l =
+        ⊎_elim
+        (λ b. absurd (omega (arith, ltb-true j n b)))
+        (λ b. nothing (entry j) (eqb-true _ 0 b))
+        (or-either _ _ ((T_true (zero j)).0 (allBelow-at rowEntries zero ((T_true _).1 t) j l)))
+
+    from : ((j : ℕ) → n ≤ j → j < rowEntries → entry j ≡ pos 0) → all_below rowEntries zero ≡ true
+    from h =
+        (T_true _).0 (allBelow-by rowEntries zero (λ j l. (T_true (zero j)).1
+        (flag (ltb j n) (λ t. rw t) (λ t. rw (h j (ltb-false j n t) l, or-true)))))
+
+pub zeros-same : (n : ℕ) (f g : ℕ → ℤ) → ((j : ℕ) → j < rowEntries → f j ≡ g j) → zeroPast n f ≡ zeroPast n g
+zeros-same n f g h =
+    T-ext (zeroPast n f) (zeroPast n g) (
+      (λ t. (T_true (zeroPast n g)).1 ((zeros-iff n g).1 (λ j a l. sym (h j l) ∙ (zeros-iff n f).0 ((T_true (zeroPast n f)).0 t) j a l))),
+      λ t. (T_true (zeroPast n f)).1 ((zeros-iff n f).1 (λ j a l. h j l ∙ (zeros-iff n g).0 ((T_true (zeroPast n g)).0 t) j a l)),
+    )
+
+-- what a row after k others has to be, where there are n choices
+pub record NextRow (n k : ℕ) (b : ℤ) (entry : ℕ → ℤ) : Type 0 where
+  pub few : k < maxRows
+  pub fits : FeedingRow n b entry
+
+-- of entries of 8 bits
+pub row-iff : (n k : ℕ) (b : ℤ) (entry : ℕ → ℤ) → ((j : ℕ) → j < rowEntries → SFits w8 (entry j)) → (refusal (rowChecks k b (zeroPast n entry)) ≡ 0) ↔ NextRow n k b entry
+unfolding rowChecks
+row-iff n k b entry bytes = (to, from)
+  where
+    to : refusal (rowChecks k b (zeroPast n entry)) ≡ 0 → NextRow n k b entry
+    to e =
+        let p = refusal-none (rowChecks k b (zeroPast n entry)) (omega arith) e in
+        record {
+          few = leb-false maxRows k p.0;
+          fits = record {
+            sum-within = ltb-false maxRowTotal (nat_abs b) p.1.0;
+            entry-above = λ j l. (byte-within (entry j) (bytes j l)).0;
+            entry-below = λ j l. (byte-within (entry j) (bytes j l)).1;
+            past-0 = (zeros-iff n entry).0 (not-false _ p.1.1.0);
+          };
+        }
+
+    from : NextRow n k b entry → refusal (rowChecks k b (zeroPast n entry)) ≡ 0
+    from p =
+        none-refusal (rowChecks k b (zeroPast n entry)) (
+          lt-leb maxRows k p.few,
+          (le-ltb maxRowTotal (nat_abs b) p.fits.sum-within, (rw ((zeros-iff n entry).1 p.fits.past-0), tt)),
         )
 
 -- one of the three lengths

@@ -1,11 +1,15 @@
 -- What the register's calls answer, by what reading leads to.
-use Rattle.std.specs.Prelude.{ℕ, ◌-◌, ◌<◌, ◌≤◌, ◌≡◌, List, get_or}
+use Rattle.std.specs.Prelude.{ℕ, ◌+◌, ◌-◌, ◌<◌, ◌≤◌, ◌≡◌, List, [], ◌∷◌, get_or, ℤ}
+use Rattle.std.specs.Int.{w8}
+use Rattle.integers.specs.Lists.{joinBelow}
+use Rattle.wire.specs.Number.{intAt}
 use Rattle.wire.specs.Part.{Reading, refused, accepted}
 use Rattle.wire.specs.Rows.{Progress}
 use Rattle.register.specs.declared.Register.{Register}
 use Rattle.register.specs.declared.Seen.{Seen}
 use Rattle.register.specs.declared.RegisterRead.{RegisterRead}
 use Rattle.register.specs.declared.RegisterAnswer.{RegisterAnswer}
+use Rattle.register.specs.Limits.{rowEntries}
 use Rattle.register.specs.Register.{tank, minute, mask, fresh}
 
 -- what the checks of a command look at, of what has been read so far
@@ -19,7 +23,12 @@ seenOf p = let r = p.parsed in record {
   mask = mask r (r.terms - 1);
   windows = r.windows;
   day_length = r.day_length;
+  rows = r.rows;
 }
+
+-- the entries of a row at a position, one byte each
+abbrev pub entriesAt : List ℕ → ℕ → List ℤ
+entriesAt s at = joinBelow rowEntries (λ j. intAt w8 s (at + j) ∷ [])
 
 -- the first n of these numbers do not fall
 abbrev pub NoFall : ℕ → List ℕ → Type 0

@@ -1,5 +1,6 @@
--- How the register was read before it had a day length: no row for `18`, nothing that follows it, and in the checks a
--- fixed highest minute and a fixed highest "to". The record is today's: `10` gives it the usual length, and no check looks at it.
+-- How the register was read before it had a day length, which was before it had rows: no row for `14` or `18`, nothing that follows
+-- them, and in the checks a fixed highest minute and a fixed highest "to". The record is today's: `10` gives it the usual length, and
+-- its rows are as in a fresh one; no check looks at either.
 use Rattle.std.specs.Prelude.{ℕ, suc, ◌-◌, Bool, not, ◌||◌, List, [], ◌∷◌, ltb, leb, eqb}
 use Rattle.integers.specs.Lists.{comesBefore}
 use Rattle.wire.specs.Checks.{Check, check}
@@ -9,6 +10,7 @@ use Rattle.register.specs.declared.Register.{Register}
 use Rattle.register.specs.Limits.{maxChoices, maxWindows, maxTank}
 use Rattle.register.specs.Register.{tank, minute, windowTank, windowFrom, fresh}
 use Rattle.register.specs.Format.{baseRow, mayFeed, choiceRow, termRow, windowRow, endRow}
+use Rattle.register.specs.BeforeRows.{rowBefore}
 
 -- the highest minute and the highest "to", as they were
 
@@ -17,10 +19,6 @@ maxMinuteBefore = 1_439
 
 abbrev pub maxToBefore : ℕ
 maxToBefore = suc maxMinuteBefore
-
--- a row of today, with what it followed and its checks as they were
-abbrev pub rowBefore : Row Register → List ℕ → (Register → List ℕ → List Check) → Row Register
-rowBefore row follows checks = record { byte = row.byte; follows = follows; widths = row.widths; checks = checks; after = row.after; last = row.last }
 
 unfoldable pub choiceChecksBeforeLengths : (n tank₀ minute₀ tank minute : ℕ) → (may : Bool) → List Check
 choiceChecksBeforeLengths n tank₀ minute₀ tank minute may =

@@ -1,5 +1,6 @@
--- How the register was read before it had windows, which was before it had a day length: no row for `13` or `18`, nothing that follows
--- them, no check 13, and a fixed highest minute. The record is today's, with its windows as in a fresh one and the length that `10` gives it, at which no check looks.
+-- How the register was read before it had windows, which was before it had a day length or rows: no row for `13`, `14` or `18`, nothing
+-- that follows them, no check 13, and a fixed highest minute. The record is today's, with its windows and rows as in a fresh one and
+-- the length that `10` gives it, at which no check looks.
 use Rattle.std.specs.Prelude.{ℕ, ◌-◌, not, ◌||◌, List, [], ◌∷◌, ltb, leb, eqb}
 use Rattle.integers.specs.Lists.{comesBefore}
 use Rattle.wire.specs.Checks.{Check, check}
@@ -9,7 +10,8 @@ use Rattle.register.specs.declared.Register.{Register}
 use Rattle.register.specs.Limits.{maxChoices, maxTank}
 use Rattle.register.specs.Register.{tank, minute, fresh}
 use Rattle.register.specs.Format.{baseRow, choiceRow, termRow, endRow}
-use Rattle.register.specs.BeforeLengths.{maxMinuteBefore, rowBefore}
+use Rattle.register.specs.BeforeRows.{rowBefore}
+use Rattle.register.specs.BeforeLengths.{maxMinuteBefore}
 
 unfoldable pub choiceChecksBeforeWindows : (n tank₀ minute₀ tank minute : ℕ) → List Check
 choiceChecksBeforeWindows n tank₀ minute₀ tank minute =

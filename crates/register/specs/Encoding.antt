@@ -1,19 +1,21 @@
 -- The register's bytes: `10` base cost, `18` day length, which may be missing where it is the usual one, `13` for each window, `11`
--- for each choice, `12` for each term, `1F`. Written without the reader: of the part's rows only the widths of operands are used.
-use Rattle.std.specs.Prelude.{ℕ, ◌≡◌, cond, List, [], ◌∷◌, ◌++◌, eqb, ℤ, get_or}
-use Rattle.std.specs.Int.{w32}
+-- for each choice, `14` for each row, `12` for each term, `1F`. Written without the reader: of the part's rows only the widths of operands are used.
+use Rattle.std.specs.Prelude.{ℕ, ◌≡◌, true, cond, map, eqb, ℤ, get_or}
+use mathlib.Core.List.{List, [], ◌∷◌, ◌++◌, flat_map}
+use Rattle.std.specs.Int.{w8, w16, w32}
 use Rattle.std.proofs.Common.{of_z}
 use Rattle.integers.specs.Lists.{joinBelow}
 use Rattle.wire.specs.Number.{bytes_of, natAt}
 use Rattle.wire.specs.Encoding.{Command}
 use Rattle.wire.specs.Grammar.{Only, Optional, Then, Kind, Kinds}
 use Rattle.wire.specs.Grammar as G
+use Rattle.wire.specs.Walk.{comesTo}
 use Rattle.register.specs.declared.Register.{Register}
-use Rattle.register.specs.Limits.{usualDay}
-use Rattle.register.specs.Register.{tank, minute, mask, coefficient, windowTank, windowFrom, windowTo}
+use Rattle.register.specs.Limits.{usualDay, rowEntries}
+use Rattle.register.specs.Register.{tank, minute, mask, coefficient, windowTank, windowFrom, windowTo, rowTotal, rowEntry}
 use Rattle.register.specs.Format.{registerPart}
 
--- ---- an encoding: header, each window, choice and term in one of its forms, end
+-- ---- an encoding: header, each window, choice, row and term in one of its forms, end
 
 -- `10` base cost
 abbrev pub baseCommand : ℤ → Command
@@ -48,9 +50,20 @@ windowCommand tank from to = record { byte = 0x13; operands = tank ∷ from ∷ 
 abbrev pub windowKind : Kind Register
 windowKind = record { bytes = 0x13 ∷ []; count = λ r. r.windows; says = λ r j c. c ≡ windowCommand (windowTank r j) (windowFrom r j) (windowTo r j) }
 
+-- the entries of row k, that for choice 0 first
+abbrev pub rowList : Register → ℕ → List ℤ
+rowList r k = joinBelow rowEntries (λ j. rowEntry r k j ∷ [])
+
+-- `14` sum, entries
+abbrev pub rowCommand : ℤ → List ℤ → Command
+rowCommand sum entries = record { byte = 0x14; operands = of_z w16 sum ∷ map (of_z w8) entries }
+
+abbrev pub rowKind : Kind Register
+rowKind = record { bytes = 0x14 ∷ []; count = λ r. r.rows; says = λ r k c. c ≡ rowCommand (rowTotal r k) (rowList r k) }
+
 -- in this order
 abbrev pub kinds : List (Kind Register)
-kinds = windowKind ∷ choiceKind ∷ termKind ∷ []
+kinds = windowKind ∷ choiceKind ∷ rowKind ∷ termKind ∷ []
 
 -- `1F`
 abbrev pub endCommand : Command
@@ -83,11 +96,15 @@ encodeTerm mask coefficient = 0x12 ∷ (bytes_of 4 mask ++ bytes_of 4 (of_z w32 
 unfoldable pub encodeWindow : (tank from to : ℕ) → List ℕ
 encodeWindow tank from to = 0x13 ∷ (bytes_of 2 tank ++ (bytes_of 2 from ++ bytes_of 2 to))
 
+-- `14` row: sum i16, entries i8
+unfoldable pub encodeRow : ℤ → List ℤ → List ℕ
+encodeRow sum entries = 0x14 ∷ (bytes_of 2 (of_z w16 sum) ++ flat_map (λ a. bytes_of 1 (of_z w8 a)) entries)
+
 -- `18` day length u16
 unfoldable pub encodeLength : ℕ → List ℕ
 encodeLength length = 0x18 ∷ bytes_of 2 length
 
--- the windows, the choices, and the terms, one after the other
+-- the windows, the choices, the rows, and the terms, one after the other
 
 abbrev pub encodeWindows : Register → List ℕ
 encodeWindows r = joinBelow r.windows (λ j. encodeWindow (windowTank r j) (windowFrom r j) (windowTo r j))
@@ -95,12 +112,15 @@ encodeWindows r = joinBelow r.windows (λ j. encodeWindow (windowTank r j) (wind
 abbrev pub encodeChoices : Register → List ℕ
 encodeChoices r = joinBelow r.choices (λ i. encodeChoice (tank r i) (minute r i))
 
+abbrev pub encodeRows : Register → List ℕ
+encodeRows r = joinBelow r.rows (λ k. encodeRow (rowTotal r k) (rowList r k))
+
 abbrev pub encodeTerms : Register → List ℕ
 encodeTerms r = joinBelow r.terms (λ t. encodeTerm (mask r t) (coefficient r t))
 
 -- after the bytes of a header
 abbrev pub encodeAfter : List ℕ → Register → List ℕ
-encodeAfter header r = header ++ encodeWindows r ++ encodeChoices r ++ encodeTerms r ++ (0x1F ∷ [])
+encodeAfter header r = header ++ encodeWindows r ++ encodeChoices r ++ encodeRows r ++ encodeTerms r ++ (0x1F ∷ [])
 
 abbrev pub encodeWithLength : Register → List ℕ
 encodeWithLength r = encodeAfter (encodeBase r.base ++ encodeLength r.day_length) r
@@ -121,3 +141,9 @@ SaysLength s = (get_or s 0 0 ≡ 0x10) × (get_or s 5 0 ≡ 0x18)
 -- the length that `18` says there, and else the usual one
 abbrev pub lengthIn : List ℕ → ℕ
 lengthIn s = cond (eqb (get_or s 5 0) 0x18) (natAt 2 s 6) usualDay
+
+-- ---- rows in bytes
+
+-- a walk over the commands by their sizes, to the end of the register, comes to a `14`
+abbrev pub SaysRow : List ℕ → Type 0
+SaysRow s = comesTo registerPart 0x14 s ≡ true

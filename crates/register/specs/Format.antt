@@ -1,14 +1,14 @@
--- The register's commands: `10` base cost, `11` choice, `12` term, `13` window, `18` day length, `1F` end.
-use Rattle.std.specs.Prelude.{ℕ, ◌-◌, ◌^◌, Bool, true, false, not, ◌&&◌, ◌||◌, List, [], ◌∷◌, ltb, leb, eqb, ℤ, nat_abs, get_or}
-use Rattle.std.specs.Int.{w32}
+-- The register's commands: `10` base cost, `11` choice, `12` term, `13` window, `14` row, `18` day length, `1F` end.
+use Rattle.std.specs.Prelude.{ℕ, ◌-◌, ◌^◌, Bool, true, false, not, ◌&&◌, ◌||◌, List, [], ◌∷◌, ltb, leb, eqb, ℤ, pos, nat_abs, get_or, map, drop, replicate}
+use Rattle.std.specs.Int.{w8, w16, w32}
 use Rattle.std.proofs.Common.{to_z}
-use Rattle.integers.specs.Lists.{anyBelow, comesBefore}
+use Rattle.integers.specs.Lists.{all_below, anyBelow, comesBefore}
 use Rattle.wire.specs.Checks.{Check, check}
 use Rattle.wire.specs.Part.{Part, Reading, readPart, byItself}
-use Rattle.wire.specs.Rows.{Progress, Row, part_of, unary, binary, ternary}
+use Rattle.wire.specs.Rows.{Progress, Row, part_of, unary, binary, ternary, first_of}
 use Rattle.register.specs.declared.Register.{Register}
-use Rattle.register.specs.Limits.{maxChoices, maxTerms, maxWindows, maxBase, maxTank, maxCoefficient, shortDay, usualDay, longDay}
-use Rattle.register.specs.Register.{tank, minute, mask, windowTank, windowFrom, fresh, withBase, withLength, withChoice, withTerm, withWindow}
+use Rattle.register.specs.Limits.{maxChoices, maxTerms, maxWindows, maxRows, rowEntries, maxRowTotal, maxBase, maxTank, maxCoefficient, shortDay, usualDay, longDay}
+use Rattle.register.specs.Register.{tank, minute, mask, windowTank, windowFrom, fresh, withBase, withLength, withChoice, withTerm, withWindow, withRow}
 
 -- base cost within ±1,000,000,000
 unfoldable pub baseChecks : ℤ → List Check
@@ -68,7 +68,7 @@ termChecks n m mask₀ mask coefficient =
 abbrev pub termRow : Row Register
 termRow = record {
   byte = 0x12;
-  follows = 0x10 ∷ 0x11 ∷ 0x12 ∷ 0x13 ∷ 0x18 ∷ [];
+  follows = 0x10 ∷ 0x11 ∷ 0x12 ∷ 0x13 ∷ 0x14 ∷ 0x18 ∷ [];
   widths = 4 ∷ 4 ∷ [];
   checks = λ r. binary λ m c. termChecks r.choices r.terms (mask r (r.terms - 1)) m (to_z w32 c);
   after = λ r. binary λ m c. withTerm r m (to_z w32 c);
@@ -96,6 +96,33 @@ windowRow = record {
   last = false;
 }
 
+-- a test of a row's entries: those past the n choices are 0
+abbrev pub zeroPast : ℕ → (ℕ → ℤ) → Bool
+zeroPast n entry = all_below rowEntries (λ j. ltb j n || eqb (nat_abs (entry j)) 0)
+
+-- up to 8 rows, the sum within ±4,064, the entries past the choices 0: k rows were read, and `zeros` where these entries are
+unfoldable pub rowChecks : (k : ℕ) → ℤ → (zeros : Bool) → List Check
+rowChecks k b zeros =
+    check 3 (leb maxRows k)
+    ∷ check 4 (ltb maxRowTotal (nat_abs b))
+    ∷ check 5 (not zeros)
+    ∷ []
+
+-- the entries in the operands of `14`, after the sum
+abbrev pub entriesOf : List ℕ → List ℤ
+entriesOf xs = map (to_z w8) (first_of rowEntries (drop 1 xs))
+
+-- `14` row: sum i16, then 32 entries i8. After all `13` and `11` and before all `12`
+abbrev pub rowRow : Row Register
+rowRow = record {
+  byte = 0x14;
+  follows = 0x10 ∷ 0x11 ∷ 0x13 ∷ 0x14 ∷ 0x18 ∷ [];
+  widths = 2 ∷ replicate rowEntries 1;
+  checks = λ r xs. rowChecks r.rows (unary (to_z w16) xs) (zeroPast r.choices (λ j. get_or (entriesOf xs) j (pos 0)));
+  after = λ r xs. withRow r (unary (to_z w16) xs) (entriesOf xs);
+  last = false;
+}
+
 -- a test of whether a day can have so many minutes
 abbrev pub isLength : ℕ → Bool
 isLength length = eqb length shortDay || eqb length usualDay || eqb length longDay
@@ -115,7 +142,7 @@ lengthRow = record {
   last = false;
 }
 
--- a register has a choice; it needs no term and no window
+-- a register has a choice; it needs no term, no window and no row
 unfoldable pub endChecks : ℕ → List Check
 endChecks n = check 3 (eqb n 0) ∷ []
 
@@ -123,7 +150,7 @@ endChecks n = check 3 (eqb n 0) ∷ []
 abbrev pub endRow : Row Register
 endRow = record {
   byte = 0x1F;
-  follows = 0x10 ∷ 0x11 ∷ 0x12 ∷ 0x13 ∷ 0x18 ∷ [];
+  follows = 0x10 ∷ 0x11 ∷ 0x12 ∷ 0x13 ∷ 0x14 ∷ 0x18 ∷ [];
   widths = [];
   checks = λ r xs. endChecks r.choices;
   after = λ r xs. r;
@@ -131,7 +158,7 @@ endRow = record {
 }
 
 abbrev pub registerRows : List (Row Register)
-registerRows = baseRow ∷ choiceRow ∷ termRow ∷ windowRow ∷ lengthRow ∷ endRow ∷ []
+registerRows = baseRow ∷ choiceRow ∷ termRow ∷ windowRow ∷ rowRow ∷ lengthRow ∷ endRow ∷ []
 
 abbrev pub registerPart : Part (Progress Register)
 registerPart = part_of fresh registerRows

@@ -9,5 +9,6 @@ pub mod Ranges
 pub mod Position
 pub mod Answer
 pub mod Opening
+pub mod BeforeRows
 pub mod BeforeLengths
 pub mod BeforeWindows

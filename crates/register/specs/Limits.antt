@@ -1,7 +1,7 @@
 -- The register's limits and ranges.
-use Rattle.std.specs.Prelude.{ℕ}
+use Rattle.std.specs.Prelude.{ℕ, ℤ, pos, negsuc}
 
--- up to 32 choices, 256 terms and 64 windows
+-- up to 32 choices, 256 terms, 64 windows and 8 rows
 
 abbrev pub maxChoices : ℕ
 maxChoices = 32
@@ -11,6 +11,14 @@ maxTerms = 256
 
 abbrev pub maxWindows : ℕ
 maxWindows = 64
+
+abbrev pub maxRows : ℕ
+maxRows = 8
+
+-- the entries of a row, one for each of the choices 0 to 31
+
+abbrev pub rowEntries : ℕ
+rowEntries = 32
 
 -- the highest base cost, tank and coefficient; base cost and coefficient may be as far below 0
 
@@ -22,6 +30,19 @@ maxTank = 9_999
 
 abbrev pub maxCoefficient : ℕ
 maxCoefficient = 1_000_000
+
+-- the highest sum of a row, which may be as far below 0
+
+abbrev pub maxRowTotal : ℕ
+maxRowTotal = 4_064
+
+-- the lowest and the highest entry of a row, those of 8 bits
+
+abbrev pub lowestEntry : ℤ
+lowestEntry = negsuc 127
+
+abbrev pub highestEntry : ℤ
+highestEntry = pos 127
 
 -- the minutes of a day: when the clocks go forward, on a usual day, and when they go back. Where a register says no length, it is
 -- the usual one

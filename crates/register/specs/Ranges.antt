@@ -9,8 +9,8 @@ abbrev pub TankOut : ℕ → Type 0
 TankOut t = (t ≡ 0) ⊎ (maxTank < t)
 
 -- at a position. Of a choice: its tank, or its minute is none of the day. Of a window: its tank, its "from" is no minute of the day, its
--- "to" is 0 or past the end of the day. Of `18`: it is none of the three lengths. Of `10` and `12`, on which no length bears, nothing
--- is said
+-- "to" is 0 or past the end of the day. Of `18`: it is none of the three lengths. Of `10`, `12` and `14`, on which no length bears,
+-- nothing is said
 pub record OutOfRange (s : List ℕ) (at : ℕ) : Type 0 where
   pub choice : get_or s at 0 ≡ 0x11 → TankOut (natAt 2 s (at + 1)) ⊎ (lengthIn s ≤ natAt 2 s (at + 3))
   pub window : get_or s at 0 ≡ 0x13 → TankOut (natAt 2 s (at + 1)) ⊎ ((lengthIn s ≤ natAt 2 s (at + 3)) ⊎ ((natAt 2 s (at + 5) ≡ 0) ⊎ (lengthIn s < natAt 2 s (at + 5))))

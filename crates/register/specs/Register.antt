@@ -1,7 +1,8 @@
 -- The register's record: its entries, the fresh one, and what a command gives.
-use Rattle.std.specs.Prelude.{ℕ, suc, List, get_or, set, replicate, ℤ, pos}
+use Rattle.std.specs.Prelude.{ℕ, suc, ◌+◌, ◌*◌, List, get_or, set, replicate, ℤ, pos}
+use Rattle.std.proofs.lemmas.List.Edits.{sets}
 use Rattle.register.specs.declared.Register.{Register}
-use Rattle.register.specs.Limits.{maxChoices, maxTerms, maxWindows, usualDay}
+use Rattle.register.specs.Limits.{maxChoices, maxTerms, maxWindows, maxRows, rowEntries, usualDay}
 
 -- choice i: its tank and its minute
 
@@ -30,7 +31,21 @@ windowFrom r j = get_or r.window_froms j 0
 abbrev pub windowTo : Register → ℕ → ℕ
 windowTo r j = get_or r.window_tos j 0
 
--- no base cost, no day length, no choice, no term, no window; every entry is 0
+-- row k: its sum b, and its entry for choice j, in lists of sums and of entries; the entries of all rows stand one after the other
+
+abbrev pub totalIn : List ℤ → ℕ → ℤ
+totalIn sums k = get_or sums k (pos 0)
+
+abbrev pub entryIn : List ℤ → ℕ → ℕ → ℤ
+entryIn entries k j = get_or entries (k * rowEntries + j) (pos 0)
+
+abbrev pub rowTotal : Register → ℕ → ℤ
+rowTotal r k = totalIn r.row_totals k
+
+abbrev pub rowEntry : Register → ℕ → ℕ → ℤ
+rowEntry r k j = entryIn r.row_entries k j
+
+-- no base cost, no day length, no choice, no term, no window, no row; every entry is 0
 unfoldable pub fresh : Register
 fresh = record {
   base = pos 0;
@@ -45,9 +60,13 @@ fresh = record {
   window_tanks = replicate maxWindows 0;
   window_froms = replicate maxWindows 0;
   window_tos = replicate maxWindows 0;
+  rows = 0;
+  row_totals = replicate maxRows (pos 0);
+  row_entries = replicate (maxRows * rowEntries) (pos 0);
 }
 
--- ---- a register with other values of one group: the base cost, the day length, the choices, the terms, the windows
+-- ---- a register with other values of one group: the base cost, the day length, the choices, the terms, the windows,
+-- the rows
 
 abbrev pub setBase : Register → ℤ → Register
 setBase r base = record {
@@ -63,6 +82,9 @@ setBase r base = record {
   window_tanks = r.window_tanks;
   window_froms = r.window_froms;
   window_tos = r.window_tos;
+  rows = r.rows;
+  row_totals = r.row_totals;
+  row_entries = r.row_entries;
 }
 
 abbrev pub setLength : Register → ℕ → Register
@@ -79,6 +101,9 @@ setLength r length = record {
   window_tanks = r.window_tanks;
   window_froms = r.window_froms;
   window_tos = r.window_tos;
+  rows = r.rows;
+  row_totals = r.row_totals;
+  row_entries = r.row_entries;
 }
 
 abbrev pub setChoices : Register → ℕ → (tanks minutes : List ℕ) → Register
@@ -95,6 +120,9 @@ setChoices r n tanks minutes = record {
   window_tanks = r.window_tanks;
   window_froms = r.window_froms;
   window_tos = r.window_tos;
+  rows = r.rows;
+  row_totals = r.row_totals;
+  row_entries = r.row_entries;
 }
 
 abbrev pub setTerms : Register → ℕ → List ℕ → List ℤ → Register
@@ -111,6 +139,9 @@ setTerms r m masks coefficients = record {
   window_tanks = r.window_tanks;
   window_froms = r.window_froms;
   window_tos = r.window_tos;
+  rows = r.rows;
+  row_totals = r.row_totals;
+  row_entries = r.row_entries;
 }
 
 abbrev pub setWindows : Register → ℕ → (tanks froms tos : List ℕ) → Register
@@ -127,6 +158,28 @@ setWindows r k tanks froms tos = record {
   window_tanks = tanks;
   window_froms = froms;
   window_tos = tos;
+  rows = r.rows;
+  row_totals = r.row_totals;
+  row_entries = r.row_entries;
+}
+
+abbrev pub setRows : Register → ℕ → (sums entries : List ℤ) → Register
+setRows r k sums entries = record {
+  base = r.base;
+  day_length = r.day_length;
+  choices = r.choices;
+  terms = r.terms;
+  tanks = r.tanks;
+  minutes = r.minutes;
+  masks = r.masks;
+  coefficients = r.coefficients;
+  windows = r.windows;
+  window_tanks = r.window_tanks;
+  window_froms = r.window_froms;
+  window_tos = r.window_tos;
+  rows = k;
+  row_totals = sums;
+  row_entries = entries;
 }
 
 -- ---- what a command gives
@@ -151,3 +204,7 @@ withTerm r mask coefficient = setTerms r (suc r.terms) (set r.masks r.terms mask
 abbrev pub withWindow : Register → (tank from to : ℕ) → Register
 withWindow r tank from to =
     setWindows r (suc r.windows) (set r.window_tanks r.windows tank) (set r.window_froms r.windows from) (set r.window_tos r.windows to)
+
+-- one row more; rows are numbered from 0
+abbrev pub withRow : Register → ℤ → List ℤ → Register
+withRow r b entries = setRows r (suc r.rows) (set r.row_totals r.rows b) (sets r.row_entries (r.rows * rowEntries) entries)

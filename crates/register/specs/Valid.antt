@@ -1,10 +1,11 @@
--- The conditions of the scope paper, of R-1 and of R-4 on a register: counts, ranges, names, orders, windows and the day's length.
+-- The conditions of the scope paper, of R-1, of R-4 and of R-5 on a register: counts, ranges, names, orders, windows, rows and the
+-- day's length.
 -- Written without the reader.
-use Rattle.std.specs.Prelude.{ℕ, ◌^◌, ◌<◌, ◌≤◌, ◌≡◌, ◌⊎◌, ℤ, pos, nat_abs}
+use Rattle.std.specs.Prelude.{ℕ, ◌^◌, ◌<◌, ◌≤◌, ◌≡◌, ◌⊎◌, ◌*◌, ℤ, pos, nat_abs, ◌≤ℤ◌}
 use Rattle.integers.specs.Lists.{Column, Table}
 use Rattle.register.specs.declared.Register.{Register}
-use Rattle.register.specs.Limits.{maxChoices, maxTerms, maxWindows, maxBase, maxTank, maxCoefficient, shortDay, usualDay, longDay}
-use Rattle.register.specs.Register.{tank, minute, mask, coefficient, windowTank, windowFrom, windowTo}
+use Rattle.register.specs.Limits.{maxChoices, maxTerms, maxWindows, maxRows, rowEntries, maxRowTotal, lowestEntry, highestEntry, maxBase, maxTank, maxCoefficient, shortDay, usualDay, longDay}
+use Rattle.register.specs.Register.{tank, minute, mask, coefficient, windowTank, windowFrom, windowTo, rowTotal, rowEntry}
 
 -- a day has 1,380, 1,440 or 1,500 minutes
 abbrev pub DayLength : ℕ → Type 0
@@ -40,6 +41,13 @@ pub record Window (length t from to : ℕ) : Type 0 where
   pub to-within : to ≤ length
   pub ordered : from < to
 
+-- the ranges of a row's sum and of its entries; those past the n choices are 0
+pub record FeedingRow (n : ℕ) (sum : ℤ) (entry : ℕ → ℤ) : Type 0 where
+  pub sum-within : nat_abs sum ≤ maxRowTotal
+  pub entry-above : (j : ℕ) → j < rowEntries → lowestEntry ≤ℤ entry j
+  pub entry-below : (j : ℕ) → j < rowEntries → entry j ≤ℤ highestEntry
+  pub past-0 : (j : ℕ) → n ≤ j → j < rowEntries → entry j ≡ pos 0
+
 -- up to 32 choices, each in its ranges, rising
 abbrev pub Choices : (length n : ℕ) → (ℕ → ℕ × ℕ) → Type 0
 Choices length n f = Table maxChoices n f (λ c. Choice length c.0 c.1) Before
@@ -51,6 +59,11 @@ Terms n m f = Table maxTerms m f (λ c. Term n c.0 c.1) Rises
 -- up to 64 windows (tank, from, to), each in its ranges, rising
 abbrev pub Windows : (length k : ℕ) → (ℕ → ℕ × ℕ × ℕ) → Type 0
 Windows length k f = Table maxWindows k f (λ c. Window length c.0 c.1 c.2) (λ c d. Before (c.0, c.1) (d.0, d.1))
+
+-- up to 8 rows over n choices (sum, entries), each in its ranges, in any order
+pub record Rows (n k : ℕ) (f : ℕ → ℤ × (ℕ → ℤ)) : Type 0 where
+  pub few : k ≤ maxRows
+  pub each : (i : ℕ) → i < k → FeedingRow n (f i).0 (f i).1
 
 -- one of the tank's windows among k holds the minute: "from" ≤ minute < "to"
 pub record Inside (k : ℕ) (f : ℕ → ℕ × ℕ × ℕ) (tank minute : ℕ) : Type 0 where
@@ -68,6 +81,10 @@ MayFeed k f tank minute = ((j : ℕ) → j < k → (f j).0 ≡ tank → ⊥) ⊎
 abbrev pub windowAt : Register → ℕ → ℕ × ℕ × ℕ
 windowAt r j = (windowTank r j, windowFrom r j, windowTo r j)
 
+-- row k of a register
+abbrev pub rowAt : Register → ℕ → ℤ × (ℕ → ℤ)
+rowAt r k = (rowTotal r k, rowEntry r k)
+
 -- within the limits, as far as commands other than the end say; entries past the counts are 0
 pub record Within (r : Register) : Type 0 where
   pub base : nat_abs r.base ≤ maxBase
@@ -83,6 +100,9 @@ pub record Within (r : Register) : Type 0 where
   pub window-froms : Column maxWindows r.windows 0 r.window_froms
   pub window-tos : Column maxWindows r.windows 0 r.window_tos
   pub windows : Windows r.day_length r.windows (windowAt r)
+  pub row-totals : Column maxRows r.rows (pos 0) r.row_totals
+  pub row-entries : Column (maxRows * rowEntries) (r.rows * rowEntries) (pos 0) r.row_entries
+  pub rows : Rows r.choices r.rows (rowAt r)
   -- each choice's tank may be fed at its minute
   pub may-feed : (i : ℕ) → i < r.choices → MayFeed r.windows (windowAt r) (tank r i) (minute r i)
 

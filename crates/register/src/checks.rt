@@ -5,9 +5,10 @@ ghost use Rattle.wire.specs.Checks.{refusal};
 ghost use Rattle.wire.specs.Part.{checksAt, size};
 ghost use Rattle.wire.specs.Rows.{Progress, isAmong, row_of};
 ghost use Rattle.register.specs.Limits.{maxChoices, maxWindows};
-ghost use Rattle.register.specs.Format.{baseChecks, choiceChecks, termChecks, windowChecks, lengthChecks, endChecks, registerRows, registerPart};
+ghost use Rattle.register.specs.Format.{baseChecks, choiceChecks, termChecks, windowChecks, rowChecks, lengthChecks, endChecks, registerRows, registerPart};
 ghost use Rattle.register.specs.Answer.{Given};
 
+use super::rows::past_zero;
 use super::windows::may_feed;
 use super::{Register, Seen, last_of};
 use wire::{command_refusal, first_of};
@@ -84,6 +85,18 @@ fn window_refusal(
     first_of(Register::MAX_WINDOWS <= k, 3, first_of(out, 4, misordered))
 }
 
+// The refusal of a row after k others, or 0; `zeros` where its entries past the choices are 0.
+fn row_refusal(k: usize, sum: i16, zeros: bool) -> u8
+    ensures { result ≡ refusal (rowChecks k sum zeros) }
+{
+    let out = Register::MAX_ROW_TOTAL < wire::magnitude(sum as i64);
+    first_of(
+        Register::MAX_ROWS <= k,
+        3,
+        first_of(out, 4, first_of(!zeros, 5, 0)),
+    )
+}
+
 // The refusal of a day length, or 0.
 fn length_refusal(length: u16) -> u8
     ensures { result ≡ refusal (lengthChecks length) }
@@ -103,10 +116,20 @@ fn end_refusal(n: usize) -> u8
 
 // A term or the end may stand directly after a command: after each but the end.
 fn after_any(previous: u8) -> bool
-    ensures { result ≡ isAmong previous (0x10 ∷ 0x11 ∷ 0x12 ∷ 0x13 ∷ 0x18 ∷ []) }
+    ensures { result ≡ isAmong previous (0x10 ∷ 0x11 ∷ 0x12 ∷ 0x13 ∷ 0x14 ∷ 0x18 ∷ []) }
 {
     (previous == 0x10)
-        | ((previous == 0x11) | ((previous == 0x12) | ((previous == 0x13) | (previous == 0x18))))
+        | ((previous == 0x11)
+            | ((previous == 0x12)
+                | ((previous == 0x13) | ((previous == 0x14) | (previous == 0x18)))))
+}
+
+// A row may stand directly after a command: after each but a term and the end.
+fn before_terms(previous: u8) -> bool
+    ensures { result ≡ isAmong previous (0x10 ∷ 0x11 ∷ 0x13 ∷ 0x14 ∷ 0x18 ∷ []) }
+{
+    (previous == 0x10)
+        | ((previous == 0x11) | ((previous == 0x13) | ((previous == 0x14) | (previous == 0x18))))
 }
 
 // A command may stand directly after another, or first where that is 0.
@@ -120,6 +143,7 @@ fn stands_after(previous: u8, command: u8) -> bool
         }
         0x12 => after_any(previous),
         0x13 => (previous == 0x10) | ((previous == 0x13) | (previous == 0x18)),
+        0x14 => before_terms(previous),
         0x18 => previous == 0x10,
         0x1f => after_any(previous),
         _ => false,
@@ -135,6 +159,7 @@ pub fn command_size(command: u8) -> usize
         0x11 => 5,
         0x12 => 9,
         0x13 => 7,
+        0x14 => 35,
         0x18 => 3,
         _ => 1,
     }
@@ -200,6 +225,11 @@ pub fn refusal_at<'a>(
                 from,
                 to,
             )
+        }
+        0x14 => {
+            let sum = wire::i16_at(bytes, at + 1);
+            let zeros = past_zero(bytes, at + 1 + 2, seen.choices);
+            row_refusal(seen.rows, sum, zeros)
         }
         0x18 => length_refusal(wire::u16_at(bytes, at + 1)),
         _ => end_refusal(seen.choices),

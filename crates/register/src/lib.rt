@@ -1,8 +1,10 @@
-// Part 1 of the job file, the register: the day's length, the choices of a plan, the terms of its cost and the windows of its tanks.
+// Part 1 of the job file, the register: the day's length, the choices of a plan, the terms of its cost, the windows of its tanks and
+// the rows, which ask for exactly so many feedings.
 
 #![tactic(auto)]
 
 mod checks;
+mod rows;
 pub mod walk;
 mod windows;
 
@@ -12,9 +14,11 @@ ghost use Rattle.register.specs.Format.{registerInJob, registerByItself};
 ghost use Rattle.register.specs.Answer.{refusedRead, registerRead, refusedAnswer, registerAnswer};
 
 use checks::refusal_at;
+use rows::put_entries;
 use windows::pass_windows;
 
-// The record that the register's bytes give. Entries past the counts are 0.
+// The record that the register's bytes give. Entries past the counts are 0. The entries of all rows stand one after the other, those
+// of each row by choice.
 #[repr(C)]
 #[derive(Clone, Copy)]
 pub struct Register {
@@ -30,6 +34,9 @@ pub struct Register {
     pub window_tanks: [u16; Register::MAX_WINDOWS],
     pub window_froms: [u16; Register::MAX_WINDOWS],
     pub window_tos: [u16; Register::MAX_WINDOWS],
+    pub rows: usize,
+    pub row_totals: [i16; Register::MAX_ROWS],
+    pub row_entries: [i8; Register::MAX_ROWS * Register::ROW_ENTRIES],
 }
 
 // What the checks of a command look at beside the windows: the byte of the last command, the counts, the last choice and mask, and
@@ -44,6 +51,7 @@ pub struct Seen {
     pub mask: u32,
     pub windows: usize,
     pub day_length: u16,
+    pub rows: usize,
 }
 
 // What reading the register at the front of a run of bytes leads to: a refusal's number and position, or 0, the position
@@ -72,6 +80,11 @@ impl Register {
 
     pub const MAX_WINDOWS: usize = 64;
 
+    pub const MAX_ROWS: usize = 8;
+
+    // The entries of a row, one for each of the choices 0 to 31.
+    pub const ROW_ENTRIES: usize = 32;
+
     // The largest magnitude of the base cost.
     pub const MAX_BASE: u64 = 1_000_000_000;
 
@@ -79,6 +92,9 @@ impl Register {
 
     // The largest magnitude of a coefficient.
     pub const MAX_COEFFICIENT: u64 = 1_000_000;
+
+    // The largest magnitude of a row's sum.
+    pub const MAX_ROW_TOTAL: u64 = 4_064;
 
     // The minutes of a day: when the clocks go forward, on a usual day, which is meant where no length is said, and when they go
     // back.
@@ -104,6 +120,9 @@ impl Register {
             window_tanks: [0; Register::MAX_WINDOWS],
             window_froms: [0; Register::MAX_WINDOWS],
             window_tos: [0; Register::MAX_WINDOWS],
+            rows: 0,
+            row_totals: [0; Register::MAX_ROWS],
+            row_entries: [0; Register::MAX_ROWS * Register::ROW_ENTRIES],
         }
     }
 }
@@ -166,6 +185,7 @@ pub fn read_register(bytes: &[u8]) -> RegisterRead
             mask: register.masks[t],
             windows: k,
             day_length: register.day_length,
+            rows: register.rows,
         };
         let number = refusal_at(
             bytes,
@@ -210,6 +230,19 @@ pub fn read_register(bytes: &[u8]) -> RegisterRead
                 register.windows = k + 1;
                 previous = 0x13;
                 at += 7;
+            }
+            0x14 => {
+                let row = register.rows;
+                register.row_totals[row] = wire::i16_at(bytes, at + 1);
+                put_entries(
+                    &mut register.row_entries,
+                    row * Register::ROW_ENTRIES,
+                    bytes,
+                    at + 1 + 2,
+                );
+                register.rows = row + 1;
+                previous = 0x14;
+                at += 35;
             }
             0x18 => {
                 register.day_length = wire::u16_at(bytes, at + 1);

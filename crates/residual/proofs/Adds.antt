@@ -6,11 +6,12 @@ use mathlib.Core.List.{List, [], ◌∷◌}
 use native.Mathlib.Omega.{arith}
 use lib.Dec.{T, leb, ltb}
 use lib.IntN.{ℤ, pos, neg_ℤ, nat_abs, ◌-ℤ◌, +ℤ_idl}
+use lib.ListN.{get_or}
 use mir.Syntax.{w64}
 use mir.Val.{SFits, to_z, of_z}
 use Rattle.integers.proofs.Order.{natAbs-neg}
 use Rattle.integers.proofs.Machine.{fits_signed, read-signed}
-use Rattle.forms.specs.Form.{mono}
+use Rattle.forms.specs.Form.{mono, times}
 use Rattle.forms.specs.Store.{addMonomial, Bounded}
 use Rattle.forms.proofs.Form.{Below}
 use Rattle.forms.proofs.Store.{bounded-addMonomial, bounded-weaken}
@@ -19,10 +20,11 @@ use Rattle.scheme.specs.declared.Scheme.{Scheme}
 use Rattle.scheme.specs.Scheme.{variables, side}
 use Rattle.scheme.specs.Valid.{Products}
 use Rattle.certificate.specs.declared.Multiplier.{Multiplier as Named}
-use Rattle.certificate.specs.Limits.{maxMultiplier}
+use Rattle.certificate.specs.Limits.{maxMultiplier, maxRowMultiplier}
+use Rattle.certificate.specs.RowForm.{rowFormOf}
 use Rattle.certificate.specs.Certificate.{Multiplier}
 use Rattle.certificate.specs.Rules.{Rule, byKey, noRule, rules, ruleOf}
-use Rattle.certificate.specs.Within.{Allowed}
+use Rattle.certificate.specs.Within.{conditions, Allowed}
 use Rattle.certificate.specs.Answer.{named_of, ruleAsked}
 use Rattle.residual.specs.Built.{signed_of, Addable, added}
 use Rattle.certificate.proofs.Conditions.{tested, m-within}
@@ -64,18 +66,31 @@ module _ (r : Register) (s : Scheme) where
   unfolding signed_of signedForm signed ruleAsked ruleOf
   added-signed u = refl
 
-  pub addable : (u : Multiplier) → Allowed r s u → Addable n s (named_of u)
+  pub addable : (u : Multiplier) → Allowed r s u → 0x31 ≤ u.kind → u.kind ≤ 0x39 → Addable n s (named_of u)
   unfolding ruleAsked ruleOf
-  addable u ok =
+  addable u ok above within =
       let h = tested r s u ok in
       record {
         reg = r;
         choices-is = refl;
-        kind-above = h.kind-above;
-        kind-within = h.kind-within;
+        kind-above = above;
+        kind-within = within;
         m-within = m-within r s u ok;
         there = h.rule.there;
       }
+
+  -- the row and the variable that `3B` names are there, and m is within its limit; what it adds
+  pub record RowCommand (u : Multiplier) : Type 0 where
+    pub row-there : get_or u.names 0 0 < r.rows
+    pub variable-there : get_or u.names 1 0 < variables n s
+    pub m-within : nat_abs u.m ≤ maxRowMultiplier
+    pub adds : signedForm r s u ≡ times u.m (rowFormOf r (get_or u.names 0 0) (get_or u.names 1 0))
+
+  pub row-command : (u : Multiplier) → Allowed r s u → u.kind ≡ 0x3B → RowCommand u
+  unfolding Allowed byKey signedForm signed ruleOf
+  row-command u ok e =
+      let c = subst (λ k. byKey ⊥ k (conditions r s u.names u.m)) e ok in
+      record { row-there = rw c.2 c.3; variable-there = rw c.2 c.4; m-within = c.5; adds = rw e (refl {a = times u.m (rowFormOf r (get_or u.names 0 0) (get_or u.names 1 0))}) }
 
   module _ (t : Named) where
     -- the rule of a kind, with the variables that the command names

@@ -2,11 +2,13 @@
 use Prim.Native.Nat.{ℕ, ◌+◌, ◌*◌, ◌≤◌}
 use mathlib.Core.Path.{◌≡◌, sym, ◌∙◌, ap}
 use mathlib.Core.Bool.{true}
+use mathlib.Core.Logic.{inl, inr}
 use mathlib.Core.List.{List}
 use native.Mathlib.Numerals.{add-one}
 use native.Mathlib.Omega.{arith}
 use lib.IntN.{ℤ}
 use lib.ListN.{length, get_or}
+use Rattle.forms.specs.Form.{times}
 use Rattle.forms.specs.Table.{tableNumbers, withTable}
 use Rattle.forms.specs.Store.{addForm, Bounded, maxBeforeForm}
 use Rattle.forms.proofs.Store.{bounded-weaken}
@@ -23,12 +25,14 @@ use Rattle.scheme.specs.Valid.{Valid}
 use Rattle.penalty.proofs.Bounds.{side-square}
 use Rattle.certificate.specs.Limits.{squareEntries}
 use Rattle.certificate.specs.Certificate.{Certificate}
+use Rattle.certificate.specs.RowForm.{rowFormOf}
 use Rattle.certificate.specs.Format.{commandSize, commandsInJob}
-use Rattle.certificate.specs.Answer.{named_of, multiplierAt, squareRead}
+use Rattle.certificate.specs.Answer.{IsMultiplier, named_of, multiplierAt, squareRead}
 use Rattle.residual.specs.Residual.{squareAt}
 use Rattle.residual.specs.Built.{withScaleIn, Reads, added, lessWhere}
 use Rattle.residual.proofs.Bounds.{small}
-use Rattle.residual.proofs.Adds.{added-signed}
+use Rattle.residual.proofs.Adds.{added-signed, row-command}
+use Rattle.residual.proofs.Table.{signedForm}
 use Rattle.residual.proofs.ByCommand.{holdsR, table-multiplier, table-square, bounded-R}
 use Rattle.residual.proofs.Midway.{Midway, started, reads_on, multiplier-allowed, multiplier-on, square-on, ends-here}
 
@@ -92,15 +96,23 @@ module _ {reg : Register} {sch : Scheme} {s : List ℕ} (h : Ready reg sch s) wh
 
       -- one command more
 
+      form-filled : (x : IsMultiplier (get_or s at 0)) (u : List ℤ) → u ≡ addForm (side_in reg sch) (signedForm reg sch (multiplierAt s at)) t → Filled reg sch s lent u (at + commandSize (get_or s at 0))
+      form-filled x u e = record {
+        certificate = _;
+        midway = multiplier-on reg sch s h.reads f.midway x;
+        holds =
+            e ∙ rw (is-side reg sch, f.holds)
+            (table-multiplier (coefficient reg) reg sch f.certificate lent fits h.scheme.within.products (multiplierAt s at) (multiplier-allowed reg sch s h.reads f.midway x));
+      }
+
       pub multiplier-filled : (x : 0x31 ≤ get_or s at 0) (y : get_or s at 0 ≤ 0x39) (u : List ℤ) → u ≡ addForm (side_in reg sch) (added reg sch (named_of (multiplierAt s at))) t →
           Filled reg sch s lent u (at + commandSize (get_or s at 0))
-      multiplier-filled x y u e = record {
-        certificate = _;
-        midway = multiplier-on reg sch s h.reads f.midway x y;
-        holds =
-            e ∙ rw (is-side reg sch, f.holds, added-signed reg sch (multiplierAt s at))
-            (table-multiplier (coefficient reg) reg sch f.certificate lent fits h.scheme.within.products (multiplierAt s at) (multiplier-allowed reg sch s h.reads f.midway x y));
-      }
+      multiplier-filled x y u e = form-filled (inl (x, y)) u (rw (added-signed reg sch (multiplierAt s at)) at e)
+
+      pub row-filled : get_or s at 0 ≡ 0x3B → (u : List ℤ) → u ≡ addForm (side_in reg sch) (times (multiplierAt s at).m (rowFormOf reg (get_or (multiplierAt s at).names 0 0) (get_or (multiplierAt s at).names 1 0))) t →
+          Filled reg sch s lent u (at + commandSize (get_or s at 0))
+      unfolding multiplierAt
+      row-filled c u e = form-filled (inr c) u (rw (row-command reg sch (multiplierAt s at) (multiplier-allowed reg sch s h.reads f.midway (inr c)) c).adds e)
 
       pub square-filled : get_or s at 0 ≡ 0x3A → (u : List ℤ) → u ≡ lessWhere (side_in reg sch) (squareAt (squareRead s at)) (λ i j. true) t → Filled reg sch s lent u (at + commandSize (get_or s at 0))
       square-filled c u e = record {
@@ -111,7 +123,7 @@ module _ {reg : Register} {sch : Scheme} {s : List ℕ} (h : Ready reg sch s) wh
 
       -- at the end, which there is
 
-      pub filled-last : (0x31 ≤ get_or s at 0 → get_or s at 0 ≤ 0x39 → ⊥) → (get_or s at 0 ≡ 0x3A → ⊥) → (p : Progress Certificate) (e : ℕ) → commandsInJob reg sch s ≡ accepted p e →
+      pub filled-last : (IsMultiplier (get_or s at 0) → ⊥) → (get_or s at 0 ≡ 0x3A → ⊥) → (p : Progress Certificate) (e : ℕ) → commandsInJob reg sch s ≡ accepted p e →
           t ≡ holdsR (coefficient reg) reg sch p.parsed lent
       filled-last x y p e d =
           let q = ends-here reg sch s h.reads f.midway x y in

@@ -10,6 +10,7 @@ pub mod RowBounds
 pub mod Subtracted
 pub mod Squares
 pub mod Adds
+pub mod RowAdded
 pub mod ByCommand
 pub mod Midway
 pub mod Filled

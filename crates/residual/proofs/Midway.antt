@@ -18,8 +18,8 @@ use Rattle.certificate.specs.Certificate.{Certificate, fresh, withMultiplier, wi
 use Rattle.certificate.specs.Rules.{byKey}
 use Rattle.certificate.specs.Format.{commandSize, certificateRows, certificatePart, commandsInJob}
 use Rattle.certificate.specs.Within.{Allowed, SquareAllowed, Within}
-use Rattle.certificate.specs.Answer.{multiplierAt, squareRead}
-use Rattle.certificate.proofs.Rows.{only-first}
+use Rattle.certificate.specs.Answer.{IsMultiplier, multiplierAt, squareRead}
+use Rattle.certificate.proofs.Rows.{kinds-between, only-first}
 use Rattle.certificate.proofs.Entries.{all-less}
 use Rattle.certificate.proofs.Laws.{laws}
 use Rattle.certificate.proofs.Going as C
@@ -88,9 +88,9 @@ module _ (reg : Register) (sch : Scheme) (s : List ℕ) where
       command-room = room reg sch g.going (inside g.going) (unrefused g.going)
 
       -- a multiplier command
-      module _ (x : 0x31 ≤ get_or s at 0) (y : get_or s at 0 ≤ 0x39) where
+      module _ (x : IsMultiplier (get_or s at 0)) where
         pub multiplier-on : Midway (withMultiplier k (multiplierAt s at)) (at + commandSize (get_or s at 0))
-        multiplier-on = midway (λ z. omega arith) (C.multiplier-on reg sch g.going (inside g.going) (unrefused g.going) x y)
+        multiplier-on = midway (λ z. omega arith) (C.multiplier-on reg sch g.going (inside g.going) (unrefused g.going) x)
 
         pub multiplier-allowed : Allowed reg sch (multiplierAt s at)
         multiplier-allowed = (all-less (Allowed reg sch) k.multipliers (multiplierAt s at) multiplier-on.within.multipliers).1
@@ -104,11 +104,11 @@ module _ (reg : Register) (sch : Scheme) (s : List ℕ) where
         square-allowed = (all-less (SquareAllowed reg.choices sch) k.squares (squareRead s at) square-on.within.squares).1
 
       -- no other byte is left than the end's
-      pub ends-here : (0x31 ≤ get_or s at 0 → get_or s at 0 ≤ 0x39 → ⊥) → (get_or s at 0 ≡ 0x3A → ⊥) → commandsInJob reg sch s ≡ accepted (reached 0x3F k) (at + commandSize (get_or s at 0))
+      pub ends-here : (IsMultiplier (get_or s at 0) → ⊥) → (get_or s at 0 ≡ 0x3A → ⊥) → commandsInJob reg sch s ≡ accepted (reached 0x3F k) (at + commandSize (get_or s at 0))
       unfolding row_of
       ends-here x y = C.ends reg sch g.going (inside g.going) (unrefused g.going) (λ l u. none (ℕ_discrete (get_or s at 0) 0x30) (ℕ_discrete (get_or s at 0) 0x3A) l u)
         where
-          none : Dec (get_or s at 0 ≡ 0x30) → Dec (get_or s at 0 ≡ 0x3A) → 0x30 ≤ get_or s at 0 → get_or s at 0 ≤ 0x3A → ⊥
+          none : Dec (get_or s at 0 ≡ 0x30) → Dec (get_or s at 0 ≡ 0x3A) → 0x30 ≤ get_or s at 0 → get_or s at 0 ≤ 0x3B → ⊥
           none (yes e) f l u = g.after_first (eqb-true g.previous 0 (rw e at (here reg sch g.going (inside g.going) (unrefused g.going)).place))
           none (no e) (yes f) l u = y f
-          none (no e) (no f) l u = x (omega arith) (omega arith)
+          none (no e) (no f) l u = x (kinds-between _ (omega arith) u f)

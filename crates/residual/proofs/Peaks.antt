@@ -1,23 +1,28 @@
--- No number in the table of a multiplier command's form is above 2 in absolute value, and its norm is at most 8.
-use Prim.Native.Nat.{ℕ, zero, suc, ◌≤◌}
-use mathlib.Core.Path.{◌≡◌}
+-- How large the numbers in the table of a multiplier command's form are: of `31` to `39` at most 2, of `3B` at most the highest sum of
+-- a row; and so m times as large.
+use Prim.Native.Nat.{ℕ, zero, suc, ◌*◌, ◌≤◌, ◌<◌}
+use mathlib.Core.Path.{◌≡◌, sym, ◌∙◌}
 use mathlib.Core.Bool.{Bool, true, false, cond, ◌&&◌}
 use mathlib.Core.List.{[], ◌∷◌}
 use native.Mathlib.Omega.{arith}
-use lib.Dec.{T, eqb, eqb→eq, leb→le}
-use lib.IntN.{ℤ, pos, negsuc, nat_abs, ◌+ℤ◌, ◌-ℤ◌, ◌*ℤ◌}
+use lib.Dec.{T, eqb, ltb, eqb→eq, ltb→lt}
+use lib.IntN.{ℤ, pos, negsuc, neg_ℤ, nat_abs, ◌+ℤ◌, ◌-ℤ◌, ◌*ℤ◌}
 use lib.Signed.{◌≤ℤ◌, le_z_yes}
 use Rattle.integers.specs.Lists.{All}
 use Rattle.integers.proofs.Diff.{diff₁, diff₂, diff₃, diffs}
 use Rattle.integers.proofs.Lists.{T_and, ◌▹◌}
 use Rattle.forms.specs.Form.{Form, mono, place, entry}
 use Rattle.forms.proofs.Form.{unit, entry-[], entry-∷, entry-single, entry-difference, without-i, without-j, without-q, square-same}
-use Rattle.forms.proofs.Store.{norm1}
+use Rattle.register.specs.Limits.{maxRowTotal}
+use Rattle.register.specs.Register.{rowTotal, rowEntry}
 use Rattle.register.specs.declared.Register.{Register}
 use Rattle.scheme.specs.declared.Scheme.{Scheme}
-use Rattle.scheme.specs.Scheme.{left, right}
+use Rattle.scheme.specs.Scheme.{left, right, variables}
 use Rattle.certificate.specs.Certificate.{Multiplier}
-use Rattle.certificate.specs.Rules.{Rule, minus1, rules, ruleOf}
+use Rattle.certificate.specs.Limits.{maxMultiplier, maxRowMultiplier}
+use Rattle.certificate.specs.Rules.{Rule, minus1, nullRule, rowRule, subtractedRule, rules, ruleOf}
+use Rattle.certificate.proofs.RowForm.{row-low}
+use Rattle.residual.specs.Limits.{maxByCommand}
 use Rattle.residual.proofs.Rules.{rule-all}
 
 -- ---- one product of places
@@ -44,11 +49,20 @@ bits-apart true false n = record { low = le_z_yes tt; high = le_z_yes tt }
 bits-apart false true n = record { low = le_z_yes tt; high = le_z_yes tt }
 bits-apart false false n = record { low = le_z_yes tt; high = le_z_yes tt }
 
-linear-range : (v i j : ℕ) → Range (pos 1) (unit 0 (place v) i j)
+apart-range : (p q i j : ℕ) → (p ≡ q → ⊥) → Range (pos 1) (unit p q i j)
 unfolding unit
-linear-range v i j =
-    bits-apart (eqb i 0 && eqb j (place v)) (eqb i (place v) && eqb j 0)
-    (λ s t. omega (arith, eqb→eq i 0 ((T_and (eqb i 0) (eqb j (place v))).0 s).0, eqb→eq i (place v) ((T_and (eqb i (place v)) (eqb j 0)).0 t).0))
+apart-range p q i j d =
+    bits-apart (eqb i p && eqb j q) (eqb i q && eqb j p)
+    (λ s t. d (sym (eqb→eq i p ((T_and (eqb i p) (eqb j q)).0 s).0) ∙ eqb→eq i q ((T_and (eqb i q) (eqb j p)).0 t).0))
+
+linear-range : (v i j : ℕ) → Range (pos 1) (unit 0 (place v) i j)
+linear-range v i j = apart-range 0 (place v) i j (λ e. omega arith)
+
+pub apart-small : (p q i j : ℕ) → (p ≡ q → ⊥) → nat_abs (unit p q i j) ≤ 1
+apart-small p q i j d = let u = apart-range p q i j d in go (unit p q i j) u.low u.high
+  where
+    go : (u : ℤ) → pos 0 ≤ℤ u → u ≤ℤ pos 1 → nat_abs u ≤ 1
+    go = diff₁ _ λ p q. simp diffs (omega arith)
 
 -- ---- the rules' forms
 
@@ -96,24 +110,56 @@ flat-together k l r i j =
     go zero (suc j) = beside 0 (suc j) (without-j 0 0 0 (suc j) (λ e. omega arith) (λ e. omega arith))
     go (suc i) j = beside (suc i) j (without-i 0 0 (suc i) j (λ e. omega arith) (λ e. omega arith))
 
+-- ---- with the range of m
+
 pub record Low (ρ : Rule) : Type 0 where
-  pub entries : (i j : ℕ) → nat_abs (entry ρ.form i j) ≤ 2
-  pub norm : norm1 ρ.form ≤ 8
+  -- |m| is at most so much, and each number of the form's table
+  pub most : ℕ
+  pub peak : ℕ
+  pub ranged : (m : ℤ) → ρ.least ≤ℤ m → m ≤ℤ ρ.most → nat_abs m ≤ most
+  pub entries : T ρ.there → (i j : ℕ) → nat_abs (entry ρ.form i j) ≤ peak
+  pub within : most * peak ≤ maxByCommand
 
-rules-low : (r : Register) (s : Scheme) (i j k l : ℕ) → All (λ e. Low e.1) (rules r s i j k l)
-unfolding norm1
-rules-low r s i j k l =
-    record { entries = flat-difference (place i) (place i) 0 (place i); norm = leb→le _ _ tt }
-    ▹ record { entries = flat-difference 0 (place i) (place i) (place j); norm = leb→le _ _ tt }
-    ▹ record { entries = flat-difference 0 (place i) (place j) (place k); norm = leb→le _ _ tt }
-    ▹ record { entries = flat-difference (place i) (place j) (place k) (place l); norm = leb→le _ _ tt }
-    ▹ record { entries = flat-difference 0 (place (left r.choices s i)) 0 (place i); norm = leb→le _ _ tt }
-    ▹ record { entries = flat-difference 0 (place (right r.choices s i)) 0 (place i); norm = leb→le _ _ tt }
-    ▹ record { entries = flat-together i (left r.choices s i) (right r.choices s i); norm = leb→le _ _ tt }
-    ▹ record { entries = flat-single 0 (place i); norm = leb→le _ _ tt }
-    ▹ record { entries = flat-difference 0 0 0 (place i); norm = leb→le _ _ tt }
-    ▹ tt
+-- the entries of a row and its sum, so that twice an entry is at most the highest sum
+pub record RowSmall (r : Register) (k : ℕ) : Type 0 where
+  pub entries : (j : ℕ) → j < r.choices → nat_abs (rowEntry r k j) * 2 ≤ maxRowTotal
+  pub sum : nat_abs (rowTotal r k) ≤ maxRowTotal
 
-pub rule-low : (r : Register) (s : Scheme) (t : Multiplier) → Low (ruleOf r s t)
-unfolding norm1
-rule-low r s = rule-all Low r s (record { entries = λ i j. rw (entry-[] i j) (omega arith); norm = leb→le _ _ tt }) (rules-low r s)
+null-low : {there ordered fits : Bool} {form : Form} → Flat form → Low (nullRule there ordered fits form)
+null-low f = record { most = maxMultiplier; peak = 2; ranged = go; entries = λ _. f; within = omega arith }
+  where
+    go : (m : ℤ) → neg_ℤ (pos maxMultiplier) ≤ℤ m → m ≤ℤ pos maxMultiplier → nat_abs m ≤ maxMultiplier
+    go = diff₁ _ λ p q. simp diffs (omega arith)
+
+subtracted-low : {there : Bool} {form : Form} → Flat form → Low (subtractedRule there form)
+subtracted-low f = record { most = maxMultiplier; peak = 2; ranged = go; entries = λ _. f; within = omega arith }
+  where
+    go : (m : ℤ) → pos 0 ≤ℤ m → m ≤ℤ pos maxMultiplier → nat_abs m ≤ maxMultiplier
+    go = diff₁ _ λ p q. simp diffs (omega arith)
+
+row-rule-low : {there : Bool} {form : Form} → (T there → (i j : ℕ) → nat_abs (entry form i j) ≤ maxRowTotal) → Low (rowRule there form)
+row-rule-low f = record { most = maxRowMultiplier; peak = maxRowTotal; ranged = go; entries = f; within = omega arith }
+  where
+    go : (m : ℤ) → neg_ℤ (pos maxRowMultiplier) ≤ℤ m → m ≤ℤ pos maxRowMultiplier → nat_abs m ≤ maxRowMultiplier
+    go = diff₁ _ λ p q. simp diffs (omega arith)
+
+module _ (r : Register) (s : Scheme) (rows : (k : ℕ) → k < r.rows → RowSmall r k) where
+  rules-low : (i j k l : ℕ) → All (λ e. Low e.1) (rules r s i j k l)
+  rules-low i j k l =
+      null-low (flat-difference (place i) (place i) 0 (place i))
+      ▹ null-low (flat-difference 0 (place i) (place i) (place j))
+      ▹ null-low (flat-difference 0 (place i) (place j) (place k))
+      ▹ null-low (flat-difference (place i) (place j) (place k) (place l))
+      ▹ subtracted-low (flat-difference 0 (place (left r.choices s i)) 0 (place i))
+      ▹ subtracted-low (flat-difference 0 (place (right r.choices s i)) 0 (place i))
+      ▹ subtracted-low (flat-together i (left r.choices s i) (right r.choices s i))
+      ▹ subtracted-low (flat-single 0 (place i))
+      ▹ subtracted-low (flat-difference 0 0 0 (place i))
+      ▹ row-rule-low (λ h.
+      let (p, _) = (T_and (ltb i r.rows) (ltb j (variables r.choices s))).0 h in
+      let f = rows i (ltb→lt i r.rows p) in
+      row-low r.choices (rowEntry r i) (rowTotal r i) j maxRowTotal f.entries f.sum)
+      ▹ tt
+
+  pub rule-low : (t : Multiplier) → Low (ruleOf r s t)
+  rule-low = rule-all Low r s (null-low (λ i j. rw (entry-[] i j) (omega arith))) rules-low

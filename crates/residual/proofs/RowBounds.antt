@@ -1,5 +1,6 @@
 -- How large the numbers of R become, with every difference on the way.
 use Prim.Native.Nat.{ℕ, ◌*◌, ◌≤◌, ◌<◌}
+use mathlib.Core.Path.{◌≡◌, refl}
 use mathlib.Core.List.{List}
 use native.Mathlib.Omega.{arith}
 use lib.IntN.{ℤ, nat_abs, ◌-ℤ◌}
@@ -15,7 +16,7 @@ use Rattle.scheme.specs.declared.Scheme.{Scheme}
 use Rattle.scheme.specs.Scheme.{side}
 use Rattle.scheme.specs.Valid as S
 use Rattle.certificate.specs.Limits.{maxSquares, squareEntries}
-use Rattle.residual.specs.Limits.{maxSquareAt, maxR}
+use Rattle.residual.specs.Limits.{maxSquareAt, maxByCommand, maxGEntry, maxB, maxR}
 use Rattle.certificate.specs.Certificate.{Square, Certificate}
 use Rattle.residual.specs.Residual.{shifted, R, squareAt}
 use Rattle.certificate.specs.Within.{SquareAllowed, Within}
@@ -54,3 +55,21 @@ module _ (c : ℕ → ℤ) (r : Register) (s : Scheme) (k : Certificate) (low : 
   pub R-small : (i j : ℕ) → i < side n s → j < side n s → nat_abs (R c r s k i j) ≤ maxR
   unfolding R
   R-small = rest-small k.squares within.squares within.squares-within
+
+-- ---- the bounds, as numbers
+
+pub g-is : maxGEntry ≡ 2_000_000_000
+g-is = refl
+
+pub by-command-is : maxByCommand ≡ 4_064_000_000_000
+by-command-is = refl
+
+pub B-is : maxB ≡ 14_161_536_000_000_000
+B-is = refl
+
+pub R-is : maxR ≡ 20_561_536_000_000_000
+R-is = refl
+
+-- the sum of a row's 65 numbers
+pub row-sum-is : squareEntries * maxR ≡ 1_336_499_840_000_000_000
+row-sum-is = refl

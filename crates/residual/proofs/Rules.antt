@@ -1,6 +1,6 @@
 -- The rules of the multiplier commands are sound: null forms are 0 at the filling that a plan induces, of the plans that P holds
 -- of, and the forms subtracted are at least 0 at every point of the relaxation, as their multipliers are. Each names places of
--- the table only. Our rules are sound over every plan.
+-- the table only. Our rules are sound over the plans that fit, and where the register has no rows over every plan.
 use Prim.Native.Nat.{ℕ, ◌≤◌, ◌<◌}
 use mathlib.Core.Path.{◌≡◌, sym, ◌∙◌, ap}
 use mathlib.Core.List.{List, [], ◌∷◌}
@@ -14,18 +14,24 @@ use Rattle.integers.specs.Integer.{bit}
 use Rattle.integers.specs.Lists.{All}
 use Rattle.integers.proofs.Lists.{T_and, cond_cases, ◌▹◌}
 use Rattle.integers.proofs.Order.{≤ℤ-trans, *ℤ-nonneg, pos-nonneg}
+use Rattle.integers.proofs.Ring.{one-*ℤ}
 use Rattle.sets.specs.Sets.{isSubset}
 use Rattle.sets.proofs.Sets.{proper-union}
 use Rattle.forms.specs.Form.{Form, place, places, value, times}
 use Rattle.forms.proofs.Form.{Below, below-[], below-times, value-[], value-times}
+use Rattle.register.specs.Register.{rowTotal, rowEntry}
 use Rattle.register.specs.declared.Register.{Register}
+use Rattle.plan.specs.Fits.{Fits}
+use Rattle.plan.proofs.Fits.{every-fits}
 use Rattle.scheme.specs.declared.Scheme.{Scheme}
 use Rattle.scheme.specs.Scheme.{left, right, variables, side}
 use Rattle.scheme.specs.Filling.{factor, induced}
 use Rattle.scheme.specs.Valid.{Products}
 use Rattle.scheme.proofs.Filling.{one-variable, two-variables}
 use Rattle.certificate.specs.Certificate.{Multiplier}
-use Rattle.certificate.specs.Rules.{Rule, nullRule, subtractedRule, noRule, rules, ruleOf, byKey}
+use Rattle.certificate.specs.RowForm.{rowFormOf}
+use Rattle.certificate.specs.Rules.{Rule, nullRule, rowRule, subtractedRule, noRule, rules, ruleOf, byKey}
+use Rattle.certificate.proofs.RowForm.{below-row, row-induced-0}
 use Rattle.residual.specs.Residual.{nullPart, subtractedPart}
 use Rattle.residual.specs.Relaxed.{Relaxed}
 use Rattle.certificate.specs.Within.{Allowed}
@@ -36,12 +42,16 @@ use Rattle.residual.proofs.Forms.{null-difference, nonneg-difference, nonneg-sin
 -- what is proved of each rule
 pub record Sound (P : ℕ → Type 0) (n : ℕ) (s : Scheme) (ρ : Rule) : Type 0 where
   pub below : T ρ.there → Below (side n s) ρ.form
-  pub null : T ρ.null → T ρ.fits → (plan : ℕ) → P plan → value (factor (induced n s plan)) ρ.form ≡ pos 0
+  pub null : T ρ.null → T ρ.there → T ρ.fits → (plan : ℕ) → P plan → value (factor (induced n s plan)) ρ.form ≡ pos 0
   pub above : T (not ρ.null) → pos 0 ≤ℤ ρ.least
   pub nonneg : T (not ρ.null) → T ρ.there → (D : ℕ) (y : ℕ → ℤ) → Relaxed n s D y → pos 0 ≤ℤ value (places (pos D) y) ρ.form
 
 abbrev pub EveryPlan : ℕ → Type 0
 EveryPlan plan = Unit {0}
+
+-- over plans with P, and so over those of them with Q
+pub sound-among : {P Q : ℕ → Type 0} {n : ℕ} {s : Scheme} {ρ : Rule} → ((plan : ℕ) → Q plan → P plan) → Sound P n s ρ → Sound Q n s ρ
+sound-among q h = record { below = h.below; null = λ u t f plan x. h.null u t f plan (q plan x); above = h.above; nonneg = h.nonneg }
 
 -- what holds of each row holds of what is looked up
 byKey-all {ℓ} : {A : Type ℓ} (P : A → Type 0) (none : A) (k : ℕ) (es : List (ℕ × A)) → P none → All (λ e. P e.1) es → P (byKey none k es)
@@ -77,18 +87,36 @@ module _ (r : Register) (s : Scheme) where
 
   module _ (products : Products n s) where
     null-rule : {there ordered fits : Bool} {form : Form} → (T there → Below (side n s) form) → (T fits → (plan : ℕ) → value (factor (induced n s plan)) form ≡ pos 0) →
-        Sound EveryPlan n s (nullRule there ordered fits form)
-    null-rule b v = record { below = b; null = λ _ f plan _. v f plan; above = λ t. absurd t; nonneg = λ t. absurd t }
+        Sound (Fits r) n s (nullRule there ordered fits form)
+    null-rule b v = record { below = b; null = λ _ _ f plan _. v f plan; above = λ t. absurd t; nonneg = λ t. absurd t }
+
+    -- of a row: its form is 0 where the plan fits the row
+    row-rule : (k i : ℕ) → Sound (Fits r) n s (rowRule (ltb k r.rows && ltb i (variables n s)) (rowFormOf r k i))
+    row-rule k i = record {
+      below = λ h. let (_, l) = both h in below-row n (rowEntry r k) (rowTotal r k) i (omega arith) (omega (arith, ltb→lt i (variables n s) l));
+      null = λ _ h _ plan f.
+          let (l, _) = both h in
+          let y = factor (induced n s plan) in
+          once (value y (rowFormOf r k i)) (sym (value-times y (pos 1) (rowFormOf r k i)) ∙ row-induced-0 n (rowEntry r k) (rowTotal r k) i s plan (pos 1) (f k (ltb→lt k r.rows l)));
+      above = λ t. absurd t;
+      nonneg = λ t. absurd t;
+    }
+      where
+        both : T (ltb k r.rows && ltb i (variables n s)) → T (ltb k r.rows) × T (ltb i (variables n s))
+        both = (T_and (ltb k r.rows) (ltb i (variables n s))).0
+
+        once : (x : ℤ) → pos 1 *ℤ x ≡ pos 0 → x ≡ pos 0
+        once x e = sym (one-*ℤ x) ∙ e
 
     subtracted-rule : {there : Bool} {form : Form} → (T there → Below (side n s) form) → (T there → (D : ℕ) (y : ℕ → ℤ) → Relaxed n s D y → pos 0 ≤ℤ value (places (pos D) y) form) →
-        Sound EveryPlan n s (subtractedRule there form)
+        Sound (Fits r) n s (subtractedRule there form)
     subtracted-rule b v = record { below = b; null = λ t. absurd t; above = λ _. ≤ℤ_refl (pos 0); nonneg = λ _. v }
 
     -- 1 where the plan feeds all of a set, else 0
     abbrev fed : ℕ → ℕ → ℤ
     fed plan e = bit (isSubset e plan)
 
-    rules-sound : (i j k l : ℕ) → All (λ e. Sound EveryPlan n s e.1) (rules r s i j k l)
+    rules-sound : (i j k l : ℕ) → All (λ e. Sound (Fits r) n s e.1) (rules r s i j k l)
     rules-sound i j k l =
         null-rule (λ h. omega (arith, ltb→lt))
         (λ _ plan. null-difference _ (place i) (place i) 0 (place i) (two-variables n s plan i i ∙ ap (fed plan) (or_self _) ∙ sym (one-variable n s plan i)))
@@ -108,10 +136,15 @@ module _ (r : Register) (s : Scheme) where
         (λ h D y relaxed. nonneg-single _ (place i) (pos-nonneg D) (relaxed.low i (ltb→lt _ _ h)))
         ▹ subtracted-rule (λ h. omega (arith, ltb→lt))
         (λ h D y relaxed. nonneg-difference _ 0 (place i) (pos-nonneg D) (relaxed.high i (ltb→lt _ _ h)))
+        ▹ row-rule i j
         ▹ tt
 
-    pub rule-sound : (t : Multiplier) → Sound EveryPlan n s (ruleOf r s t)
-    rule-sound = rule-all (Sound EveryPlan n s) r s (null-rule (λ _. below-[]) (λ f. absurd f)) rules-sound
+    pub rule-sound : (t : Multiplier) → Sound (Fits r) n s (ruleOf r s t)
+    rule-sound = rule-all (Sound (Fits r) n s) r s (null-rule (λ _. below-[]) (λ f. absurd f)) rules-sound
+
+    -- where the register has no rows, over every plan
+    pub rule-sound-every : r.rows ≡ 0 → (t : Multiplier) → Sound EveryPlan n s (ruleOf r s t)
+    rule-sound-every e t = sound-among (λ plan _. every-fits r e plan) (rule-sound t)
 
   -- ---- what a multiplier adds and subtracts, where the rules are sound over the plans with P
 
@@ -138,7 +171,7 @@ module _ (r : Register) (s : Scheme) where
     unfolding nullPart
     null-0 plan h =
         cond_cases (λ f. value (factor (induced n s plan)) f ≡ pos 0) rule.null (times t.m rule.form) []
-        (λ u. value-times (factor (induced n s plan)) t.m rule.form ∙ ap (λ x. t.m *ℤ x) ((sound t).null u passes.fits plan h) ∙ *ℤ-zero t.m)
+        (λ u. value-times (factor (induced n s plan)) t.m rule.form ∙ ap (λ x. t.m *ℤ x) ((sound t).null u passes.there passes.fits plan h) ∙ *ℤ-zero t.m)
         (λ _. value-[] (factor (induced n s plan)))
 
     -- a subtracted form is never negative on the relaxation

@@ -33,7 +33,7 @@ withScaleIn s = withScale (natAt 4 s 1) (intAt w64 s 5)
 unfoldable pub signed_of : Rule → ℤ → Form
 signed_of rule m = times (cond rule.null m (neg_ℤ m)) rule.form
 
--- a multiplier command of a register with n choices, whose variables are there, and whose multiplier is within its limit
+-- a multiplier command, `31` to `39`, of a register with n choices, whose variables are there, and whose multiplier is within its limit
 pub record Addable (n : ℕ) (s : Scheme) (t : Named) : Type 0 where
   pub reg : Register
   pub choices-is : reg.choices ≡ n

@@ -11,7 +11,7 @@ use Rattle.scheme.specs.Function.{g}
 use Rattle.certificate.specs.Certificate.{Multiplier, Square, Certificate}
 use Rattle.certificate.specs.Rules.{minus1, ruleOf}
 
--- a multiplier command's null form m times, or its subtracted form m times
+-- a multiplier command's null form, a row's form among them, m times, or its subtracted form m times
 
 unfoldable pub nullPart : Register → Scheme → Multiplier → Form
 nullPart reg sch t = let rule = ruleOf reg sch t in cond rule.null (times t.m rule.form) []
@@ -27,7 +27,7 @@ nullForms reg sch ts = flat_map (nullPart reg sch) ts
 unfoldable pub subtractedForms : Register → Scheme → List Multiplier → Form
 subtractedForms reg sch ts = flat_map (subtractedPart reg sch) ts
 
--- the reformulated function: s·g with its null forms
+-- the reformulated function: s·g with its null forms, the rows' among them
 unfoldable pub reformulated : (ℕ → ℤ) → Register → Scheme → Certificate → Form
 reformulated c reg sch cert = times (pos cert.scale) (g c reg sch) ++ nullForms reg sch cert.multipliers
 

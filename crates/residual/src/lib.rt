@@ -2,19 +2,21 @@
 
 #![tactic(auto)]
 
-ghost use Rattle.std.specs.Prelude.{◌≡◌, true, ℕ, ◌≤◌, ◌<◌, eqb, pos, nat_abs, ◌*ℤ◌, [], ◌∷◌, length};
+ghost use Rattle.std.specs.Prelude.{◌≡◌, true, ℕ, ◌+◌, ◌-◌, ◌≤◌, ◌<◌, eqb, pos, nat_abs, ◌*ℤ◌, [], ◌∷◌, length};
 ghost use Rattle.forms.specs.Form.{mono, times};
 ghost use Rattle.forms.specs.Store.{addForm, Bounded, maxBeforeMonomial, maxBeforeForm};
 ghost use Rattle.scheme.specs.Scheme.{maxProducts, side as side_of};
 ghost use Rattle.scheme.specs.Valid.{Products, Valid as SchemeValid};
 ghost use Rattle.wire.specs.Part.{accepted};
 ghost use Rattle.wire.specs.Rows.{Progress};
-ghost use Rattle.register.specs.Register.{coefficient};
+ghost use Rattle.register.specs.Limits.{maxChoices, maxRows};
+ghost use Rattle.register.specs.Register.{coefficient, entryIn, totalIn};
 ghost use Rattle.register.specs.Valid.{Valid as RegisterValid};
 ghost use Rattle.forms.specs.Table.{tableNumbers, withTable};
 ghost use Rattle.certificate.specs.Certificate.{Certificate};
 ghost use Rattle.certificate.specs.Format.{commandsInJob};
-ghost use Rattle.certificate.specs.Limits.{maxMultiplier, maxWeight, squareEntries, maxEntry};
+ghost use Rattle.certificate.specs.Limits.{maxMultiplier, maxRowMultiplier, maxWeight, squareEntries, maxEntry};
+ghost use Rattle.certificate.specs.RowForm.{rowForm};
 ghost use Rattle.certificate.specs.Rules.{minus1};
 ghost use Rattle.residual.specs.Limits.{maxRowFactor};
 ghost use Rattle.residual.specs.Residual.{R, squareAt};
@@ -77,7 +79,34 @@ fn subtract_product_form(table: &mut [i64], side: usize, scheme: Scheme, n: usiz
     }
 }
 
-// Adds a multiplier command's form m times, or subtracts it m times. There are n choices.
+// Adds the form of a row m times, with a variable: for each of n choices the product of the two, times the row's entry for the choice, and
+// the variable times the row's sum, which is subtracted.
+fn add_row_form(
+    table: &mut [i64],
+    side: usize,
+    n: usize,
+    sums: &[i16; Register::MAX_ROWS],
+    entries: &[i8; Register::MAX_ROWS * Register::ROW_ENTRIES],
+    row: usize,
+    variable: usize,
+    m: i64,
+)
+    requires row_within { row < maxRows }
+    requires places { (n < side) × (variable + 1 < side) }
+    requires few { n ≤ maxChoices }
+    requires m_bound { nat_abs m ≤ maxRowMultiplier }
+    requires bounded { Bounded side maxBeforeForm table.old }
+    ensures { table.new ≡ addForm side (times m (rowForm n (entryIn entries.now row) (totalIn sums.now row) variable)) table.old }
+{
+    let start = row * Register::ROW_ENTRIES;
+    let z = variable + 1;
+    for j in 0..n {
+        add_multiple(table, side, z, j + 1, m, entries[start + j] as i64);
+    }
+    add_multiple(table, side, 0, z, m, -(sums[row] as i64));
+}
+
+// Adds the form of a multiplier command, `31` to `39`, m times, or subtracts it m times. There are n choices.
 pub fn add_multiplier(table: &mut [i64], side: usize, scheme: Scheme, n: usize, t: Multiplier)
     requires products { Products n scheme }
     requires products_le_max_products { scheme.products ≤ maxProducts }
@@ -205,6 +234,22 @@ pub fn put_residual(bytes: &[u8], register: Register, scheme: Scheme, table: &mu
             0x3a => {
                 let square = square_at(bytes, at);
                 subtract_square(table, side, square);
+                at += command_size(command);
+            }
+            0x3b => {
+                let form = multiplier_at(bytes, at);
+                let row = form.i as usize;
+                let variable = form.j as usize;
+                add_row_form(
+                    table,
+                    side,
+                    register.choices,
+                    &register.row_totals,
+                    &register.row_entries,
+                    row,
+                    variable,
+                    form.m,
+                );
                 at += command_size(command);
             }
             _ => {

@@ -33,7 +33,7 @@ with-sum a e = record {
   small = a.small;
   listed = a.listed;
   few = a.few;
-  fits = a.fits;
+  inside = a.inside;
   block = a.block;
   aligned = a.aligned;
   sum_is = e ∙ a.sum_is;
@@ -93,7 +93,7 @@ module _ {masks : List ℕ} {coefficients : List ℤ} {counts : List ℕ} {n fed
     small = a.small;
     listed = λ i h. a.listed i (omega arith);
     few = omega (arith, a.few);
-    fits = omega (arith, a.fits, (halves n l).1);
+    inside = omega (arith, a.inside, (halves n l).1);
     block = 2 * q;
     aligned = fed-is ∙ rw (pow-suc 2 k) (omega arith);
     sum_is = ap (λ x. x -ℤ changeTo termLost masks coefficients (k * maxTerms) (fed + 2 ^ k + (2 ^ k - 1)) (get_or counts k 0)) sum_is ∙ ap (λ y. S (suc k) (q * 2 ^ suc k) -ℤ y) lost-is ∙ moved _ _ _ (unfed-sum k q a.base a.terms) ∙ ap (S k) (sym fed-is);
@@ -109,7 +109,7 @@ module _ {masks : List ℕ} {coefficients : List ℤ} {counts : List ℕ} {n fed
     small = a.small;
     listed = λ i h. a.listed i (omega arith);
     few = omega (arith, a.few);
-    fits = omega (arith, a.fits, (halves n l).1);
+    inside = omega (arith, a.inside, (halves n l).1);
     block = 2 * q + 1;
     aligned = ap (λ x. x + 2 ^ k) fed-is ∙ rw (pow-suc 2 k) (omega arith);
     sum_is = ap (λ x. x +ℤ changeTo termGained masks coefficients (k * maxTerms) (fed + 2 ^ k) (get_or counts k 0)) sum_is ∙ ap (λ y. S (suc k) (q * 2 ^ suc k) +ℤ y) gained-is ∙ fed-sum k q a.base a.terms ∙ ap (λ x. S k (x + 2 ^ k)) (sym fed-is);
@@ -195,8 +195,8 @@ empty-sum base r n =
     let e : 2 ^ n - 1 ≡ 0 + (2 ^ n - 1) = omega arith in
     ap (sum_to base r r.count 0) e
 
-pub empty-fits : (n : ℕ) → n ≤ maxChoices → 0 + 2 ^ n ≤ 2 ^ maxChoices
-empty-fits n l = omega (arith, pow_mono l)
+pub empty-inside : (n : ℕ) → n ≤ maxChoices → 0 + 2 ^ n ≤ 2 ^ maxChoices
+empty-inside n l = omega (arith, pow_mono l)
 
 pub empty-aligned : (n : ℕ) → 0 ≡ 0 * 2 ^ n
 empty-aligned n = omega arith
@@ -212,6 +212,6 @@ empty-at {n = n} base r within small listed few e = record {
   few = few;
   block = 0;
   aligned = empty-aligned n;
-  fits = empty-fits n few;
+  inside = empty-inside n few;
   sum_is = e;
 }

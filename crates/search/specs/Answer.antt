@@ -5,16 +5,17 @@ use Rattle.register.specs.declared.Register.{Register}
 use Rattle.register.specs.Register.{coefficient}
 use Rattle.register.specs.Opening.{openRegister}
 use Rattle.search.specs.declared.SearchAnswer.{SearchAnswer}
+use Rattle.plan.specs.Fits.{fits}
 use Rattle.search.specs.Sum.{sum}
 use Rattle.search.specs.Walk.{Best, start, walk}
 
 -- the walk from the empty partial plan on, all choices undecided; c t is the coefficient of term t
 unfoldable pub search : (ℕ → ℤ) → Register → Best
-search c r = walk (sum c r) r.choices 0 start
+search c r = walk (sum c r) (fits r) r.choices 0 start
 
--- 14 where the visits are more than the limit. No command causes it: part and position are 0
+-- 14 where the visits are more than the limit, and then 16 where no plan fits. No command causes them: part and position are 0
 abbrev pub withinLimit : ℕ → Best → Outcome Best
-withinLimit limit w = cond (ltb limit w.visits) (refuses 14 0 0) (accepts w)
+withinLimit limit w = cond (ltb limit w.visits) (refuses 14 0 0) (cond w.met (accepts w) (refuses 16 0 0))
 
 -- of the bytes of part 1, a run by itself, and the limit: first what refuses the register
 abbrev pub searchOutcome : List ℕ → ℕ → Outcome Best

@@ -105,10 +105,10 @@ pub record At (masks : List ℕ) (coefficients : List ℤ) (counts : List ℕ) (
   -- no fed choice is undecided, and none is past the last
   pub block : ℕ
   pub aligned : fed ≡ block * 2 ^ d
-  pub fits : fed + 2 ^ d ≤ 2 ^ maxChoices
+  pub inside : fed + 2 ^ d ≤ 2 ^ maxChoices
   pub sum_is : s ≡ lentSum base terms d fed
 
--- the cost that the code keeps while no full plan has been met, above every sum
+-- the cost that the code keeps while no full plan that fits has been met, above every sum
 abbrev pub noCost : ℕ
 noCost = 2 ^ 63 - 1
 
@@ -116,6 +116,7 @@ noCost = 2 ^ 63 - 1
 pub record Holds (w : Best) (plan : ℕ) (cost : ℤ) : Type 0 where
   pub some : w.met ≡ true → (plan ≡ w.plan) × (cost ≡ w.cost)
   pub none : w.met ≡ false → cost ≡ pos noCost
+  pub below : w.met ≡ true → nat_abs cost < noCost
   pub within : nat_abs cost ≤ noCost
 
 -- what the code has come to, where the walk w may pass the limit: w itself, or more visits than the limit, by one

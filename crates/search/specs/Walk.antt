@@ -1,8 +1,8 @@
 -- The walk over partial plans: choices from the highest number down, unfed first.
-use Rattle.std.specs.Prelude.{ℕ, zero, suc, ◌+◌, ◌^◌, Bool, true, false, cond, ◌&&◌, ℤ, pos}
+use Rattle.std.specs.Prelude.{ℕ, zero, suc, ◌+◌, ◌^◌, Bool, true, false, cond, not, ◌&&◌, ◌||◌, ℤ, pos}
 use Rattle.std.specs.Int.Signed.{le_z}
 
--- what it has come to: whether a full plan has been met, the best plan with its cost, and the number of partial plans visited,
+-- what it has come to: whether a full plan that fits has been met, the best plan with its cost, and the number of partial plans visited,
 -- which may pass 32 bits
 pub record Best : Type 0 where
   pub met : Bool
@@ -18,16 +18,16 @@ start = record { met = false; plan = 0; cost = pos 0; visits = 0 }
 abbrev pub visited : Best → Best
 visited w = record { met = w.met; plan = w.plan; cost = w.cost; visits = w.visits + 1 }
 
--- a full plan becomes the best
+-- a full plan that fits becomes the best
 abbrev pub better : ℕ → ℤ → Best → Best
 better plan cost w = record { met = true; plan = plan; cost = cost; visits = w.visits }
 
--- a full plan has been met, and the sum is at least the best cost so far
+-- a full plan that fits has been met, and the sum is at least the best cost so far
 abbrev pub isLeft : ℤ → Best → Bool
 isLeft s w = w.met && le_z w.cost s
 
--- from the partial plan with d choices undecided and `fed` fed, by the sum at each. It is visited; where it is not left, a full
--- plan becomes the best, and of another choice d − 1 is decided, unfed and then fed
-unfoldable pub walk : (ℕ → ℕ → ℤ) → (d fed : ℕ) → Best → Best
-walk sum zero fed w = cond (isLeft (sum 0 fed) w) (visited w) (better fed (sum 0 fed) (visited w))
-walk sum (suc d) fed w = cond (isLeft (sum (suc d) fed) w) (visited w) (walk sum d (fed + 2 ^ d) (walk sum d fed (visited w)))
+-- from the partial plan with d choices undecided and `fed` fed, by the sum at each and a test of full plans. It is visited; where it
+-- is not left, a full plan that fits becomes the best, and of another choice d − 1 is decided, unfed and then fed
+unfoldable pub walk : (ℕ → ℕ → ℤ) → (ℕ → Bool) → (d fed : ℕ) → Best → Best
+walk sum fits zero fed w = cond (isLeft (sum 0 fed) w || not (fits fed)) (visited w) (better fed (sum 0 fed) (visited w))
+walk sum fits (suc d) fed w = cond (isLeft (sum (suc d) fed) w) (visited w) (walk sum fits d (fed + 2 ^ d) (walk sum fits d fed (visited w)))

@@ -6,12 +6,14 @@ mod lists;
 mod terms;
 
 ghost use Rattle.std.specs.Prelude.{◌≡◌, ◌^◌, ◌≤◌, ◌<◌, nat_abs};
-ghost use Rattle.register.specs.Limits.{maxBase, maxChoices};
+ghost use Rattle.register.specs.Limits.{maxBase, maxChoices, maxRows};
+ghost use Rattle.plan.specs.Fits.{storedFits};
 ghost use Rattle.search.specs.Walk.{Best, start, walk};
 ghost use Rattle.search.specs.Answer.{refusedSearch, searchAnswer};
 ghost use Rattle.search.specs.Lent.{termsOf, Small, lentSum, At, Holds, UpTo};
 
 use lists::{change_of, list_all};
+use plan::fits_rows;
 use register::Register;
 use terms::sum_at;
 
@@ -24,7 +26,7 @@ pub struct Found {
 }
 
 impl Found {
-    // The cost that is kept while no full plan has been met, above every sum.
+    // The cost that is kept while no full plan that fits has been met, above every sum.
     const NO_COST: i64 = 9_223_372_036_854_775_807;
 }
 
@@ -73,13 +75,17 @@ impl SearchAnswer {
 }
 
 // The walk from a partial plan on, up to the first visit that passes the limit. Sets and amounts are the masks and the
-// coefficients of the listed terms, the sum is that at the partial plan, plan and cost are the best so far. Returns how many
-// partial plans are then visited. The promise is for every base cost and terms that have this sum and these lists, and for every
-// walk so far that has come to this.
+// coefficients of the listed terms, the sum is that at the partial plan, plan and cost are the best so far. A full plan counts where
+// it fits the rows, of so many choices. Returns how many partial plans are then visited. The promise is for every base cost and terms
+// that have this sum and these lists, and for every walk so far that has come to this.
 fn walk<'a>(
     sets: &'a [u32; TermLists::PLACES],
     amounts: &'a [i32; TermLists::PLACES],
     counts: &'a [usize; Register::MAX_CHOICES],
+    row_totals: &'a [i16; Register::MAX_ROWS],
+    row_entries: &'a [i8; Register::MAX_ROWS * Register::ROW_ENTRIES],
+    rows: usize,
+    choices: usize,
     limit: u64,
     undecided: usize,
     fed: u32,
@@ -89,11 +95,12 @@ fn walk<'a>(
     cost: &mut i64,
 ) -> u64
     requires at { At sets.now amounts.now counts.now undecided fed sum }
+    requires lent_rows { (rows ≤ maxRows) × (choices ≤ maxChoices) }
     requires visits_le_limit { visits ≤ limit }
     requires limit_bound { limit < 2 ^ 32 }
     ensures { (a : At sets.now amounts.now counts.now undecided fed sum) (w : Best) →
         Holds w plan.old cost.old → w.visits ≡ visits →
-        UpTo limit (walk (lentSum a.base a.terms) undecided fed w) plan.new cost.new result }
+        UpTo limit (walk (lentSum a.base a.terms) (storedFits row_totals.now row_entries.now rows choices) undecided fed w) plan.new cost.new result }
 {
     let here = visits + 1;
     if limit < here {
@@ -103,6 +110,9 @@ fn walk<'a>(
         return here;
     }
     if undecided == 0 {
+        if !fits_rows(row_totals, row_entries, rows, choices, fed) {
+            return here;
+        }
         *plan = fed;
         *cost = sum;
         return here;
@@ -121,13 +131,39 @@ fn walk<'a>(
     let unfed_sum = sum - change.lost as i64;
     let fed_sum = sum + change.gained as i64;
     let unfed = walk(
-        sets, amounts, counts, limit, k, fed, unfed_sum, here, plan, cost,
+        sets,
+        amounts,
+        counts,
+        row_totals,
+        row_entries,
+        rows,
+        choices,
+        limit,
+        k,
+        fed,
+        unfed_sum,
+        here,
+        plan,
+        cost,
     );
     if limit < unfed {
         return unfed;
     }
     walk(
-        sets, amounts, counts, limit, k, more, fed_sum, unfed, plan, cost,
+        sets,
+        amounts,
+        counts,
+        row_totals,
+        row_entries,
+        rows,
+        choices,
+        limit,
+        k,
+        more,
+        fed_sum,
+        unfed,
+        plan,
+        cost,
     )
 }
 
@@ -137,13 +173,17 @@ fn search_from<'a>(
     coefficients: &'a [i32; Register::MAX_TERMS],
     base: i32,
     terms: usize,
+    row_totals: &'a [i16; Register::MAX_ROWS],
+    row_entries: &'a [i8; Register::MAX_ROWS * Register::ROW_ENTRIES],
+    rows: usize,
     n: usize,
     limit: u32,
 ) -> Found
     requires base_bound { nat_abs base ≤ maxBase }
     requires small { Small (termsOf terms masks.now coefficients.now) }
+    requires rows_le_max_rows { rows ≤ maxRows }
     requires n_le_max_choices { n ≤ maxChoices }
-    ensures { UpTo limit (walk (lentSum base (termsOf terms masks.now coefficients.now)) n 0 start) result.plan result.cost result.visits }
+    ensures { UpTo limit (walk (lentSum base (termsOf terms masks.now coefficients.now)) (storedFits row_totals.now row_entries.now rows n) n 0 start) result.plan result.cost result.visits }
 {
     let mut sets = [0u32; TermLists::PLACES];
     let mut amounts = [0i32; TermLists::PLACES];
@@ -156,6 +196,10 @@ fn search_from<'a>(
         &sets,
         &amounts,
         &counts,
+        row_totals,
+        row_entries,
+        rows,
+        n,
         limit as u64,
         n,
         0,
@@ -171,7 +215,8 @@ fn search_from<'a>(
     }
 }
 
-// The cheapest plan of a register, from the bytes of part 1, or refusal 14 where the visits would pass the limit.
+// The cheapest plan of a register that fits, from the bytes of part 1, or refusal 14 where the visits would pass the limit, and then
+// 16 where no plan fits.
 #[unsafe(no_mangle)]
 pub extern "C" fn feedcheck_search(register: &[u8], limit: u32) -> SearchAnswer
     ensures { result ≡ searchAnswer register.now limit }
@@ -185,10 +230,23 @@ pub extern "C" fn feedcheck_search(register: &[u8], limit: u32) -> SearchAnswer
     let base = record.base;
     let terms = record.terms;
     let n = record.choices;
-    let found = search_from(&record.masks, &record.coefficients, base, terms, n, limit);
+    let found = search_from(
+        &record.masks,
+        &record.coefficients,
+        base,
+        terms,
+        &record.row_totals,
+        &record.row_entries,
+        record.rows,
+        n,
+        limit,
+    );
     let most = limit as u64;
     if most < found.visits {
         return SearchAnswer::refused(14, 0, 0);
+    }
+    if found.cost == Found::NO_COST {
+        return SearchAnswer::refused(16, 0, 0);
     }
     SearchAnswer {
         number: 0,

@@ -15,6 +15,7 @@ use Rattle.bound.specs.Bound.{bound}
 use Rattle.penalty.specs.Answer.{withPenalty}
 use Rattle.plan.specs.declared.CostAnswer.{CostAnswer}
 use Rattle.plan.specs.Plan.{cost}
+use Rattle.plan.specs.Fits.{Fits}
 use Rattle.job.specs.declared.Tally.{Tally}
 use Rattle.job.specs.declared.JobAnswer.{JobAnswer}
 use Rattle.job.specs.Outcome.{Parts}
@@ -59,11 +60,12 @@ pub record OfJob (job : List ℕ) (b z : ℤ) : Type 0 where
   pub bound-is : b ≡ bound parts.certificate
   pub cost-is : z ≡ cost (coefficient parts.register) parts.register parts.plan
 
--- part 1, and a limit that the visits of the rule do not pass: the plan that the rule comes to, its cost and the visits
+-- part 1, and a limit that the visits of the rule do not pass: the plan that the rule comes to, which fits, its cost and the visits
 pub record OfSearch (register : List ℕ) (limit plan : ℕ) (z : ℤ) (visits : ℕ) : Type 0 where
   pub reg : Register
   pub part-1 : Part1 register reg
   pub plan-is : plan ≡ (search (coefficient reg) reg).plan
+  pub fits : Fits reg plan
   pub cost-is : z ≡ (search (coefficient reg) reg).cost
   pub visits-are : visits ≡ (search (coefficient reg) reg).visits
   pub within : visits ≤ limit

@@ -9,7 +9,7 @@ use Rattle.register.specs.declared.RegisterAnswer.{RegisterAnswer}
 use Rattle.register.specs.Limits.{maxChoices, maxTerms, maxWindows, maxBase, maxTank, usualDay, longDay}
 use Rattle.register.specs.Register.{tank, minute, mask, coefficient, windowFrom, windowTo, setLength}
 use Rattle.register.specs.Valid.{DayLength, Before, Terms, MayFeed, windowAt}
-use Rattle.register.specs.Encoding.{Encodes, encodeBase, encodeLength, encodeChoice, encodeWithLength, encodeWithoutLength, encodeRegister, SaysLength, lengthIn}
+use Rattle.register.specs.Encoding.{Encodes, encodeBase, encodeLength, encodeChoice, encodeWindows, encodeChoices, encodeTerms, encodeWithLength, encodeWithoutLength, encodeRegister, SaysLength, lengthIn, SaysRow}
 use Rattle.register.specs.Ranges.{OutOfRange}
 use Rattle.register.specs.Format.{registerInJob, registerByItself}
 use Rattle.register.specs.Answer.{refusedAnswer, registerAnswer}
@@ -21,7 +21,7 @@ use Rattle.soundness.specs.Calls.{RegisterCall, CostCall, JobCall, ListingCall}
 use Rattle.soundness.specs.Parts.{Part1, Part4}
 use Rattle.soundness.specs.Acceptance.{registerAccepted}
 use Rattle.soundness.specs.Jobs.{Accepted, Listed, shown, AcceptedJob}
-use Rattle.soundness.specs.Windows.{Feeding}
+use Rattle.soundness.specs.Windows.{Feeding, withoutRows}
 
 -- ---- what is accepted
 
@@ -57,7 +57,8 @@ pub record UsualDay (answer : RegisterAnswer) : Type 0 where
   pub accepted : answer.number ≡ 0 → answer.register.day_length ≡ usualDay
   pub refused : (answer.number ≡ 0 → ⊥) → answer.register.day_length ≡ 0
 
--- the conditions on a register before there were day lengths: on the ranges of a choice and of a window, and on the whole
+-- the conditions on a register before there were day lengths, which was before there were rows: on the ranges of a choice and of a
+-- window, and on the whole
 
 pub record ChoiceBefore (t m : ℕ) : Type 0 where
   pub tank-above : 1 ≤ t
@@ -86,6 +87,10 @@ pub record ValidBeforeLengths (r : Register) : Type 0 where
   pub windows : Table maxWindows r.windows (windowAt r) (λ c. WindowBefore c.0 c.1 c.2) (λ c d. Before (c.0, c.1) (d.0, d.1))
   pub may-feed : (i : ℕ) → i < r.choices → MayFeed r.windows (windowAt r) (tank r i) (minute r i)
   pub some-choice : 1 ≤ r.choices
+
+-- and its bytes: `10`, each `13`, each `11`, each `12`, `1F`
+abbrev pub bytesBeforeLengths : Register → List ℕ
+bytesBeforeLengths r = encodeBase r.base ++ encodeWindows r ++ encodeChoices r ++ encodeTerms r ++ (0x1F ∷ [])
 
 -- ---- the promises
 
@@ -116,14 +121,15 @@ pub record LengthsKept (registerCall : RegisterCall) (costCall : CostCall) (jobC
   -- the usual length may be said or not: the register is the same
   pub said-or-not : (reg : Register) → reg.day_length ≡ usualDay →
       (registerCall (encodeWithLength reg) ≡ registerAccepted reg) ↔ (registerCall (encodeWithoutLength reg) ≡ registerAccepted reg)
-  -- bytes that say no length are answered as they were, accepted or refused, with the usual one
-  pub read-as-before : (register : List ℕ) → (SaysLength register → ⊥) →
-      (registerCall register ≡ registerAnswer (byItselfBeforeLengths register)) × UsualDay (registerCall register)
+  -- bytes that say no length have the usual one, with rows or without
+  pub usual : (register : List ℕ) → (SaysLength register → ⊥) → UsualDay (registerCall register)
+  -- and are answered as they were, accepted or refused, where they say no row, which came later
+  pub read-as-before : (register : List ℕ) → (SaysLength register → ⊥) → (SaysRow register → ⊥) → registerCall register ≡ registerAnswer (byItselfBeforeLengths register)
 
--- A register that says no length is what it was, of no call in particular: each call reads part 1 at the front of a job or by itself,
--- and what is said of part 1 has its earlier form.
+-- A register that says no length and no row is what it was, of no call in particular: each call reads part 1 at the front of a job or
+-- by itself, and what is said of part 1 has its earlier form.
 pub record AsBeforeLengths : Type 0 where
-  pub in-job : (s : List ℕ) → (SaysLength s → ⊥) → registerInJob s ≡ inJobBeforeLengths s
-  pub by_itself : (s : List ℕ) → (SaysLength s → ⊥) → registerByItself s ≡ byItselfBeforeLengths s
+  pub in-job : (s : List ℕ) → (SaysLength s → ⊥) → (SaysRow s → ⊥) → registerInJob s ≡ inJobBeforeLengths s
+  pub by_itself : (s : List ℕ) → (SaysLength s → ⊥) → (SaysRow s → ⊥) → registerByItself s ≡ byItselfBeforeLengths s
   pub part-1 : (register : List ℕ) (reg : Register) → (SaysLength register → ⊥) →
-      Part1 register reg ↔ (ValidBeforeLengths reg × (reg.day_length ≡ usualDay) × (register ≡ encodeWithoutLength reg))
+      Part1 register (withoutRows reg) ↔ (ValidBeforeLengths reg × (reg.day_length ≡ usualDay) × (register ≡ bytesBeforeLengths reg))

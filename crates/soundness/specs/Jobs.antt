@@ -6,6 +6,7 @@ use Rattle.forms.specs.Table.{tableNumbers}
 use Rattle.register.specs.declared.Register.{Register}
 use Rattle.register.specs.Register.{coefficient}
 use Rattle.plan.specs.Plan as P
+use Rattle.plan.specs.Fits.{Fits}
 use Rattle.job.specs.declared.Tally.{Tally}
 use Rattle.job.specs.declared.JobAnswer.{JobAnswer}
 use Rattle.job.specs.Outcome.{Parts}
@@ -53,8 +54,11 @@ module _ (jobCall : JobCall) (listingCall : ListingCall) where
     pub conditions : Valid parts
     pub bytes : Bytes job → Encodes parts job
     pub no_other : Bytes job → (others : Parts) → Valid others → Encodes others job → others ≡ parts
-    -- no plan of its register costs less than the bound
-    pub bounds : (plan : P.Plan parts.register.choices) → (answered job table tally).bound ≤ℤ planCost parts.register plan.fed
+    -- its plan fits the rows of its register
+    pub fits : Fits parts.register parts.plan
+    -- no plan of its register that fits costs less than the bound, and without rows none at all
+    pub bounds : (plan : P.Plan parts.register.choices) → Fits parts.register plan.fed → (answered job table tally).bound ≤ℤ planCost parts.register plan.fed
+    pub bounds-every : parts.register.rows ≡ 0 → (plan : P.Plan parts.register.choices) → (answered job table tally).bound ≤ℤ planCost parts.register plan.fed
     -- the cost is that of its plan
     pub cost-is : (answered job table tally).cost ≡ planCost parts.register parts.plan
     -- the gap says how far the cost is above the bound

@@ -14,6 +14,8 @@ use Rattle.certificate.specs.Certificate.{Certificate}
 use Rattle.bound.specs.Valid as C
 use Rattle.certificate.specs.Encoding.{Encodes}
 use Rattle.residual.specs.Residual.{R}
+use Rattle.plan.specs.Fits.{Fits}
+use Rattle.plan.specs.Valid as P
 use Rattle.plan.specs.Encoding as PE
 
 -- part 1
@@ -31,10 +33,14 @@ pub record Part3 (reg : Register) (sch : Scheme) (certificate : List ℕ) (cert 
   pub conditions : C.Valid (coefficient reg) reg sch cert
   pub bytes : Encodes cert certificate
 
--- part 4: each choice that is fed is one of the register's
+-- part 4: each choice that is fed is one of the register's, and the plan fits the register's rows
 pub record Part4 (reg : Register) (plan : List ℕ) (fed : ℕ) : Type 0 where
-  pub conditions : fed < 2 ^ reg.choices
+  pub conditions : P.Valid reg fed
   pub bytes : PE.Encodes reg fed plan
+
+-- no plan of the register's choices fits its rows
+abbrev pub NoneFit : Register → Type 0
+NoneFit reg = (plan : ℕ) → plan < 2 ^ reg.choices → Fits reg plan → ⊥
 
 -- R of a certificate at the front of a lent table
 abbrev pub withR : Register → Scheme → Certificate → List ℤ → List ℤ

@@ -1,7 +1,7 @@
 -- What a refusal says and hands back, of every call: which part it is, that the parts before it are right, that number and position
 -- are those of the first command of the part that is not right, and within it the lowest number (`wire/specs/Refused`,
--- `bound/specs/Refused`), that the answer's other fields are 0, and what table and buffer then hold. 10, 11, 12 and 14, which
--- no wrong command causes, have cases of their own. The bytes settle number and position: `refused-iff` in `wire/proofs/Lowest`.
+-- `bound/specs/Refused`), that the answer's other fields are 0, and what table and buffer then hold. 10, 11, 12, 14 and
+-- 16, which no wrong command causes, have cases of their own. The bytes settle number and position: `refused-iff` in `wire/proofs/Lowest`.
 use Rattle.std.specs.Prelude.{ℕ, ◌+◌, ◌≤◌, ◌<◌, ◌≡◌, ◌⊎◌, List, ◌++◌, ℤ, pos, length}
 use Rattle.std.proofs.Common.{inl, inr}
 use Rattle.wire.specs.Number.{Bytes}
@@ -29,7 +29,7 @@ use Rattle.job.specs.Outcome.{outcome, tableAfter}
 use Rattle.listing.specs.Listing.{listing}
 use Rattle.search.specs.Answer.{search}
 use Rattle.soundness.specs.Calls.{RegisterCall, SchemeCall, CostCall, PenaltyCall, CheckCall, PlainCall, BuildCall, JobCall, ListingCall, SearchCall}
-use Rattle.soundness.specs.Parts.{Part1, Part2, Part3, withR}
+use Rattle.soundness.specs.Parts.{Part1, Part2, Part3, NoneFit, withR}
 
 -- ---- the parts before the one that is refused
 
@@ -123,6 +123,15 @@ module _ (number part at : ℕ) where
     pub position-is : at ≡ 0
     pub before : Before2 register
     pub passed : limit < (search (coefficient before.reg) before.reg).visits
+
+  -- the search, with a register that is right and visits within the limit: no plan fits the rows
+  pub record NoneFits (register : List ℕ) (limit : ℕ) : Type 0 where
+    pub number_is : number ≡ 16
+    pub part-is : part ≡ 0
+    pub position-is : at ≡ 0
+    pub before : Before2 register
+    pub within : (search (coefficient before.reg) before.reg).visits ≤ limit
+    pub none : NoneFit before.reg
 
 -- ---- a job, refused with this number in this part at this position of the job
 
@@ -272,7 +281,8 @@ SearchRefusals call = (register : List ℕ) → Bytes register → (limit : ℕ)
     × (a.cost ≡ pos 0)
     × (a.visits ≡ 0)
     × (InRegister a.number a.part a.position register
-    ⊎ PastLimit a.number a.part a.position register limit)
+    ⊎ (PastLimit a.number a.part a.position register limit
+    ⊎ NoneFits a.number a.part a.position register limit))
 
 -- every call
 pub record Refusals (register : RegisterCall) (scheme : SchemeCall) (builder : BuildCall) (cost : CostCall) (penalty : PenaltyCall) (check : CheckCall) (plain : PlainCall) (job : JobCall) (lines : ListingCall) (cheapest : SearchCall) : Type 0 where

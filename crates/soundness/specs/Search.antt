@@ -1,20 +1,21 @@
 -- R-3, the cheapest plan: what a farm is promised of it, as a predicate of any search call, any cost call and any check. The rule is
--- `search` in `search/specs`. A register that is right is answered what the rule comes to (`Acceptance`), or 14 (`Refusals`). The
--- register is the one that our reader answers, as in `Demand3`.
+-- `search` in `search/specs`. A register that is right is answered what the rule comes to (`Acceptance`), or 14 or 16 (`Refusals`).
+-- The register is the one that our reader answers, as in `Demand3`.
 use Rattle.std.specs.Prelude.{ℕ, suc, ◌^◌, ◌≤◌, ◌<◌, ◌≡◌, ◌↔◌, false, List, T, ℤ, pos, ◌≤ℤ◌}
 use Rattle.sets.specs.Sets.{isMember}
 use Rattle.wire.specs.Number.{Bytes}
 use Rattle.register.specs.declared.Register.{Register}
 use Rattle.register.specs.Register.{coefficient}
 use Rattle.plan.specs.Plan as P
+use Rattle.plan.specs.Fits.{Fits}
 use Rattle.plan.specs.Encoding.{Encodes}
 use Rattle.search.specs.declared.SearchAnswer.{SearchAnswer}
 use Rattle.search.specs.Sum.{possible, negative, termSum, sum}
 use Rattle.search.specs.Answer.{search}
 use Rattle.soundness.specs.Calls.{CostCall, CheckCall, SearchCall}
-use Rattle.soundness.specs.Parts.{Part1}
+use Rattle.soundness.specs.Parts.{Part1, NoneFit}
 use Rattle.soundness.specs.Acceptance.{costAccepted}
-use Rattle.soundness.specs.Demand3.{registerOf, Plan, cost}
+use Rattle.soundness.specs.Demand3.{registerOf, Plan, cost, FitsPlan}
 use Rattle.soundness.specs.Windows.{KeepsWindows}
 use Rattle.soundness.specs.DayLengths.{FeedsOfDay}
 
@@ -26,18 +27,23 @@ visitsOf reg = (search (coefficient reg) reg).visits
 abbrev pub limitPassed : SearchAnswer
 limitPassed = record { number = 14; part = 0; position = 0; plan = 0; cost = pos 0; visits = 0 }
 
+-- 16: the same
+abbrev pub noneFits : SearchAnswer
+noneFits = record { number = 16; part = 0; position = 0; plan = 0; cost = pos 0; visits = 0 }
+
 -- ---- the answer
 
 -- what an answer says that is no refusal
 pub record Cheapest (costCall : CostCall) (register : List ℕ) (limit : ℕ) (a : SearchAnswer) : Type 0 where
   pub part-1 : Bytes register → Part1 register (registerOf register)
-  -- the plan is one of the register's, and the cost is its cost
+  -- the plan is one of the register's and fits its rows, and the cost is its cost
   pub plan : Plan register
   pub plan-is : plan.fed ≡ a.plan
+  pub fits : Fits (registerOf register) a.plan
   pub cost-is : cost register plan ≡ a.cost
-  -- no plan of the register costs less, and one that costs as much has no smaller number
-  pub least : (other : Plan register) → a.cost ≤ℤ cost register other
-  pub smallest : (other : Plan register) → cost register other ≡ a.cost → a.plan ≤ other.fed
+  -- no plan of the register that fits costs less, and one that fits and costs as much has no smaller number
+  pub least : (other : Plan register) → FitsPlan register other → a.cost ≤ℤ cost register other
+  pub smallest : (other : Plan register) → FitsPlan register other → cost register other ≡ a.cost → a.plan ≤ other.fed
   -- it feeds inside the windows of each tank, and only in minutes of the day
   pub keeps : KeepsWindows (registerOf register) a.plan
   pub of-day : FeedsOfDay (registerOf register) a.plan
@@ -50,14 +56,43 @@ pub record Cheapest (costCall : CostCall) (register : List ℕ) (limit : ℕ) (a
   pub visits-few : suc a.visits ≤ 2 ^ suc (registerOf register).choices
   pub visits-within : a.visits ≤ limit
 
+-- of a register without rows, over every plan, as it stood before there were rows
+pub record CheapestEvery (costCall : CostCall) (register : List ℕ) (limit : ℕ) (a : SearchAnswer) : Type 0 where
+  pub part-1 : Bytes register → Part1 register (registerOf register)
+  pub plan : Plan register
+  pub plan-is : plan.fed ≡ a.plan
+  pub cost-is : cost register plan ≡ a.cost
+  pub least : (other : Plan register) → a.cost ≤ℤ cost register other
+  pub smallest : (other : Plan register) → cost register other ≡ a.cost → a.plan ≤ other.fed
+  pub keeps : KeepsWindows (registerOf register) a.plan
+  pub of-day : FeedsOfDay (registerOf register) a.plan
+  pub costed : (bytes : List ℕ) → Encodes (registerOf register) a.plan bytes → costCall register bytes ≡ costAccepted a.cost
+  pub costed-least : (bytes : List ℕ) → (costCall register bytes).number ≡ 0 → a.cost ≤ℤ (costCall register bytes).cost
+  pub visits-are : a.visits ≡ visitsOf (registerOf register)
+  pub visits-some : 1 ≤ a.visits
+  pub visits-few : suc a.visits ≤ 2 ^ suc (registerOf register).choices
+  pub visits-within : a.visits ≤ limit
+
 pub record SearchSound (searchCall : SearchCall) (costCall : CostCall) (checkCall : CheckCall) : Type 0 where
   pub cheapest : (register : List ℕ) (limit : ℕ) → (searchCall register limit).number ≡ 0 → Cheapest costCall register limit (searchCall register limit)
   -- 14 just where the visits of the rule are more than the limit; as many as the limit are accepted
   pub past-limit : (register : List ℕ) (reg : Register) (limit : ℕ) → Part1 register reg → (searchCall register limit ≡ limitPassed) ↔ (limit < visitsOf reg)
   -- the empty partial plan is always visited: the limit 0 is always passed
   pub limit-0 : (register : List ℕ) (reg : Register) → Part1 register reg → searchCall register 0 ≡ limitPassed
-  -- a limit of 2 to the power (n + 1), less 1, is never passed: with up to 31 choices some limit of 32 bits is enough
-  pub enough : (register : List ℕ) (reg : Register) (limit : ℕ) → Part1 register reg → 2 ^ suc reg.choices ≤ suc limit → (searchCall register limit).number ≡ 0
+  -- a limit of 2 to the power (n + 1), less 1, is never passed: with up to 31 choices some limit of 32 bits is enough, where some
+  -- plan fits
+  pub enough : (register : List ℕ) (reg : Register) (limit : ℕ) → Part1 register reg → (some : P.Plan reg.choices) → Fits reg some.fed →
+      2 ^ suc reg.choices ≤ suc limit → (searchCall register limit).number ≡ 0
+  -- 16 just where no plan fits and the visits of the rule are within the limit
+  pub none : (register : List ℕ) (reg : Register) (limit : ℕ) → Part1 register reg → (searchCall register limit ≡ noneFits) ↔ (NoneFit reg × (visitsOf reg ≤ limit))
+  -- where no plan fits, nothing is ever left: the visits are the most that there can be
+  pub none-visits : (reg : Register) → NoneFit reg → suc (visitsOf reg) ≡ 2 ^ suc reg.choices
+  -- so with 32 choices and no plan that fits they pass every limit of 32 bits
+  pub none-32 : (register : List ℕ) (reg : Register) (limit : ℕ) → Part1 register reg → reg.choices ≡ 32 → NoneFit reg → limit < 2 ^ 32 → searchCall register limit ≡ limitPassed
+  -- without rows every plan counts, and some limit is enough for every register, as before there were rows
+  pub cheapest-every : (register : List ℕ) (limit : ℕ) → (registerOf register).rows ≡ 0 → (searchCall register limit).number ≡ 0 →
+      CheapestEvery costCall register limit (searchCall register limit)
+  pub enough-every : (register : List ℕ) (reg : Register) (limit : ℕ) → Part1 register reg → reg.rows ≡ 0 → 2 ^ suc reg.choices ≤ suc limit → (searchCall register limit).number ≡ 0
   -- no certificate that the check accepts with the register has a bound above the cost found
   pub bounds : (register scheme certificate : List ℕ) (table : List ℤ) (limit : ℕ) →
       (checkCall register scheme certificate table).0.number ≡ 0 → (searchCall register limit).number ≡ 0 →

@@ -1,15 +1,15 @@
 -- R-1, feeding windows: what a farm is promised of them, as a predicate of any such calls. What an accepted plan feeds lies inside the
 -- windows, and windows refuse nothing more. The other calls take a register just where the register call does: `Acceptance`,
 -- `Refusals` and `Writers` say it of parts that meet their conditions.
-use Rattle.std.specs.Prelude.{ℕ, ◌<◌, ◌≤◌, ◌≡◌, ◌↔◌, true, List, [], ◌∷◌, ◌++◌, ℤ, pos, nat_abs, get_or, replicate}
+use Rattle.std.specs.Prelude.{ℕ, ◌*◌, ◌<◌, ◌≤◌, ◌≡◌, ◌↔◌, true, List, [], ◌∷◌, ◌++◌, ℤ, pos, nat_abs, get_or, replicate}
 use Rattle.integers.specs.Lists.{Column}
 use Rattle.sets.specs.Sets.{isMember}
 use Rattle.wire.specs.Number.{Bytes}
 use Rattle.register.specs.declared.Register.{Register}
-use Rattle.register.specs.Limits.{maxChoices, maxTerms, maxWindows, maxBase, usualDay}
-use Rattle.register.specs.Register.{tank, minute, mask, coefficient, windowTank, setWindows}
+use Rattle.register.specs.Limits.{maxChoices, maxTerms, maxWindows, maxRows, rowEntries, maxBase, usualDay}
+use Rattle.register.specs.Register.{tank, minute, mask, coefficient, windowTank, setWindows, setRows}
 use Rattle.register.specs.Valid.{Choices, Terms, Windows, Inside, windowAt}
-use Rattle.register.specs.Encoding.{Encodes, encodeBase, encodeChoices, encodeTerms, encodeRegister, SaysLength}
+use Rattle.register.specs.Encoding.{Encodes, encodeBase, encodeChoices, encodeTerms, encodeRegister, SaysLength, SaysRow}
 use Rattle.register.specs.Answer.{registerAnswer}
 use Rattle.register.specs.Format.{registerInJob, registerByItself}
 use Rattle.register.specs.BeforeWindows.{inJobBeforeWindows, byItselfBeforeWindows}
@@ -71,7 +71,11 @@ pub record WindowsRight (r : Register) : Type 0 where
 abbrev pub withoutWindows : Register → Register
 withoutWindows r = setWindows r 0 (replicate maxWindows 0) (replicate maxWindows 0) (replicate maxWindows 0)
 
--- the conditions on a register before there were windows, when each day had the usual length
+-- the same register without its rows
+abbrev pub withoutRows : Register → Register
+withoutRows r = setRows r 0 (replicate maxRows (pos 0)) (replicate (maxRows * rowEntries) (pos 0))
+
+-- the conditions on a register before there were windows, when each day had the usual length and there were no rows
 pub record ValidBeforeWindows (r : Register) : Type 0 where
   pub base : nat_abs r.base ≤ maxBase
   pub day : r.day_length ≡ usualDay
@@ -102,13 +106,14 @@ pub record WindowsKept (registerCall : RegisterCall) (costCall : CostCall) (jobC
   pub nothing-more : (register : List ℕ) (reg : Register) → Encodes reg register → (registerCall register ≡ registerAccepted reg)
       ↔ ((registerCall (encodeRegister (withoutWindows reg)) ≡ registerAccepted (withoutWindows reg)) × WindowsRight reg × ChoicesInside reg)
   -- bytes without a window, whose `13` would stand at 5, are answered as they were, accepted or refused, with no window, where they
-  -- say no day length, which came later
-  pub read-as-before : (register : List ℕ) → (get_or register 5 0 ≡ 0x13 → ⊥) → (SaysLength register → ⊥) →
+  -- say no day length and no row, which came later
+  pub read-as-before : (register : List ℕ) → (get_or register 5 0 ≡ 0x13 → ⊥) → (SaysLength register → ⊥) → (SaysRow register → ⊥) →
       (registerCall register ≡ registerAnswer (byItselfBeforeWindows register)) × (withoutWindows (registerCall register).register ≡ (registerCall register).register)
 
--- A register without windows that says no day length is what it was, of no call in particular: each call reads part 1 at the front of a job
--- or by itself, and what is said of part 1 has its earlier form.
+-- A register without windows that says no day length and no row is what it was, of no call in particular: each call reads part 1 at the
+-- front of a job or by itself, and what is said of part 1 has its earlier form.
 pub record AsBeforeWindows : Type 0 where
-  pub in-job : (s : List ℕ) → (get_or s 5 0 ≡ 0x13 → ⊥) → (SaysLength s → ⊥) → registerInJob s ≡ inJobBeforeWindows s
-  pub by_itself : (s : List ℕ) → (get_or s 5 0 ≡ 0x13 → ⊥) → (SaysLength s → ⊥) → registerByItself s ≡ byItselfBeforeWindows s
-  pub part-1 : (register : List ℕ) (reg : Register) → (SaysLength register → ⊥) → Part1 register (withoutWindows reg) ↔ (ValidBeforeWindows reg × (register ≡ bytesBeforeWindows reg))
+  pub in-job : (s : List ℕ) → (get_or s 5 0 ≡ 0x13 → ⊥) → (SaysLength s → ⊥) → (SaysRow s → ⊥) → registerInJob s ≡ inJobBeforeWindows s
+  pub by_itself : (s : List ℕ) → (get_or s 5 0 ≡ 0x13 → ⊥) → (SaysLength s → ⊥) → (SaysRow s → ⊥) → registerByItself s ≡ byItselfBeforeWindows s
+  pub part-1 : (register : List ℕ) (reg : Register) → (SaysLength register → ⊥) →
+      Part1 register (withoutWindows (withoutRows reg)) ↔ (ValidBeforeWindows reg × (register ≡ bytesBeforeWindows reg))

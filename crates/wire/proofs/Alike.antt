@@ -1,13 +1,17 @@
 -- Two parts that agree at each command of a run of bytes read it alike. So a part that got a new command is shown to read input
 -- without that command as before.
-use Prim.Native.Nat.{ℕ, ◌+◌}
+use Prim.Native.Nat.{ℕ, zero, suc, ◌+◌, ◌≤◌, ◌<◌}
+use native.Mathlib.Omega.{arith}
 use mathlib.Core.Path.{◌≡◌, refl, sym, ◌∙◌, ap}
-use mathlib.Core.Bool.{true, false, false≢true}
+use mathlib.Core.Bool.{true, false, not, ◌&&◌, ◌||◌, false≢true}
 use mathlib.Core.List.{List}
-use lib.ListN.{get_or}
-use Rattle.integers.proofs.Lists.{flag}
+use lib.Dec.{eqb}
+use lib.ListN.{length, get_or}
+use borrow.Author.Tests.{lt-ltb, eqb-false}
+use Rattle.integers.proofs.Lists.{flag, or-none}
 use Rattle.wire.specs.Checks.{refusal, commandChecks}
 use Rattle.wire.specs.Part.{Part, Reading, refused, accepted, operandsAt, size, checksAt, after_at, readFrom, readPart}
+use Rattle.wire.specs.Walk.{comesFrom, comesTo}
 use Rattle.wire.proofs.Part.{Passes, Ways, by-ways, passed-checksAt, readFrom-missing, readFrom-refused, readFrom-goes, readFrom-ends}
 
 -- Reach holds of what was read and the position past it, where the part is accepted
@@ -32,13 +36,33 @@ module _ {S : Type 0} (P Q : Part S) (Reach : S → ℕ → Type 0) where
   pub neither : {read : S} {at b : ℕ} → P.here read b ≡ false → Q.here read b ≡ false → Alike read at b
   neither e f = record { here = e ∙ sym f; same = λ t. absurd (false≢true (sym e ∙ t)) }
 
-  module _ (s : List ℕ) (alike : (read : S) (at : ℕ) → Reach read at → Alike read at (get_or s at 0)) where
-    checks-alike : (read : S) (at : ℕ) → Reach read at → refusal (checksAt P s read at) ≡ refusal (checksAt Q s read at)
+  -- at a position where they agree, both check alike and go on alike
+  module _ (s : List ℕ) (read : S) (at : ℕ) (a : Alike read at (get_or s at 0)) where
+    checks-alike : refusal (checksAt P s read at) ≡ refusal (checksAt Q s read at)
     unfolding checksAt commandChecks refusal
-    checks-alike read at r =
-        let a = alike read at r in
-        rw (← a.here) (flag (P.here read (get_or s at 0)) (λ t. rw (t, (a.same t).widths, (a.same t).checks) refl) (λ t. rw t))
+    checks-alike = rw (← a.here) (flag (P.here read (get_or s at 0)) (λ t. rw (t, (a.same t).widths, (a.same t).checks) refl) (λ t. rw t))
 
+    refused-alike : (n : ℕ) → at < length s → refusal (checksAt P s read at) ≡ n → (n ≡ 0 → ⊥) → refused n at ≡ readFrom Q s read at
+    refused-alike n l e d = sym (readFrom-refused Q s read at n l (sym checks-alike ∙ e) d)
+
+    module _ (p : Passes P s read at) where
+      at-same : Same read at (get_or s at 0)
+      at-same = a.same p.here
+
+      passes : refusal (checksAt Q s read at) ≡ 0
+      passes = sym checks-alike ∙ passed-checksAt P s read at p
+
+      after-alike : after_at Q s read at ≡ after_at P s read at
+      unfolding after_at
+      after-alike = sym (at-same.after _ ∙ ap (λ ws. Q.after read (get_or s at 0) (operandsAt ws s (at + 1))) at-same.widths)
+
+      goes-alike : (x : Reading S) → P.last (get_or s at 0) ≡ false → x ≡ readFrom Q s (after_at P s read at) (at + size P (get_or s at 0)) → x ≡ readFrom Q s read at
+      goes-alike x l k = k ∙ sym (readFrom-goes Q s read at p.inside passes (sym at-same.last ∙ l) ∙ rw (after-alike, at-same.widths))
+
+      ends-alike : P.last (get_or s at 0) ≡ true → accepted (after_at P s read at) (at + size P (get_or s at 0)) ≡ readFrom Q s read at
+      ends-alike l = sym (readFrom-ends Q s read at p.inside passes (sym at-same.last ∙ l) ∙ rw (after-alike, at-same.widths))
+
+  module _ (s : List ℕ) (alike : (read : S) (at : ℕ) → Reach read at → Alike read at (get_or s at 0)) where
     pub read_alike : P.start ≡ Q.start → Reach P.start 0 → (readPart P s ≡ readPart Q s) × Ended Reach (readPart P s)
     unfolding readPart after_at
     read_alike e r = let (k, h) = by-ways P s M ways P.start 0 r in (k ∙ ap (λ start. readFrom Q s start 0) e, h)
@@ -46,24 +70,66 @@ module _ {S : Type 0} (P Q : Part S) (Reach : S → ℕ → Type 0) where
         M : S → ℕ → Reading S → Type 0
         M read at x = Reach read at → (x ≡ readFrom Q s read at) × Ended Reach x
 
-        both : (read : S) (at : ℕ) → Passes P s read at → Reach read at → Same read at (get_or s at 0)
-        both read at p r = (alike read at r).same p.here
-
-        passes : (read : S) (at : ℕ) → Passes P s read at → Reach read at → refusal (checksAt Q s read at) ≡ 0
-        passes read at p r = sym (checks-alike read at r) ∙ passed-checksAt P s read at p
-
-        after-alike : (read : S) (at : ℕ) → Same read at (get_or s at 0) → after_at Q s read at ≡ after_at P s read at
-        after-alike read at m = sym (m.after _ ∙ ap (λ ws. Q.after read (get_or s at 0) (operandsAt ws s (at + 1))) m.widths)
-
         ways : Ways P s M
         ways = record {
           missing = λ read at l r. (sym (readFrom-missing Q s read at l), tt);
-          refuses = λ read at n l e d r. (sym (readFrom-refused Q s read at n l (sym (checks-alike read at r) ∙ e) d), tt);
+          refuses = λ read at n l e d r. (refused-alike s read at (alike read at r) n l e d, tt);
           goes = λ read at x p l rest r.
-              let m = both read at p r in
-              let (k, h) = rest (m.moves _ p.allowed) in
-              (k ∙ sym (readFrom-goes Q s read at p.inside (passes read at p r) (sym m.last ∙ l) ∙ rw (after-alike read at m, m.widths)), h);
+              let a = alike read at r in
+              let (k, h) = rest ((at-same s read at a p).moves _ p.allowed) in
+              (goes-alike s read at a p x l k, h);
           ends = λ read at p l r.
-              let m = both read at p r in
-              (sym (readFrom-ends Q s read at p.inside (passes read at p r) (sym m.last ∙ l) ∙ rw (after-alike read at m, m.widths)), m.moves _ p.allowed);
+              let a = alike read at r in
+              (ends-alike s read at a p l, (at-same s read at a p).moves _ p.allowed);
         }
+
+-- ---- parts that agree at every byte but one
+
+-- a walk by sizes from a position on does not come to a command with this byte
+pub record Avoids {S : Type 0} (P : Part S) (b : ℕ) (s : List ℕ) (at : ℕ) : Type 0 where
+  pub steps : ℕ
+  pub enough : length s ≤ at + steps
+  pub none : comesFrom P b s steps at ≡ false
+
+-- nor does it at the first command and, where that is not the last, from the next one on
+avoids-here : {S : Type 0} (P : Part S) (b : ℕ) (s : List ℕ) (at : ℕ) → at < length s → Avoids P b s at → (get_or s at 0 ≡ b → ⊥) × (P.last (get_or s at 0) ≡ false → Avoids P b s (at + size P (get_or s at 0)))
+unfolding comesFrom
+avoids-here P b s at l a = go a.steps a.enough a.none
+  where
+    c : ℕ
+    c = get_or s at 0
+
+    go : (k : ℕ) → length s ≤ at + k → comesFrom P b s k at ≡ false → (c ≡ b → ⊥) × (P.last c ≡ false → Avoids P b s (at + size P c))
+    go zero h e = absurd (omega arith)
+    go (suc k) h e =
+        let f : (eqb c b || (not (P.last c) && comesFrom P b s k (at + size P c))) ≡ false = rw (lt-ltb at (length s) l) at e in
+        let (d, n) = or-none _ _ f in
+        (eqb-false c b d, λ t. record { steps = k; enough = omega arith; none = rw t at n })
+
+-- so where a walk from the front does not, both parts read alike
+module _ {S : Type 0} (P Q : Part S) (Reach : S → ℕ → Type 0) (b : ℕ) (agree : (read : S) (at c : ℕ) → Reach read at → (c ≡ b → ⊥) → Alike P Q Reach read at c) where
+  pub read-without : (s : List ℕ) → (comesTo P b s ≡ true → ⊥) → P.start ≡ Q.start → Reach P.start 0 → (readPart P s ≡ readPart Q s) × Ended Reach (readPart P s)
+  unfolding readPart comesTo after_at
+  read-without s none e r =
+      let avoids : Avoids P b s 0 = record { steps = length s; enough = omega arith; none = flag (comesFrom P b s (length s) 0) (λ t. absurd (none t)) (λ t. t) } in
+      let (k, h) = by-ways P s M ways P.start 0 r avoids in
+      (k ∙ ap (λ start. readFrom Q s start 0) e, h)
+    where
+      M : S → ℕ → Reading S → Type 0
+      M read at x = Reach read at → Avoids P b s at → (x ≡ readFrom Q s read at) × Ended Reach x
+
+      here : (read : S) (at : ℕ) → at < length s → Reach read at → Avoids P b s at → Alike P Q Reach read at (get_or s at 0)
+      here read at l r a = agree read at (get_or s at 0) r (avoids-here P b s at l a).0
+
+      ways : Ways P s M
+      ways = record {
+        missing = λ read at l r a. (sym (readFrom-missing Q s read at l), tt);
+        refuses = λ read at n l e d r a. (refused-alike P Q Reach s read at (here read at l r a) n l e d, tt);
+        goes = λ read at x p l rest r a.
+            let h = here read at p.inside r a in
+            let (k, g) = rest ((at-same P Q Reach s read at h p).moves _ p.allowed) ((avoids-here P b s at p.inside a).1 l) in
+            (goes-alike P Q Reach s read at h p x l k, g);
+        ends = λ read at p l r a.
+            let h = here read at p.inside r a in
+            (ends-alike P Q Reach s read at h p l, (at-same P Q Reach s read at h p).moves _ p.allowed);
+      }

@@ -6,6 +6,7 @@ pub mod Sign
 pub mod Checks
 pub mod Part
 pub mod Encoding
+pub mod Many
 pub mod Lowest
 pub mod Fronts
 pub mod Prefix

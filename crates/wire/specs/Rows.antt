@@ -1,5 +1,5 @@
 -- The commands of a part as a table, a row for each command byte.
-use Rattle.std.specs.Prelude.{ℕ, suc, Bool, false, cond, ◌||◌, List, [], ◌∷◌, eqb, get_or}
+use Rattle.std.specs.Prelude.{ℕ, zero, suc, Bool, false, cond, ◌||◌, List, [], ◌∷◌, eqb, get_or}
 use Rattle.wire.specs.Checks.{Check}
 use Rattle.wire.specs.Part.{Part, total}
 
@@ -59,3 +59,9 @@ binary f xs = f (get_or xs 0 0) (get_or xs 1 0)
 
 abbrev pub ternary : {A : Type 0} → (ℕ → ℕ → ℕ → A) → List ℕ → A
 ternary f xs = f (get_or xs 0 0) (get_or xs 1 0) (get_or xs 2 0)
+
+-- the first n operands, 0 where there are fewer; a command has no fewer
+abbrev pub first_of : ℕ → List ℕ → List ℕ
+first_of zero xs = []
+first_of (suc n) [] = 0 ∷ first_of n []
+first_of (suc n) (x ∷ xs) = x ∷ first_of n xs

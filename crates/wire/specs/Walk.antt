@@ -1,5 +1,5 @@
 -- Where commands stand in a run of bytes: one after the other by their sizes, from the front.
-use Rattle.std.specs.Prelude.{ℕ, zero, suc, ◌+◌, ◌≡◌, cond, List, [], ◌∷◌, ◌++◌, length, get_or, ltb}
+use Rattle.std.specs.Prelude.{ℕ, zero, suc, ◌+◌, ◌≡◌, Bool, false, not, ◌&&◌, ◌||◌, cond, List, [], ◌∷◌, ◌++◌, length, get_or, eqb, ltb}
 use Rattle.wire.specs.Part.{Part, size}
 use Rattle.wire.specs.Rows.{isAmong}
 use Rattle.wire.specs.Encoding.{Command, encode}
@@ -17,6 +17,19 @@ module _ {S : Type 0} (P : Part S) (bytes : List ℕ) (s : List ℕ) where
   -- encoding entry i of a kind `Stands` where this finds its bytes (`entry-stands` in `wire/proofs/Walk`)
   unfoldable pub position_of : ℕ → ℕ
   position_of i = get_or (positionsFrom (length s) 0) i 0
+
+-- whether a walk by sizes comes to a command with a byte, before one that ends the part or at it
+module _ {S : Type 0} (P : Part S) (b : ℕ) (s : List ℕ) where
+  -- from a position on, past at most k commands
+  unfoldable pub comesFrom : ℕ → ℕ → Bool
+  comesFrom zero at = false
+  comesFrom (suc k) at =
+      let c = get_or s at 0 in
+      ltb at (length s) && (eqb c b || (not (P.last c) && comesFrom k (at + size P c)))
+
+  -- from the front. Each command takes at least a byte, so all are passed
+  unfoldable pub comesTo : Bool
+  comesTo = comesFrom (length s) 0
 
 -- one of the commands is a form of entry i of a kind, and the commands before it have so many bytes
 pub record Stands {R S : Type 0} (P : Part S) (k : Kind R) (r : R) (i : ℕ) (cs : List Command) (at : ℕ) : Type 0 where

@@ -3,7 +3,7 @@
 #![tactic(auto)]
 
 ghost use Rattle.std.specs.Prelude.{◌≡◌, cond, [], ◌+◌, ◌≤◌, ◌^◌, length, nat_abs};
-ghost use Rattle.std.specs.Int.{Width, w16, w32, w64};
+ghost use Rattle.std.specs.Int.{Width, w8, w16, w32, w64};
 ghost use mir.Val.{to_z, of_z, bits};
 ghost use Rattle.wire.specs.Number.{natAt, intAt, put_at};
 ghost use Rattle.wire.specs.Checks.{commandChecks, refusal};
@@ -105,6 +105,13 @@ pub fn magnitude(x: i64) -> u64
     } else {
         x as u64
     }
+}
+
+pub fn i8_at(bytes: &[u8], at: usize) -> i8
+    requires { at + 1 ≤ length bytes.now }
+    ensures { result ≡ intAt w8 bytes.now at }
+{
+    signed(u8_at(bytes, at) as u64, 0xff) as i8
 }
 
 pub fn i16_at(bytes: &[u8], at: usize) -> i16

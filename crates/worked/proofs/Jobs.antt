@@ -30,6 +30,7 @@ use Rattle.scheme.specs.Function.{term, g}
 use Rattle.scheme.specs.Format.{isNew, productChecks, splitChecks, schemeInJob}
 use Rattle.scheme.specs.Format as SchFormat
 use Rattle.plan.specs.Plan.{cost}
+use Rattle.plan.specs.Fits.{fitsRows}
 use Rattle.plan.specs.Format.{planChecks, planInJob}
 use Rattle.certificate.specs.Rules.{byKey, arity, ruleOf}
 use Rattle.residual.specs.Residual.{nullPart, subtractedPart, nullForms, subtractedForms, reformulated, shifted, R}
@@ -79,7 +80,7 @@ abbrev pub examples : List (List ℕ)
 examples = (front ++ back 0) ∷ (front ++ back 1) ∷ (front ++ (back 0 ++ (0 ∷ []))) ∷ []
 
 outcomes : map outcome examples ≡ accepts exampleParts ∷ refuses 9 3 107 ∷ refuses 12 4 113 ∷ []
-unfolding outcome flat_map joinBelow all_below comesBefore abs sumBelow sumOver except offDiagonal isMember isSubset isProperSubset times entry natAt little refusal commandChecks operandsAt total checksAt after_at P.command step P.follow run readFrom readPart row_of Reg.fresh baseChecks choiceChecks termChecks RegFormat.endChecks registerInJob Sch.fresh up_to upward E term g isNew productChecks splitChecks SchFormat.endChecks schemeInJob planChecks planInJob byKey arity ruleOf nullPart subtractedPart nullForms subtractedForms reformulated shifted R rowHolds carries scaleChecks multiplierChecks squareChecks commandsInJob dominanceChecked certificateInJob
+unfolding outcome flat_map joinBelow all_below comesBefore abs sumBelow sumOver except offDiagonal isMember isSubset isProperSubset times entry natAt little refusal commandChecks operandsAt total checksAt after_at P.command step P.follow run readFrom readPart row_of Reg.fresh baseChecks choiceChecks termChecks RegFormat.endChecks registerInJob Sch.fresh up_to upward E term g isNew productChecks splitChecks SchFormat.endChecks schemeInJob fitsRows planChecks planInJob byKey arity ruleOf nullPart subtractedPart nullForms subtractedForms reformulated shifted R rowHolds carries scaleChecks multiplierChecks squareChecks commandsInJob dominanceChecked certificateInJob
 outcomes = refl
 
 map-map : {A B C : Type 0} (f : B → C) (g : A → B) (xs : List A) → map (λ x. f (g x)) xs ≡ map f (map g xs)

@@ -1,6 +1,7 @@
 -- The reader's loop: what is read from here on is what the whole is, by the command that stands here.
 use mathlib.Core.Path.{◌≡◌, sym, ◌∙◌, ap}
 use Prim.Native.Nat.{◌+◌, ◌≤◌}
+use mathlib.Core.Logic.{inl, inr}
 use native.Mathlib.Omega.{arith}
 use lib.ListN.{length, get_or}
 use mir.Facts.{to_z-of_z}
@@ -11,12 +12,12 @@ use Rattle.wire.proofs.Accepting.{reached}
 use Rattle.wire.proofs.Loop.{going-missing, going-refused}
 use Rattle.certificate.specs.Certificate.{Certificate, fresh}
 use Rattle.certificate.specs.Format.{commandSize, certificatePart, commandsInJob}
-use Rattle.certificate.specs.Answer.{commandsRead}
+use Rattle.certificate.specs.Answer.{IsMultiplier, commandsRead}
 use Rattle.certificate.proofs.Sizes.{size_above, size_scale}
 use Rattle.certificate.proofs.Laws.{laws}
 use Rattle.certificate.proofs.Going.{room, ends, counted-starts, seen, scale-counted, multiplier-counted, square-counted}
 use Rattle.certificate.proofs.read_with_sets.Goals as goal
-use Rattle.certificate.proofs.read_with_sets.Goals.{Else-number-ne0, in_default-via-then-command-lt48, in_default-via-else-command-lt48+else-command-lt58}
+use Rattle.certificate.proofs.read_with_sets.Goals.{Else-number-ne0, in-59-1, in_default+else-command-lt48+then-command-lt58, in_default-via-then-command-lt48, in_default-via-else-command-lt48+else-command-lt58}
 
 -- once the command here is not refused
 module _ (c : Else-number-ne0) where
@@ -49,12 +50,12 @@ i64_at-requires c = omega (arith, size_scale, rw c.in-48.is at (within (goal.at.
 pub overflow_add-at-in-48-3 : goal.overflow_add-at-in-48-3
 overflow_add-at-in-48-3 c = record { fits = omega (arith, within (goal.at.overflow_add-at-in-48-3 c).Else-number-ne0) }
 
-pub loop-at-smaller-in-48 : goal.loop-at-smaller-in-48
-loop-at-smaller-in-48 c = omega (arith, size_above (get_or c.args.bytes.now c.loop-at.at 0), within (goal.at.loop-at-smaller-in-48 c).Else-number-ne0)
+pub loop-at-smaller-in-48-1 : goal.loop-at-smaller-in-48-1
+loop-at-smaller-in-48-1 c = omega (arith, size_above (get_or c.args.bytes.now c.loop-at.at 0), within (goal.at.loop-at-smaller-in-48-1 c).Else-number-ne0)
 
-pub loop-at-preserved-in-48 : goal.loop-at-preserved-in-48
-loop-at-preserved-in-48 c =
-    let e = (goal.at.loop-at-preserved-in-48 c).Else-number-ne0 in
+pub loop-at-preserved-in-48-1 : goal.loop-at-preserved-in-48-1
+loop-at-preserved-in-48-1 c =
+    let e = (goal.at.loop-at-preserved-in-48-1 c).Else-number-ne0 in
     rw (c.command_size-size.ensures, to_z-of_z (record { sfits = c.i64_at.type_inv }), c.i64_at.ensures, c.u32_at.ensures)
     (scale-counted _ _ c.loop-at.invariant c.loop-at-test.true (unrefused e) c.in-48.is)
 
@@ -63,12 +64,12 @@ loop-at-preserved-in-48 c =
 pub overflow_add-at-in-58 : goal.overflow_add-at-in-58
 overflow_add-at-in-58 c = record { fits = omega (arith, within (goal.at.overflow_add-at-in-58 c).Else-number-ne0) }
 
-pub loop-at-smaller-in-58 : goal.loop-at-smaller-in-58
-loop-at-smaller-in-58 c = omega (arith, size_above (get_or c.args.bytes.now c.loop-at.at 0), within (goal.at.loop-at-smaller-in-58 c).Else-number-ne0)
+pub loop-at-smaller-in-58-1 : goal.loop-at-smaller-in-58-1
+loop-at-smaller-in-58-1 c = omega (arith, size_above (get_or c.args.bytes.now c.loop-at.at 0), within (goal.at.loop-at-smaller-in-58-1 c).Else-number-ne0)
 
-pub loop-at-preserved-in-58 : goal.loop-at-preserved-in-58
-loop-at-preserved-in-58 c =
-    let e = (goal.at.loop-at-preserved-in-58 c).Else-number-ne0 in
+pub loop-at-preserved-in-58-1 : goal.loop-at-preserved-in-58-1
+loop-at-preserved-in-58-1 c =
+    let e = (goal.at.loop-at-preserved-in-58-1 c).Else-number-ne0 in
     rw c.command_size-size.ensures (square-counted _ _ c.loop-at.invariant c.loop-at-test.true (unrefused e) c.in-58.is)
 
 -- a multiplier command
@@ -82,7 +83,11 @@ loop-at-smaller c = omega (arith, size_above (get_or c.args.bytes.now c.loop-at.
 pub loop-at-preserved : goal.loop-at-preserved
 loop-at-preserved c =
     let e = (goal.at.loop-at-preserved c).Else-number-ne0 in
-    rw c.command_size-size.ensures (multiplier-counted _ _ c.loop-at.invariant c.loop-at-test.true (unrefused e) (omega arith) (omega arith))
+    let kind : IsMultiplier (get_or c.args.bytes.now c.loop-at.at 0) = elim c.in-49-to-57-1.branch [
+      | in-59-1 w ↦ inr (omega arith)
+      | in_default+else-command-lt48+then-command-lt58 w ↦ inl (omega arith, omega arith)
+    ] in
+    rw c.command_size-size.ensures (multiplier-counted _ _ c.loop-at.invariant c.loop-at-test.true (unrefused e) kind)
 
 -- the end
 
@@ -92,7 +97,7 @@ overflow_add-result c = record { fits = omega (arith, within (goal.at.overflow_a
 pub returns-in_default : goal.returns-in_default
 returns-in_default c =
     let e = (goal.at.returns-in_default c).Else-number-ne0 in
-    let none : 0x30 ≤ get_or c.args.bytes.now c.loop-at.at 0 → get_or c.args.bytes.now c.loop-at.at 0 ≤ 0x3A → ⊥ = λ p q. elim c.in_default.branch [
+    let none : 0x30 ≤ get_or c.args.bytes.now c.loop-at.at 0 → get_or c.args.bytes.now c.loop-at.at 0 ≤ 0x3B → ⊥ = λ p q. elim c.in_default.branch [
       | in_default-via-then-command-lt48 w ↦ omega arith
       | in_default-via-else-command-lt48+else-command-lt58 w ↦ omega arith
     ] in

@@ -12,7 +12,10 @@ pub returns-then-number-ne0 : goal.returns-then-number-ne0
 returns-then-number-ne0 c = let f = c.feedcheck_register-first in c.refused.ensures ∙ first-refused _ f.result f.ensures _ c.if-number-ne0.true
 
 pub read_whole-fourth-requires : goal.read_whole-fourth-requires
-read_whole-fourth-requires c = let f = c.feedcheck_register-first in (opened _ f.result f.ensures c.if-number-ne0.false).valid.within.choices.few
+read_whole-fourth-requires c =
+    let f = c.feedcheck_register-first in
+    let w = (opened _ f.result f.ensures c.if-number-ne0.false).valid.within in
+    record { choices_within = w.choices.few; rows_within = w.rows.few }
 
 pub returns-then-number-ne0-2 : goal.returns-then-number-ne0-2
 returns-then-number-ne0-2 c =

@@ -18,5 +18,5 @@ u32_at-plan-requires c = omega (arith, command-room _ _ _ [] _ c.command_refusal
 pub returns : goal.returns
 unfolding refusal planChecks
 returns c =
-    c.first_of.ensures
-    ∙ rw (c.u32_at-plan.ensures, ← (one_shifted w64 c.args.n (omega arith))) (sym (command-own _ _ _ _ _ c.command_refusal-placed.ensures c.if-placed-ne0.false))
+    c.first_of-2.ensures
+    ∙ rw (c.first_of.ensures, c.fits_rows-fitting.ensures, c.u32_at-plan.ensures, ← (one_shifted w64 c.args.n (omega arith))) (sym (command-own _ _ _ _ _ c.command_refusal-placed.ensures c.if-placed-ne0.false))

@@ -4,6 +4,7 @@ use native.Mathlib.Numerals.{add-one}
 use mir.Facts.{to_z-of_z}
 use mathlib.Core.Path.{◌≡◌, refl, sym, ◌∙◌, ap}
 use mathlib.Core.List.{List, [], ◌∷◌}
+use lib.IntN.{pos}
 use lib.ListN.{get_or}
 use Rattle.integers.proofs.Lists.{◌▹◌}
 use Rattle.wire.specs.Number.{natAt, intAt}
@@ -15,21 +16,22 @@ use Rattle.wire.proofs.Accepting.{reached}
 use Rattle.wire.proofs.Loop.{Here, here-at, going-starts, going-missing, going-refused, going_on, going-ends}
 use Rattle.register.specs.declared.Register.{Register}
 use Rattle.register.specs.declared.Seen.{Seen}
-use Rattle.register.specs.Limits.{maxChoices, maxTerms, maxWindows}
+use Rattle.register.specs.Limits.{maxChoices, maxTerms, maxWindows, maxRows}
 use Rattle.register.specs.Register.{tank, minute, mask, fresh}
-use Rattle.register.specs.Format.{baseRow, choiceRow, termRow, windowRow, lengthRow, endRow, registerRows, registerPart, registerInJob}
+use Rattle.register.specs.Format.{baseRow, choiceRow, termRow, windowRow, rowRow, entriesOf, lengthRow, endRow, registerRows, registerPart, registerInJob}
 use Rattle.register.specs.Valid.{Within, windowAt}
 use Rattle.register.specs.Answer.{Given, registerRead}
-use Rattle.register.proofs.Passes.{NextChoice, choice-iff, term-iff, window-iff}
+use Rattle.register.proofs.Passes.{NextChoice, choice-iff, term-iff, window-iff, row-iff}
+use Rattle.register.proofs.RowOperands.{entries-read, entries-at}
 use Rattle.register.proofs.Entries.{termAt, windows-no-fall}
-use Rattle.register.proofs.Passed.{Passed, passed-starts, passed-base, passed_length, passed-choice, passed-term, passed-window}
+use Rattle.register.proofs.Passed.{Passed, passed-starts, passed-base, passed_length, passed-choice, passed-term, passed-window, passed-rows}
 use Rattle.register.proofs.Laws.{laws}
 use Rattle.register.proofs.read_register.Goals.{Else-number-ne0}
 use Rattle.register.proofs.read_register.Goals as goal
 
 -- what the loop has seen, its last choice at i and its last term at t
 abbrev seen : ℕ → Register → (i t : ℕ) → Seen
-seen previous r i t = record { previous = previous; choices = r.choices; terms = r.terms; tank = tank r i; minute = minute r i; mask = mask r t; windows = r.windows; day_length = r.day_length }
+seen previous r i t = record { previous = previous; choices = r.choices; terms = r.terms; tank = tank r i; minute = minute r i; mask = mask r t; windows = r.windows; day_length = r.day_length; rows = r.rows }
 
 given_is : (previous : ℕ) (r : Register) {i t k : ℕ} → Within r → Passed r k → i ≡ r.choices - 1 → t ≡ r.terms - 1 → Given (reached previous r) (seen previous r i t) k r.window_tanks r.window_froms r.window_tos
 given_is previous r w p d e = record { seen-is = rw (d, e); tanks-are = refl; froms-are = refl; tos-are = refl; no-fall = windows-no-fall r w; earlier = λ k l. rw d (p.earlier k l) }
@@ -68,6 +70,10 @@ module _ (c : Else-number-ne0) where
   few-windows : get_or bytes at 0 ≡ 0x13 → r.windows < maxWindows
   unfolding row_of
   few-windows e = ((window-iff _ _ (windowAt r (r.windows - 1)) _ _ _).0 (here 0x13 e).allowed).few
+
+  few-rows : get_or bytes at 0 ≡ 0x14 → r.rows < maxRows
+  unfolding row_of
+  few-rows e = ((row-iff r.choices r.rows _ (λ j. get_or (entriesOf (operandsAt rowRow.widths bytes (at + 1))) j (pos 0)) (λ j l. entries-read (operandsAt rowRow.widths bytes (at + 1)) j)).0 (here 0x14 e).allowed).few
 
   next-choice : get_or bytes at 0 ≡ 0x11 → NextChoice r.day_length r.choices (tank r (r.choices - 1)) (minute r (r.choices - 1)) (natAt 2 bytes (at + 1)) (natAt 2 bytes (at + 1 + 2))
   unfolding row_of operandsAt
@@ -169,6 +175,27 @@ loop-at-preserved-in-19 c =
       lower = rw add-one (passed-window c.loop-at.register (within e) c.loop-at.invariant.lower _ _ _);
     }
 
+pub i16_at-requires : goal.i16_at-requires
+unfolding row_of total
+i16_at-requires c = omega (arith, (here (goal.at.i16_at-requires c).Else-number-ne0 0x14 c.in-20.is).room)
+
+pub bounds-register-row : goal.bounds-register-row
+bounds-register-row c = few-rows (goal.at.bounds-register-row c).Else-number-ne0 c.in-20.is
+
+pub put_entries-requires : goal.put_entries-requires
+unfolding row_of total
+put_entries-requires c =
+    let e = (goal.at.put_entries-requires c).Else-number-ne0 in
+    record { place_within = omega (arith, few-rows e c.in-20.is); bytes_there = omega (arith, (here e 0x14 c.in-20.is).room) }
+
+pub loop-at-preserved-in-20 : goal.loop-at-preserved-in-20
+unfolding row_of total operandsAt intAt
+loop-at-preserved-in-20 c =
+    let e = (goal.at.loop-at-preserved-in-20 c).Else-number-ne0 in record {
+      going = rw (to_z-of_z (record { sfits = c.i16_at.type_inv }), c.i16_at.ensures, c.put_entries.ensures, ← entries-at c.args.bytes.now (c.loop-at.at + 1), add-one) (going_on fresh registerRows laws c.loop-at.invariant.going c.loop-at-test.true (judged e) 0x14 c.in-20.is refl);
+      lower = passed-rows c.loop-at.register (within e) c.loop-at.invariant.lower _ _ _;
+    }
+
 pub u16_at-requires-in-24 : goal.u16_at-requires-in-24
 unfolding row_of total
 u16_at-requires-in-24 c = omega (arith, (here (goal.at.u16_at-requires-in-24 c).Else-number-ne0 0x18 c.in-24.is).room)
@@ -185,7 +212,7 @@ pub returns-in_default : goal.returns-in_default
 unfolding registerInJob row_of total operandsAt
 returns-in_default c =
     let e = (goal.at.returns-in_default c).Else-number-ne0 in
-    let f : get_or c.args.bytes.now c.loop-at.at 0 ≡ 0x1F = only-last endRow (get_or c.args.bytes.now c.loop-at.at 0) (baseRow ∷ choiceRow ∷ termRow ∷ windowRow ∷ lengthRow ∷ []) ((λ e. omega arith) ▹ (λ e. omega arith) ▹ (λ e. omega arith) ▹ (λ e. omega arith) ▹ (λ e. omega arith) ▹ tt) _ (here e _ refl).place in
+    let f : get_or c.args.bytes.now c.loop-at.at 0 ≡ 0x1F = only-last endRow (get_or c.args.bytes.now c.loop-at.at 0) (baseRow ∷ choiceRow ∷ termRow ∷ windowRow ∷ rowRow ∷ lengthRow ∷ []) ((λ e. omega arith) ▹ (λ e. omega arith) ▹ (λ e. omega arith) ▹ (λ e. omega arith) ▹ (λ e. omega arith) ▹ (λ e. omega arith) ▹ tt) _ (here e _ refl).place in
     ap registerRead (sym (going-ends fresh registerRows laws c.loop-at.invariant.going c.loop-at-test.true (judged e) 0x1F f refl))
 
 pub returns : goal.returns

@@ -1,10 +1,16 @@
 use Prim.Native.Nat.{ℕ, ◌+◌, ◌≤◌}
 use mathlib.Core.Path.{◌≡◌, refl, ◌∙◌, ap}
 use mathlib.Core.Bool.{true}
+use mathlib.Core.Logic.{inl, inr, ⊎_elim}
 use mathlib.Core.List.{List}
 use native.Mathlib.Omega.{arith}
 use lib.IntN.{ℤ}
 use lib.ListN.{length, get_or}
+use mir.Syntax.{w64}
+use mir.Val.{SFits}
+use mir.Facts.{to_z-of_z}
+use borrow.Author.Rules.{rules}
+use Rattle.forms.specs.Form.{times}
 use Rattle.forms.specs.Table.{tableNumbers}
 use Rattle.forms.specs.Store.{addForm, Bounded, maxBeforeForm}
 use Rattle.wire.specs.Part.{accepted}
@@ -12,17 +18,19 @@ use Rattle.wire.specs.Rows.{Progress}
 use Rattle.register.specs.declared.Register.{Register}
 use Rattle.register.specs.Register.{coefficient}
 use Rattle.scheme.specs.declared.Scheme.{Scheme}
+use Rattle.certificate.specs.declared.Multiplier.{Multiplier as Named}
+use Rattle.certificate.specs.RowForm.{rowFormOf}
 use Rattle.certificate.specs.Certificate.{Certificate}
 use Rattle.certificate.specs.Format.{commandSize, commandsInJob}
-use Rattle.certificate.specs.Answer.{multiplierAt, squareIn}
+use Rattle.certificate.specs.Answer.{IsMultiplier, multiplierAt, squareIn}
 use Rattle.certificate.proofs.Sizes.{size_above}
 use Rattle.residual.specs.Residual.{squareAt}
 use Rattle.residual.specs.Built.{withScaleIn, added, lessWhere}
 use Rattle.residual.proofs.Squares.{range-of}
-use Rattle.residual.proofs.Adds.{addable}
+use Rattle.residual.proofs.Adds.{addable, RowCommand, row-command}
 use Rattle.residual.proofs.ByCommand.{holdsR}
 use Rattle.residual.proofs.Midway.{command-room, multiplier-allowed, square-allowed}
-use Rattle.residual.proofs.Filled.{Filled, Ready, side_in, first-length, first_under, first-filled, filled-bounded, multiplier-filled, square-filled, filled-last, filled-inside}
+use Rattle.residual.proofs.Filled.{Filled, Ready, side_in, first-length, first_under, first-filled, filled-bounded, multiplier-filled, row-filled, square-filled, filled-last, filled-inside}
 use Rattle.residual.proofs.put_residual.Goals.{After-put_scaled_function}
 use Rattle.residual.proofs.put_residual.Goals as goal
 
@@ -61,8 +69,13 @@ module _ (k : After-put_scaled_function) where
     room : Bounded (side_in reg sch) maxBeforeForm t
     room = filled-bounded ready first long f
 
+    -- of a row: the row and the variable that are named, and m
+    row : get_or bytes at 0 ≡ 0x3B → RowCommand reg sch (multiplierAt bytes at)
+    unfolding multiplierAt
+    row e = row-command reg sch (multiplierAt bytes at) (multiplier-allowed reg sch bytes ready.reads f.midway (inr e)) e
+
     -- at the end
-    whole : (0x31 ≤ get_or bytes at 0 → get_or bytes at 0 ≤ 0x39 → ⊥) → (get_or bytes at 0 ≡ 0x3A → ⊥) → (p : Progress Certificate) (e : ℕ) → commandsInJob reg sch bytes ≡ accepted p e →
+    whole : (IsMultiplier (get_or bytes at 0) → ⊥) → (get_or bytes at 0 ≡ 0x3A → ⊥) → (p : Progress Certificate) (e : ℕ) → commandsInJob reg sch bytes ≡ accepted p e →
         t ≡ holdsR (coefficient reg) reg sch p.parsed lent
     whole x y p e d = filled-last ready first long f x y p e d ∙ first_under ready lent k.requires.table_numbers_in_bounds first first-is p.parsed
 
@@ -104,9 +117,10 @@ pub multiplier_at-t-requires-clause-at_in_bounds : goal.multiplier_at-t-requires
 multiplier_at-t-requires-clause-at_in_bounds c = within (goal.at.multiplier_at-t-requires-clause-at_in_bounds c).After-put_scaled_function _ _ c.loop-at.invariant
 
 pub add_multiplier-requires-clause-addable : goal.add_multiplier-requires-clause-addable
+unfolding multiplierAt
 add_multiplier-requires-clause-addable c =
-    let ok = multiplier-allowed _ _ _ c.requires.reads c.loop-at.invariant.midway (omega arith) (omega arith) in
-    rw c.multiplier_at-t.ensures (addable _ _ (multiplierAt c.args.bytes.now c.loop-at.at) ok)
+    let ok = multiplier-allowed _ _ _ c.requires.reads c.loop-at.invariant.midway (inl (omega arith, omega arith)) in
+    rw c.multiplier_at-t.ensures (addable _ _ (multiplierAt c.args.bytes.now c.loop-at.at) ok (omega arith) (omega arith))
 
 pub add_multiplier-requires-clause-bounded : goal.add_multiplier-requires-clause-bounded
 add_multiplier-requires-clause-bounded c = room (goal.at.add_multiplier-requires-clause-bounded c).After-put_scaled_function _ _ c.loop-at.invariant
@@ -128,13 +142,56 @@ loop-at-preserved c =
     (multiplier-filled (ready k) (first k) (long k) c.loop-at.invariant (omega arith) (omega arith) _
     (c.add_multiplier.ensures (reg k) refl ∙ ap (λ t. addForm (side_in (reg k) (sch k)) (added (reg k) (sch k) t) c.loop-at.table) c.multiplier_at-t.ensures))
 
+-- a row's form
+
+pub multiplier_at-form-requires-clause-at_in_bounds : goal.multiplier_at-form-requires-clause-at_in_bounds
+multiplier_at-form-requires-clause-at_in_bounds c = within (goal.at.multiplier_at-form-requires-clause-at_in_bounds c).After-put_scaled_function _ _ c.loop-at.invariant
+
+pub add_row_form-requires-clause-row_within : goal.add_row_form-requires-clause-row_within
+add_row_form-requires-clause-row_within c =
+    let k = (goal.at.add_row_form-requires-clause-row_within c).After-put_scaled_function in
+    rw c.multiplier_at-form.ensures (omega (arith, (row k _ _ c.loop-at.invariant c.in-59.is).row-there, (ready k).register.rows.few))
+
+pub add_row_form-requires-clause-places : goal.add_row_form-requires-clause-places
+add_row_form-requires-clause-places c =
+    let k = (goal.at.add_row_form-requires-clause-places c).After-put_scaled_function in
+    rw c.multiplier_at-form.ensures (omega arith, omega (arith, (row k _ _ c.loop-at.invariant c.in-59.is).variable-there))
+
+pub add_row_form-requires-clause-m_bound : goal.add_row_form-requires-clause-m_bound
+add_row_form-requires-clause-m_bound c =
+    let k = (goal.at.add_row_form-requires-clause-m_bound c).After-put_scaled_function in
+    let fits : SFits w64 c.multiplier_at-form.result.m = search rules in
+    rw (to_z-of_z fits, c.multiplier_at-form.ensures) (row k _ _ c.loop-at.invariant c.in-59.is).m-within
+
+pub add_row_form-requires-clause-bounded : goal.add_row_form-requires-clause-bounded
+add_row_form-requires-clause-bounded c = room (goal.at.add_row_form-requires-clause-bounded c).After-put_scaled_function _ _ c.loop-at.invariant
+
+pub overflow_add-at-in-59 : goal.overflow_add-at-in-59
+overflow_add-at-in-59 c =
+    let l = within (goal.at.overflow_add-at-in-59 c).After-put_scaled_function _ _ c.loop-at.invariant in
+    record { fits = omega (arith, l, c.command_size-at-in-59.ensures) }
+
+pub loop-at-smaller-in-59 : goal.loop-at-smaller-in-59
+loop-at-smaller-in-59 c =
+    let l = within (goal.at.loop-at-smaller-in-59 c).After-put_scaled_function _ _ c.loop-at.invariant in
+    omega (arith, l, size_above (get_or c.args.bytes.now c.loop-at.at 0), c.command_size-at-in-59.ensures)
+
+pub loop-at-preserved-in-59 : goal.loop-at-preserved-in-59
+loop-at-preserved-in-59 c =
+    let k = (goal.at.loop-at-preserved-in-59 c).After-put_scaled_function in
+    let fits : SFits w64 c.multiplier_at-form.result.m = search rules in
+    rw c.command_size-at-in-59.ensures
+    (row-filled (ready k) (first k) (long k) c.loop-at.invariant c.in-59.is _
+    (rw (to_z-of_z fits) at c.add_row_form.ensures
+    ∙ ap (λ (t : Named). addForm (side_in (reg k) (sch k)) (times t.m (rowFormOf (reg k) t.i t.j)) c.loop-at.table) c.multiplier_at-form.ensures))
+
 -- the end
 
 pub returns-in_default : goal.returns-in_default
-returns-in_default c = whole (goal.at.returns-in_default c).After-put_scaled_function _ _ c.loop-at.invariant (λ x y. omega arith) (λ e. omega arith)
+returns-in_default c = whole (goal.at.returns-in_default c).After-put_scaled_function _ _ c.loop-at.invariant (⊎_elim (λ r. omega arith) (λ e. omega arith)) (λ e. omega arith)
 
 pub returns-in_default-2 : goal.returns-in_default-2
-returns-in_default-2 c = whole (goal.at.returns-in_default-2 c).After-put_scaled_function _ _ c.loop-at.invariant (λ x y. omega arith) (λ e. omega arith)
+returns-in_default-2 c = whole (goal.at.returns-in_default-2 c).After-put_scaled_function _ _ c.loop-at.invariant (⊎_elim (λ r. omega arith) (λ e. omega arith)) (λ e. omega arith)
 
 pub returns : goal.returns
 returns c =

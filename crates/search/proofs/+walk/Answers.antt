@@ -2,7 +2,7 @@
 use Prim.Native.Nat.{ℕ, ◌+◌, ◌-◌, ◌*◌, ◌%◌, ◌^◌, ◌≤◌, ◌<◌}
 use native.Mathlib.Omega.{arith}
 use mathlib.Core.Path.{◌≡◌, sym, ◌∙◌, ap}
-use mathlib.Core.Bool.{false}
+use mathlib.Core.Bool.{Bool, true, false}
 use mathlib.Core.List.{List}
 use lib.IntN.{ℤ, nat_abs}
 use lib.ListN.{get_or}
@@ -16,7 +16,7 @@ use Rattle.search.specs.declared.Change.{Change}
 use Rattle.search.specs.Walk.{Best, visited, isLeft, walk as defined}
 use Rattle.search.specs.Lent.{lentSum, changeOf, At, noCost, Holds, UpTo}
 use Rattle.search.proofs.Going.{at_small, halves, unfed-fits, fed-fits, unfed-next, fed-next}
-use Rattle.search.proofs.Walks.{upTo-first, upTo-left, upTo-full, upTo-unfed, upTo-same, upTo-fed, left-held}
+use Rattle.search.proofs.Walks.{upTo-first, upTo-left, upTo-full, upTo-unfit, upTo-unfed, upTo-same, upTo-fed, left-held, visit}
 use Rattle.search.proofs.+walk.Goals as goal
 
 -- a power of 2 as the code has it
@@ -24,21 +24,25 @@ shifted : (n : ℕ) → n < 32 → 1 * 2 ^ n % 4294967296 ≡ 2 ^ n
 shifted n l = sym (one_shifted w32 n l)
 
 -- where choice n − 1 is decided, with n undecided before: what is known where the code has come to this below the unfed choice
-module _ (S : ℕ → ℕ → ℤ) (limit n fed : ℕ) (w : Best) (plan : ℕ) (cost : ℤ) (visits : ℕ) (l : 1 ≤ n) (e : isLeft (S n fed) w ≡ false)
-    (h : UpTo limit (defined S (n - 1) fed (visited w)) plan cost visits) where
-  passes : limit < visits → UpTo limit (defined S n fed w) plan cost visits
-  passes m = let f = (halves n l).0 in rw (← f) (upTo-unfed S limit (n - 1) fed w plan cost visits (rw f e) h m)
+module _ (S : ℕ → ℕ → ℤ) (F : ℕ → Bool) (limit n fed : ℕ) (w : Best) (plan : ℕ) (cost : ℤ) (visits : ℕ) (l : 1 ≤ n) (e : isLeft (S n fed) w ≡ false)
+    (h : UpTo limit (defined S F (n - 1) fed (visited w)) plan cost visits) where
+  passes : limit < visits → UpTo limit (defined S F n fed w) plan cost visits
+  passes m = let f = (halves n l).0 in rw (← f) (upTo-unfed S F limit (n - 1) fed w plan cost visits (rw f e) h m)
 
-  same : visits ≤ limit → Holds (defined S (n - 1) fed (visited w)) plan cost × ((defined S (n - 1) fed (visited w)).visits ≡ visits)
-  same m = let f = (halves n l).0 in upTo-same S limit (n - 1) fed w plan cost visits (rw f e) h m
+  same : visits ≤ limit → Holds (defined S F (n - 1) fed (visited w)) plan cost × ((defined S F (n - 1) fed (visited w)).visits ≡ visits)
+  same m = let f = (halves n l).0 in upTo-same S F limit (n - 1) fed w plan cost visits (rw f e) h m
 
-  goes_on : (plan' : ℕ) (cost' : ℤ) (visits' : ℕ) → UpTo limit (defined S (n - 1) (fed + 2 ^ (n - 1)) (defined S (n - 1) fed (visited w))) plan' cost' visits' → UpTo limit (defined S n fed w) plan' cost' visits'
-  goes_on plan' cost' visits' k = let f = (halves n l).0 in rw (← f) (upTo-fed S limit (n - 1) fed w plan cost visits (rw f e) h plan' cost' visits' k)
+  goes_on : (plan' : ℕ) (cost' : ℤ) (visits' : ℕ) → UpTo limit (defined S F (n - 1) (fed + 2 ^ (n - 1)) (defined S F (n - 1) fed (visited w))) plan' cost' visits' → UpTo limit (defined S F n fed w) plan' cost' visits'
+  goes_on plan' cost' visits' k = let f = (halves n l).0 in rw (← f) (upTo-fed S F limit (n - 1) fed w plan cost visits (rw f e) h plan' cost' visits' k)
 
 -- a full plan
-full : (S : ℕ → ℕ → ℤ) (limit n fed : ℕ) (w : Best) {z : ℤ} → w.visits ≤ limit → n ≡ 0 → nat_abs (S n fed) ≤ noCost → z ≡ S n fed → isLeft (S n fed) w ≡ false →
-    UpTo limit (defined S n fed w) fed z (w.visits + 1)
-full S limit n fed w l m b e f = rw (e, m) (upTo-full S limit fed w l (rw m at b) (rw m at f))
+full : (S : ℕ → ℕ → ℤ) (F : ℕ → Bool) (limit n fed : ℕ) (w : Best) {z : ℤ} → w.visits ≤ limit → n ≡ 0 → nat_abs (S n fed) < noCost → z ≡ S n fed → isLeft (S n fed) w ≡ false → F fed ≡ true →
+    UpTo limit (defined S F n fed w) fed z (w.visits + 1)
+full S F limit n fed w l m b e f t = rw (e, m) (upTo-full S F limit fed w l (rw m at b) (rw m at f) t)
+
+-- one that does not fit
+unfit : (S : ℕ → ℕ → ℤ) (F : ℕ → Bool) (limit n fed : ℕ) (w : Best) (plan : ℕ) (cost : ℤ) → w.visits ≤ limit → n ≡ 0 → Holds w plan cost → F fed ≡ false → UpTo limit (defined S F n fed w) plan cost (w.visits + 1)
+unfit S F limit n fed w plan cost l m h t = rw m (upTo-unfit S F limit fed w plan cost l h t)
 
 module _ {masks : List ℕ} {coefficients : List ℤ} {counts : List ℕ} {n fed : ℕ} {s : ℤ} (a : At masks coefficients counts n fed s) where
   -- the sum that the code reads
@@ -57,30 +61,34 @@ module _ {masks : List ℕ} {coefficients : List ℤ} {counts : List ℕ} {n fed
 
 pub returns-then-limit-here : goal.returns-then-limit-here
 returns-then-limit-here t c =
-    λ a w h v. rw (← v) (upTo-first _ c.args.limit c.args.undecided c.args.fed w _ _ (rw v c.requires.visits_le_limit) h (rw v c.if-limit-here.true))
+    λ a w h v. rw (← v) (upTo-first _ _ c.args.limit c.args.undecided c.args.fed w _ _ (rw v c.requires.visits_le_limit) h (rw v c.if-limit-here.true))
 
 pub returns-then-cost-sum : goal.returns-then-cost-sum
 returns-then-cost-sum t c =
-    λ a w h v. rw (← v) (upTo-left _ c.args.limit c.args.undecided c.args.fed w _ _ (rw v c.requires.visits_le_limit) h (sym (left_is a w _ _ h) ∙ c.if-cost-sum.true))
+    λ a w h v. rw (← v) (upTo-left _ _ c.args.limit c.args.undecided c.args.fed w _ _ (rw v c.requires.visits_le_limit) h (sym (left_is a w _ _ h) ∙ c.if-cost-sum.true))
+
+pub returns-then-not-fits_rows : goal.returns-then-not-fits_rows
+returns-then-not-fits_rows t c =
+    λ a w h v. rw (← v) (unfit _ _ c.args.limit c.args.undecided c.args.fed w _ _ (rw v c.requires.visits_le_limit) c.if-undecided-eq0.true h (sym c.fits_rows.ensures ∙ c.if-not-fits_rows.true))
 
 pub returns-then-undecided-eq0 : goal.returns-then-undecided-eq0
 returns-then-undecided-eq0 t c =
     λ a w h v.
-    rw (← v) (full _ c.args.limit c.args.undecided c.args.fed w (rw v c.requires.visits_le_limit) c.if-undecided-eq0.true (rw (← a.sum_is) (omega (arith, at_small a))) (own a ∙ a.sum_is) (sym (left_is a w _ _ h) ∙ c.if-cost-sum.false))
+    rw (← v) (full _ _ c.args.limit c.args.undecided c.args.fed w (rw v c.requires.visits_le_limit) c.if-undecided-eq0.true (rw (← a.sum_is) (omega (arith, at_small a))) (own a ∙ a.sum_is) (sym (left_is a w _ _ h) ∙ c.if-cost-sum.false) (sym c.fits_rows.ensures ∙ c.if-not-fits_rows.false))
 
 pub overflow_add-more : goal.overflow_add-more
 overflow_add-more t c =
     let n = c.args.undecided in
     let l : 1 ≤ n = omega arith in
     let f = c.requires.at.few in
-    rw (shifted (n - 1) (omega arith)) (record { fits = omega (arith, c.requires.at.fits, (halves n l).1, pow_pos (n - 1)) })
+    rw (shifted (n - 1) (omega arith)) (record { fits = omega (arith, c.requires.at.inside, (halves n l).1, pow_pos (n - 1)) })
 
 pub overflow_add-possible : goal.overflow_add-possible
 overflow_add-possible t c =
     let n = c.args.undecided in
     let l : 1 ≤ n = omega arith in
     let f = c.requires.at.few in
-    rw (shifted (n - 1) (omega arith)) (record { fits = omega (arith, c.requires.at.fits, (halves n l).1, pow_pos (n - 1)) })
+    rw (shifted (n - 1) (omega arith)) (record { fits = omega (arith, c.requires.at.inside, (halves n l).1, pow_pos (n - 1)) })
 
 pub overflow_sub-unfed_sum : goal.overflow_sub-unfed_sum
 overflow_sub-unfed_sum t c =
@@ -98,21 +106,21 @@ pub walk-unfed-requires : goal.walk-unfed-requires
 walk-unfed-requires t c =
     let a = c.requires.at in
     let l : 1 ≤ c.args.undecided = omega arith in
-    (omega arith, (unfed-next a l c.change_of-change.result (change-is a l c.change_of-change.ensures), (omega arith, c.requires.limit_bound)))
+    (omega arith, (unfed-next a l c.change_of-change.result (change-is a l c.change_of-change.ensures), (c.requires.lent_rows, (omega arith, c.requires.limit_bound))))
 
 pub returns-then-limit-unfed : goal.returns-then-limit-unfed
 returns-then-limit-unfed t c =
     λ a w h v.
     let l : 1 ≤ c.args.undecided = omega arith in
-    let below = c.walk-unfed.ensures (unfed-next a l c.change_of-change.result (change-is a l c.change_of-change.ensures)) (visited w) (record { some = h.some; none = h.none; within = h.within }) (ap (λ x. x + 1) v) in
-    passes _ c.args.limit c.args.undecided c.args.fed w _ _ _ l (sym (left_is a w _ _ h) ∙ c.if-cost-sum.false) below c.if-limit-unfed.true
+    let below = c.walk-unfed.ensures (unfed-next a l c.change_of-change.result (change-is a l c.change_of-change.ensures)) (visited w) (visit w _ _ h) (ap (λ x. x + 1) v) in
+    passes _ _ c.args.limit c.args.undecided c.args.fed w _ _ _ l (sym (left_is a w _ _ h) ∙ c.if-cost-sum.false) below c.if-limit-unfed.true
 
 pub walk-requires : goal.walk-requires
 walk-requires t c =
     let a = c.requires.at in
     let f = a.few in
     let l : 1 ≤ c.args.undecided = omega arith in
-    (omega arith, (rw (shifted (c.args.undecided - 1) (omega arith)) (fed-next a l c.change_of-change.result (change-is a l c.change_of-change.ensures)), (c.if-limit-unfed.false, c.requires.limit_bound)))
+    (omega arith, (rw (shifted (c.args.undecided - 1) (omega arith)) (fed-next a l c.change_of-change.result (change-is a l c.change_of-change.ensures)), (c.requires.lent_rows, (c.if-limit-unfed.false, c.requires.limit_bound))))
 
 pub returns : goal.returns
 returns t c =
@@ -121,7 +129,7 @@ returns t c =
     let l : 1 ≤ c.args.undecided = omega arith in
     let e = change-is a l c.change_of-change.ensures in
     let stays = sym (left_is a w _ _ h) ∙ c.if-cost-sum.false in
-    let below = c.walk-unfed.ensures (unfed-next a l c.change_of-change.result e) (visited w) (record { some = h.some; none = h.none; within = h.within }) (ap (λ x. x + 1) v) in
-    let (held, seen) = same _ c.args.limit c.args.undecided c.args.fed w _ _ _ l stays below c.if-limit-unfed.false in
-    goes_on _ c.args.limit c.args.undecided c.args.fed w _ _ _ l stays below _ _ _
+    let below = c.walk-unfed.ensures (unfed-next a l c.change_of-change.result e) (visited w) (visit w _ _ h) (ap (λ x. x + 1) v) in
+    let (held, seen) = same _ _ c.args.limit c.args.undecided c.args.fed w _ _ _ l stays below c.if-limit-unfed.false in
+    goes_on _ _ c.args.limit c.args.undecided c.args.fed w _ _ _ l stays below _ _ _
     ((rw (shifted (c.args.undecided - 1) (omega arith)) at c.walk.ensures) (fed-next a l c.change_of-change.result e) _ held seen)

@@ -1,6 +1,7 @@
 -- `search::feedcheck_search` meets its contract. The register first, its end included; an accepted one is within the limits, as
 -- the walk requires.
-use mathlib.Core.Path.{◌∙◌}
+use mathlib.Core.Path.{◌≡◌, sym, ◌∙◌, ap}
+use lib.IntN.{pos}
 use Prim.Native.Nat.{ℕ}
 use native.Mathlib.Omega.{arith}
 use mir.Syntax.{w32, w64}
@@ -10,17 +11,17 @@ use Rattle.register.specs.declared.Register.{Register}
 use Rattle.register.specs.Register.{coefficient}
 use Rattle.register.specs.Valid.{Within}
 use Rattle.register.proofs.Opened.{opened}
+use Rattle.plan.specs.Fits.{fits}
 use Rattle.search.specs.declared.Found.{Found}
 use Rattle.search.specs.Walk.{start, walk}
 use Rattle.search.specs.Answer.{search as rule}
-use Rattle.search.specs.Lent.{lentSum, UpTo}
-use Rattle.search.proofs.Answers.{first-refused, then-search, termsIn, within-small, search-lent, passes, found}
-use Rattle.search.proofs.Cheapest.{found-met}
+use Rattle.search.specs.Lent.{lentSum, noCost, UpTo}
+use Rattle.search.proofs.Answers.{first-refused, then-search, termsIn, within-small, search-lent, passes, none, found}
 use Rattle.search.proofs.feedcheck_search.Goals as goal
 
 -- what the walk has come to, of the register that was read
-came : (limit : ℕ) (r : Register) → Within r → (f : Found) → UpTo limit (walk (lentSum (to_z w32 (of_z w32 r.base)) (termsIn r)) r.choices 0 start) f.plan f.cost f.visits →
-    UpTo limit (rule (coefficient r) r) f.plan f.cost f.visits
+came : (limit : ℕ) (r : Register) → Within r → (f : Found) →
+    UpTo limit (walk (lentSum (to_z w32 (of_z w32 r.base)) (termsIn r)) (fits r) r.choices 0 start) f.plan f.cost f.visits → UpTo limit (rule (coefficient r) r) f.plan f.cost f.visits
 came limit r w f u = rw (read-signed w32 r.base (omega (arith, w.base)), search-lent r) at u
 
 pub returns-then-number-ne0 : goal.returns-then-number-ne0
@@ -37,6 +38,11 @@ search_from-found-requires-clause-small c =
     let f = c.feedcheck_register-first in
     within-small _ (opened _ f.result f.ensures c.if-number-ne0.false).valid.within
 
+pub search_from-found-requires-clause-rows_le_max_rows : goal.search_from-found-requires-clause-rows_le_max_rows
+search_from-found-requires-clause-rows_le_max_rows c =
+    let f = c.feedcheck_register-first in
+    (opened _ f.result f.ensures c.if-number-ne0.false).valid.within.rows.few
+
 pub search_from-found-requires-clause-n_le_max_choices : goal.search_from-found-requires-clause-n_le_max_choices
 search_from-found-requires-clause-n_le_max_choices c =
     let f = c.feedcheck_register-first in
@@ -48,8 +54,17 @@ returns-then-most-found c =
     let r = f.result.register in
     let w = (opened _ f.result f.ensures c.if-number-ne0.false).valid.within in
     c.refused-then-most-found.ensures
-    ∙ passes _ _ (found-met (coefficient r) r) _ _ _ (came _ r w c.search_from-found.result c.search_from-found.ensures) c.if-most-found.true
+    ∙ passes _ _ _ _ _ (came _ r w c.search_from-found.result c.search_from-found.ensures) c.if-most-found.true
     ∙ then-search _ f.result f.ensures _ c.if-number-ne0.false
+
+pub returns-then-found-eq-NO_COST : goal.returns-then-found-eq-NO_COST
+returns-then-found-eq-NO_COST c =
+    let f = c.feedcheck_register-first in
+    let r = f.result.register in
+    let w = (opened _ f.result f.ensures c.if-number-ne0.false).valid.within in
+    let k = came _ r w c.search_from-found.result c.search_from-found.ensures in
+    let e : c.search_from-found.result.cost ≡ pos noCost = sym (read-signed w64 c.search_from-found.result.cost (omega (arith, k.within))) ∙ ap (to_z w64) c.if-found-eq-NO_COST.true in
+    c.refused-then-found-eq-NO_COST.ensures ∙ none _ _ _ _ _ k c.if-most-found.false e ∙ then-search _ f.result f.ensures _ c.if-number-ne0.false
 
 pub returns : goal.returns
 returns c =
@@ -58,4 +73,4 @@ returns c =
     let w = (opened _ f.result f.ensures c.if-number-ne0.false).valid.within in
     let k = came _ r w c.search_from-found.result c.search_from-found.ensures in
     rw (read-signed w64 c.search_from-found.result.cost (omega (arith, k.within)))
-    (found _ _ (found-met (coefficient r) r) _ _ _ k c.if-most-found.false ∙ then-search _ f.result f.ensures _ c.if-number-ne0.false)
+    (found _ _ _ _ _ k c.if-most-found.false (λ e. c.if-found-eq-NO_COST.false (ap (of_z w64) e)) ∙ then-search _ f.result f.ensures _ c.if-number-ne0.false)

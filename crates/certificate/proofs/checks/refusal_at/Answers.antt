@@ -22,7 +22,7 @@ use Rattle.scheme.specs.Scheme as S
 use Rattle.certificate.specs.declared.Seen.{Seen}
 use Rattle.certificate.specs.Certificate.{Certificate, fresh}
 use Rattle.certificate.specs.Format.{commandSize, certificateRows, certificatePart}
-use Rattle.certificate.specs.Answer.{seenOf, multiplierAt, squareRead}
+use Rattle.certificate.specs.Answer.{IsMultiplier, seenOf, multiplierAt, squareRead}
 use Rattle.certificate.proofs.Asks.{own-named}
 use Rattle.certificate.proofs.Sizes.{size_is, size_scale}
 use Rattle.certificate.proofs.Rows.{row-multiplier, only-multiplier}
@@ -61,7 +61,7 @@ module _ (c : Else-placed-ne0) where
         c.if-placed-ne0.false
 
     -- a byte that is none of the others
-    between : (command ≡ 0x30 → ⊥) → (command ≡ 0x3A → ⊥) → (command ≡ 0x3F → ⊥) → (0x31 ≤ command) × (command ≤ 0x39)
+    between : (command ≡ 0x30 → ⊥) → (command ≡ 0x3A → ⊥) → (command ≡ 0x3F → ⊥) → IsMultiplier command
     between =
         only-multiplier reg sch _ _
         (command-here _ _ _ [] _ (judged reg sch c.args.bytes.now c.args.at c.args.seen (c.stands_after.ensures reg sch) c.command_size.ensures c.command_refusal-placed.ensures) c.if-placed-ne0.false)
@@ -101,8 +101,8 @@ returns-in-63 c = λ reg sch p f h. own (goal.at.returns-in-63 c).Else-placed-ne
 
 -- a multiplier command
 
-pub multiplier_at-t-requires-clause-bound : goal.multiplier_at-t-requires-clause-bound
-multiplier_at-t-requires-clause-bound c = between (goal.at.multiplier_at-t-requires-clause-bound c).Else-placed-ne0 R.fresh S.fresh (λ e. omega arith) (λ e. omega arith) (λ e. omega arith)
+pub multiplier_at-t-requires-clause-kind : goal.multiplier_at-t-requires-clause-kind
+multiplier_at-t-requires-clause-kind c = between (goal.at.multiplier_at-t-requires-clause-kind c).Else-placed-ne0 R.fresh S.fresh (λ e. omega arith) (λ e. omega arith) (λ e. omega arith)
 
 pub multiplier_at-t-requires-clause-at_in_bounds : goal.multiplier_at-t-requires-clause-at_in_bounds
 multiplier_at-t-requires-clause-at_in_bounds c = room (goal.at.multiplier_at-t-requires-clause-at_in_bounds c).Else-placed-ne0
@@ -111,7 +111,7 @@ pub returns-in_default : goal.returns-in_default
 unfolding multiplierAt
 returns-in_default c = λ reg sch p f h.
     let m = (goal.at.returns-in_default c).Else-placed-ne0 in
-    let (x, y) = between m reg sch (λ e. omega arith) (λ e. omega arith) (λ e. omega arith) in
+    let x = between m reg sch (λ e. omega arith) (λ e. omega arith) (λ e. omega arith) in
     let ok : SFits w64 c.multiplier_at-t.result.m = search rules in
-    c.multiplier_refusal.ensures _ (c.rule_of-rule.ensures reg sch (rw (← f) (record { choices-is = refl; variables-is = refl; sets-are = h })))
-    ∙ rw (to_z-of_z ok, ← f) (own-named _ _ sch c.multiplier_at-t.result _ c.multiplier_at-t.ensures ∙ rw (row-multiplier reg sch _ x y) at (own m reg sch p f _ refl))
+    c.multiplier_refusal.ensures _ (c.rule_of-rule.ensures reg sch (rw (← f) (record { choices-is = refl; variables-is = refl; rows-is = refl; sets-are = h })))
+    ∙ rw (to_z-of_z ok, ← f) (own-named _ _ sch c.multiplier_at-t.result _ c.multiplier_at-t.ensures ∙ rw (row-multiplier reg sch _ x) at (own m reg sch p f _ refl))

@@ -1,8 +1,9 @@
 -- What a multiplier command's kind asks, by the kind.
 use Rattle.std.proofs.Common.{◌≤◌}
+use mathlib.Core.Logic.{⊎_elim}
 use native.Mathlib.Omega.{arith}
 use Rattle.certificate.specs.Answer.{ruleAsked}
-use Rattle.certificate.proofs.Asks.{no-rule, tests-31, tests-32, tests-33, tests-34, tests-product, tests-variable}
+use Rattle.certificate.proofs.Asks.{no-rule, tests-31, tests-32, tests-33, tests-34, tests-product, tests-variable, tests-row}
 use Rattle.certificate.proofs.checks.rule_of.Goals as goal
 use Rattle.certificate.proofs.checks.rule_of.Goals.{in_default-via-then-kind-lt49, in_default-via-else-kind-lt49+else-kind-lt56+else-kind-lt58}
 
@@ -45,12 +46,18 @@ returns-in-56-to-57 c = λ reg sch h.
     let t = c.args.t in
     rw (c.subtracted-in-56-to-57.ensures, ← h.variables-is) (tests-variable reg sch c.args.sets.now t.i t.j t.k t.l t.kind (omega arith) (omega arith))
 
+pub returns-in-59 : goal.returns-in-59
+unfolding ruleAsked
+returns-in-59 c = λ reg sch h.
+    let t = c.args.t in
+    rw (c.in-59.is, c.row_form.ensures, ← h.variables-is, ← h.rows-is) (tests-row reg sch c.args.sets.now t.i t.j t.k t.l)
+
 pub returns-in_default : goal.returns-in_default
 unfolding ruleAsked
 returns-in_default c = λ reg sch h.
     let t = c.args.t in
-    let none : 0x31 ≤ t.kind → t.kind ≤ 0x39 → ⊥ = λ p q. elim c.in_default.branch [
+    let none : (0x31 ≤ t.kind) × (t.kind ≤ 0x39) → ⊥ = λ r. elim c.in_default.branch [
       | in_default-via-then-kind-lt49 w ↦ omega arith
       | in_default-via-else-kind-lt49+else-kind-lt56+else-kind-lt58 w ↦ omega arith
     ] in
-    rw c.null_form-in_default.ensures (no-rule reg sch c.args.sets.now t.i t.j t.k t.l t.kind none)
+    rw c.null_form-in_default.ensures (no-rule reg sch c.args.sets.now t.i t.j t.k t.l t.kind (⊎_elim none (λ e. omega arith)))

@@ -13,9 +13,9 @@ pub returns-in-63 : goal.returns-in-63
 unfolding row_of
 returns-in-63 c = λ reg sch. c.after_scale.ensures ∙ rw c.in-63.is
 
-pub returns-in-49-to-58 : goal.returns-in-49-to-58
-returns-in-49-to-58 c = λ reg sch.
-    c.after_scale-in-49-to-58.ensures ∙ ap (isAmong c.args.previous) (sym (stands-between reg sch c.args.command (omega arith) (omega arith)))
+pub returns-in-49-to-59 : goal.returns-in-49-to-59
+returns-in-49-to-59 c = λ reg sch.
+    c.after_scale-in-49-to-59.ensures ∙ ap (isAmong c.args.previous) (sym (stands-between reg sch c.args.command (omega arith) (omega arith)))
 
 -- no command
 

@@ -28,6 +28,10 @@ returns-in-52 c = rw c.in-52.is
 pub returns-in-58 : goal.returns-in-58
 returns-in-58 c = rw (c.in-58.is, size-square)
 
+pub returns-in-59 : goal.returns-in-59
+unfolding commandSize byKey arity total
+returns-in-59 c = rw c.in-59.is
+
 pub returns-in-63 : goal.returns-in-63
 returns-in-63 c = rw (c.in-63.is, size-end)
 

@@ -6,7 +6,7 @@ use Rattle.integers.proofs.Lists.{◌▹◌}
 use Rattle.wire.specs.Part.{total}
 use Rattle.wire.specs.Rows.{row_of}
 use Rattle.wire.proofs.Rest.{total-last}
-use Rattle.register.specs.Format.{baseRow, choiceRow, termRow, windowRow, lengthRow, endRow}
+use Rattle.register.specs.Format.{baseRow, choiceRow, termRow, windowRow, rowRow, lengthRow, endRow}
 use Rattle.register.proofs.checks.command_size.Goals as goal
 
 pub returns-in-16 : goal.returns-in-16
@@ -25,10 +25,14 @@ pub returns-in-19 : goal.returns-in-19
 unfolding row_of total
 returns-in-19 c = rw c.in-19.is
 
+pub returns-in-20 : goal.returns-in-20
+unfolding row_of total
+returns-in-20 c = rw c.in-20.is
+
 pub returns-in-24 : goal.returns-in-24
 unfolding row_of total
 returns-in-24 c = rw c.in-24.is
 
 pub returns-in_default : goal.returns-in_default
 returns-in_default c =
-    ap suc (sym (total-last endRow _ (baseRow ∷ choiceRow ∷ termRow ∷ windowRow ∷ lengthRow ∷ []) ((λ e. omega arith) ▹ (λ e. omega arith) ▹ (λ e. omega arith) ▹ (λ e. omega arith) ▹ (λ e. omega arith) ▹ tt) refl))
+    ap suc (sym (total-last endRow _ (baseRow ∷ choiceRow ∷ termRow ∷ windowRow ∷ rowRow ∷ lengthRow ∷ []) ((λ e. omega arith) ▹ (λ e. omega arith) ▹ (λ e. omega arith) ▹ (λ e. omega arith) ▹ (λ e. omega arith) ▹ (λ e. omega arith) ▹ tt) refl))

@@ -1,4 +1,4 @@
-use Prim.Native.Nat.{ℕ, ◌-◌, ◌<◌, ◌≤◌}
+use Prim.Native.Nat.{ℕ, ◌+◌, ◌-◌, ◌<◌, ◌≤◌}
 use native.Mathlib.Omega.{arith}
 use mathlib.Core.Path.{◌≡◌, refl, ◌∙◌, ap}
 use mathlib.Core.Logic.{◌⊎◌, ⊎_elim}
@@ -16,9 +16,10 @@ use Rattle.wire.proofs.Rest.{only-last}
 use Rattle.wire.proofs.Loop.{operandsOf, common-refused, common-own}
 use Rattle.register.specs.declared.Register.{Register}
 use Rattle.register.specs.Register.{fresh}
-use Rattle.register.specs.Format.{baseRow, choiceRow, termRow, windowRow, lengthRow, endRow, mayFeed, registerRows, registerPart}
+use Rattle.register.specs.Format.{baseRow, choiceRow, termRow, windowRow, rowRow, lengthRow, endRow, mayFeed, registerRows, registerPart}
 use Rattle.register.specs.Answer.{seenOf}
 use Rattle.register.proofs.Passes.{choice-settled}
+use Rattle.register.proofs.RowOperands.{zeros-at}
 use Rattle.register.proofs.checks.refusal_at.Goals.{Else-placed-ne0}
 use Rattle.register.proofs.checks.refusal_at.Goals as goal
 
@@ -79,6 +80,14 @@ pub u16_at-to-requires : goal.u16_at-to-requires
 unfolding row_of total
 u16_at-to-requires c = omega (arith, room (goal.at.u16_at-to-requires c).Else-placed-ne0 0x13 7 c.in-19.is refl)
 
+pub i16_at-sum-requires : goal.i16_at-sum-requires
+unfolding row_of total
+i16_at-sum-requires c = omega (arith, room (goal.at.i16_at-sum-requires c).Else-placed-ne0 0x14 35 c.in-20.is refl)
+
+pub past_zero-zeros-requires : goal.past_zero-zeros-requires
+unfolding row_of total
+past_zero-zeros-requires c = omega (arith, room (goal.at.past_zero-zeros-requires c).Else-placed-ne0 0x14 35 c.in-20.is refl)
+
 pub u16_at-requires : goal.u16_at-requires
 unfolding row_of total
 u16_at-requires c = omega (arith, room (goal.at.u16_at-requires c).Else-placed-ne0 0x18 3 c.in-24.is refl)
@@ -107,6 +116,12 @@ returns-in-19 c = λ p g.
     c.window_refusal.ensures
     ∙ rw (c.last_of-j.ensures, ← g.seen-is, ← g.tanks-are, ← g.froms-are, c.u16_at-to.ensures, c.u16_at-from.ensures, c.u16_at-tank-in-19.ensures) (own (goal.at.returns-in-19 c).Else-placed-ne0 p g.seen-is 0x13 c.in-19.is)
 
+pub returns-in-20 : goal.returns-in-20
+unfolding row_of operandsAt intAt
+returns-in-20 c = λ p g.
+    c.row_refusal.ensures
+    ∙ rw (c.past_zero-zeros.ensures, ← g.seen-is, to_z-of_z (record { sfits = c.i16_at-sum.type_inv }), c.i16_at-sum.ensures, ← zeros-at p.parsed.choices c.args.bytes.now (c.args.at + 1)) (own (goal.at.returns-in-20 c).Else-placed-ne0 p g.seen-is 0x14 c.in-20.is)
+
 pub returns-in-24 : goal.returns-in-24
 unfolding row_of operandsAt
 returns-in-24 c = λ p g. c.length_refusal.ensures ∙ rw c.u16_at.ensures (own (goal.at.returns-in-24 c).Else-placed-ne0 p g.seen-is 0x18 c.in-24.is)
@@ -116,4 +131,4 @@ unfolding row_of operandsAt
 returns-in_default c = λ p g.
     let e = (goal.at.returns-in_default c).Else-placed-ne0 in
     c.end_refusal.ensures
-    ∙ rw (← g.seen-is) (own e p g.seen-is 0x1F (only-last endRow _ (baseRow ∷ choiceRow ∷ termRow ∷ windowRow ∷ lengthRow ∷ []) ((λ e. omega arith) ▹ (λ e. omega arith) ▹ (λ e. omega arith) ▹ (λ e. omega arith) ▹ (λ e. omega arith) ▹ tt) _ (command-here _ _ _ [] _ (passed e) c.if-placed-ne0.false)))
+    ∙ rw (← g.seen-is) (own e p g.seen-is 0x1F (only-last endRow _ (baseRow ∷ choiceRow ∷ termRow ∷ windowRow ∷ rowRow ∷ lengthRow ∷ []) ((λ e. omega arith) ▹ (λ e. omega arith) ▹ (λ e. omega arith) ▹ (λ e. omega arith) ▹ (λ e. omega arith) ▹ (λ e. omega arith) ▹ tt) _ (command-here _ _ _ [] _ (passed e) c.if-placed-ne0.false)))

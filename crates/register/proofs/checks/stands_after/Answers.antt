@@ -22,6 +22,10 @@ pub returns-in-19 : goal.returns-in-19
 unfolding row_of
 returns-in-19 c = rw c.in-19.is
 
+pub returns-in-20 : goal.returns-in-20
+unfolding row_of
+returns-in-20 c = c.before_terms.ensures ∙ rw c.in-20.is
+
 pub returns-in-24 : goal.returns-in-24
 unfolding row_of
 returns-in-24 c = rw c.in-24.is
@@ -31,4 +35,4 @@ unfolding row_of
 returns-in-31 c = c.after_any-in-31.ensures ∙ rw c.in-31.is
 
 pub returns-in_default : goal.returns-in_default
-returns-in_default c = rw (no-row registerRows c.args.command ((λ e. omega arith) ▹ (λ e. omega arith) ▹ (λ e. omega arith) ▹ (λ e. omega arith) ▹ (λ e. omega arith) ▹ (λ e. omega arith) ▹ tt))
+returns-in_default c = rw (no-row registerRows c.args.command ((λ e. omega arith) ▹ (λ e. omega arith) ▹ (λ e. omega arith) ▹ (λ e. omega arith) ▹ (λ e. omega arith) ▹ (λ e. omega arith) ▹ (λ e. omega arith) ▹ tt))

@@ -18,7 +18,7 @@ returns-then-left-eq0 c = walking-found registerPart _ _ c.loop-at.invariant c.l
 
 pub overflow_add-at : goal.overflow_add-at
 overflow_add-at c =
-    let small : c.command_size-at.result ≤ 9 = rw c.command_size-at.ensures (size-within _) in
+    let small : c.command_size-at.result ≤ 35 = rw c.command_size-at.ensures (size-within _) in
     record { fits = omega arith }
 
 pub loop-at-preserved : goal.loop-at-preserved
