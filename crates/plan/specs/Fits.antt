@@ -1,33 +1,33 @@
--- Whether a plan fits the rows of a register, each an entry for every choice and a sum.
+-- Whether a plan fits the rows of a register, each an entry for every choice and a total.
 use Rattle.std.specs.Prelude.{ℕ, ◌<◌, ◌≡◌, Bool, cond, List, ℤ, pos}
 use Rattle.std.specs.Ordering.{int_eq}
 use Rattle.integers.specs.Lists.{all_below}
 use Rattle.integers.specs.Sum.{sumBelow}
 use Rattle.sets.specs.Sets.{isMember}
 use Rattle.register.specs.declared.Register.{Register}
-use Rattle.register.specs.Register.{totalIn, entryIn}
+use Rattle.register.specs.Register.{totalIn, entryIn, rowTotal, rowEntry}
 
 -- the sum of the entries of the choices that a plan feeds, where entry j is that of choice j, of n choices
 unfoldable pub fedSum : ℕ → (ℕ → ℤ) → ℕ → ℤ
 fedSum n entry plan = sumBelow n (λ j. cond (isMember j plan) (entry j) (pos 0))
 
--- a plan fits a row when the sum of its fed entries is the row's sum
+-- a plan fits a row when the sum of its fed entries is the row's total
 abbrev pub FitsRow : ℕ → (ℕ → ℤ) → ℤ → ℕ → Type 0
-FitsRow n entry sum plan = fedSum n entry plan ≡ sum
+FitsRow n entry total plan = fedSum n entry plan ≡ total
 
--- a plan fits rows 0, 1, .. count − 1, where row k has the entries entry k and the sum sum k, when it fits each. Where there is no
+-- a plan fits rows 0, 1, .. count − 1, where row k has the entries entry k and the total total k, when it fits each. Where there is no
 -- row, every plan fits
 abbrev pub FitsRows : ℕ → ℕ → (ℕ → ℕ → ℤ) → (ℕ → ℤ) → ℕ → Type 0
-FitsRows n count entry sum plan = (k : ℕ) → k < count → FitsRow n (entry k) (sum k) plan
+FitsRows n count entry total plan = (k : ℕ) → k < count → FitsRow n (entry k) (total k) plan
 
 -- the same as a test (`fits-iff` in proofs/Fits)
 unfoldable pub fitsRows : ℕ → ℕ → (ℕ → ℕ → ℤ) → (ℕ → ℤ) → ℕ → Bool
-fitsRows n count entry sum plan = all_below count (λ k. int_eq (fedSum n (entry k) plan) (sum k))
+fitsRows n count entry total plan = all_below count (λ k. int_eq (fedSum n (entry k) plan) (total k))
 
 -- ---- the rows of a register
 
 abbrev pub Fits : Register → ℕ → Type 0
-Fits r plan = FitsRows r.choices r.rows (entryIn r.row_entries) (totalIn r.row_totals) plan
+Fits r plan = FitsRows r.choices r.rows (rowEntry r) (rowTotal r) plan
 
 -- the test, by the totals of so many rows and the entries of all, of n choices
 abbrev pub storedFits : (totals entries : List ℤ) → (rows n plan : ℕ) → Bool

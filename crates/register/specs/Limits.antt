@@ -31,7 +31,7 @@ maxTank = 9_999
 abbrev pub maxCoefficient : ℕ
 maxCoefficient = 1_000_000
 
--- the highest sum of a row, which may be as far below 0
+-- the highest total of a row (b of the request), which may be as far below 0
 
 abbrev pub maxRowTotal : ℕ
 maxRowTotal = 4_064

@@ -31,7 +31,7 @@ windowFrom r j = get_or r.window_froms j 0
 abbrev pub windowTo : Register → ℕ → ℕ
 windowTo r j = get_or r.window_tos j 0
 
--- row k: its sum b, and its entry for choice j, in lists of sums and of entries; the entries of all rows stand one after the other
+-- row k: its total b, and its entry for choice j, in lists of totals and of entries; the entries of all rows stand one after the other
 
 abbrev pub totalIn : List ℤ → ℕ → ℤ
 totalIn sums k = get_or sums k (pos 0)

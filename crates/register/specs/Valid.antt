@@ -41,7 +41,7 @@ pub record Window (length t from to : ℕ) : Type 0 where
   pub to-within : to ≤ length
   pub ordered : from < to
 
--- the ranges of a row's sum and of its entries; those past the n choices are 0
+-- the ranges of a row's total and of its entries; those past the n choices are 0
 pub record FeedingRow (n : ℕ) (sum : ℤ) (entry : ℕ → ℤ) : Type 0 where
   pub sum-within : nat_abs sum ≤ maxRowTotal
   pub entry-above : (j : ℕ) → j < rowEntries → lowestEntry ≤ℤ entry j

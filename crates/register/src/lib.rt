@@ -93,7 +93,7 @@ impl Register {
     // The largest magnitude of a coefficient.
     pub const MAX_COEFFICIENT: u64 = 1_000_000;
 
-    // The largest magnitude of a row's sum.
+    // The largest magnitude of a row's total.
     pub const MAX_ROW_TOTAL: u64 = 4_064;
 
     // The minutes of a day: when the clocks go forward, on a usual day, which is meant where no length is said, and when they go

@@ -1,4 +1,4 @@
--- The form of a row as the code adds it: choice by choice, then the variable times the row's sum.
+-- The form of a row as the code adds it: choice by choice, then the variable times the row's total.
 use Prim.Native.Nat.{ℕ, suc, ◌*◌, ◌≤◌, ◌<◌}
 use mathlib.Core.Path.{◌≡◌, refl, sym, ◌∙◌, ap}
 use mathlib.Core.List.{List, [], ◌∷◌}

@@ -11,7 +11,7 @@ maxRowFactor = maxWeight * maxEntry
 abbrev pub maxSquareAt : ℕ
 maxSquareAt = maxRowFactor * maxEntry
 
--- what a multiplier command adds to a number, or subtracts from it: of `31` to `39` at most 2m, of `3B` at most m times the highest sum
+-- what a multiplier command adds to a number, or subtracts from it: of `31` to `39` at most 2m, of `3B` at most m times the highest total
 -- of a row, which is more than twice any entry (`rule-low` in proofs/Peaks)
 abbrev pub maxByCommand : ℕ
 maxByCommand = max (2 * maxMultiplier) (maxRowMultiplier * maxRowTotal)

@@ -80,12 +80,12 @@ fn subtract_product_form(table: &mut [i64], side: usize, scheme: Scheme, n: usiz
 }
 
 // Adds the form of a row m times, with a variable: for each of n choices the product of the two, times the row's entry for the choice, and
-// the variable times the row's sum, which is subtracted.
+// the variable times the row's total, which is subtracted.
 fn add_row_form(
     table: &mut [i64],
     side: usize,
     n: usize,
-    sums: &[i16; Register::MAX_ROWS],
+    totals: &[i16; Register::MAX_ROWS],
     entries: &[i8; Register::MAX_ROWS * Register::ROW_ENTRIES],
     row: usize,
     variable: usize,
@@ -96,14 +96,14 @@ fn add_row_form(
     requires few { n ≤ maxChoices }
     requires m_bound { nat_abs m ≤ maxRowMultiplier }
     requires bounded { Bounded side maxBeforeForm table.old }
-    ensures { table.new ≡ addForm side (times m (rowForm n (entryIn entries.now row) (totalIn sums.now row) variable)) table.old }
+    ensures { table.new ≡ addForm side (times m (rowForm n (entryIn entries.now row) (totalIn totals.now row) variable)) table.old }
 {
     let start = row * Register::ROW_ENTRIES;
     let z = variable + 1;
     for j in 0..n {
         add_multiple(table, side, z, j + 1, m, entries[start + j] as i64);
     }
-    add_multiple(table, side, 0, z, m, -(sums[row] as i64));
+    add_multiple(table, side, 0, z, m, -(totals[row] as i64));
 }
 
 // Adds the form of a multiplier command, `31` to `39`, m times, or subtracts it m times. There are n choices.

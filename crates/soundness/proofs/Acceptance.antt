@@ -1,14 +1,16 @@
 -- Acceptance, of our calls.
-use Prim.Native.Nat.{ℕ, ◌≤◌}
+use Prim.Native.Nat.{ℕ, zero, suc, ◌+◌, ◌^◌, ◌≤◌, ◌<◌}
 use native.Mathlib.Nat.{zero-add}
 use native.Mathlib.Omega.{arith}
 use mathlib.Core.Path.{◌≡◌, refl, sym, ◌∙◌, ap, ap₂, subst}
-use mathlib.Core.Bool.{Bool, true, false, cond}
+use mathlib.Core.Bool.{Bool, true, false, true≢false, cond}
 use mathlib.Core.List.{List, ◌++◌}
 use lib.Dec.{ltb}
 use lib.IntN.{ℤ}
+use lib.Pow.{pow_pos}
 use lib.ListN.{length, drop}
 use borrow.Author.Tests.{le-ltb}
+use Rattle.integers.proofs.Lists.{flag}
 use Rattle.wire.specs.Number.{Bytes}
 use Rattle.wire.specs.Part.{accepted}
 use Rattle.wire.specs.Outcome.{Outcome, refuses, accepts, answerBy}
@@ -32,7 +34,9 @@ use Rattle.penalty.specs.Answer.{penaltyAnswer}
 use Rattle.penalty.specs.Answer as Penalty
 use Rattle.penalty.proofs.Answers as PenaltyCall
 use Rattle.penalty.proofs.Demand.{zeros-made}
-use Rattle.plan.proofs.Answers.{costed, cost-encodings, costed-register, costed-named, costed-plan}
+use Rattle.plan.specs.Fits.{Fits, fits}
+use Rattle.plan.proofs.Fits.{register-fits}
+use Rattle.plan.proofs.Answers.{costed, cost-encodings, costed-register, costed-valid, costed-plan}
 use Rattle.bound.specs.Format.{certificateByItself}
 use Rattle.bound.specs.Check.{withResidual, checkAnswer, checkTable}
 use Rattle.bound.proofs.Accept.{commands-accepted, whole-accepted, whole-valid, whole-encodes, encoding-accepted, encoding-front}
@@ -42,6 +46,11 @@ use Rattle.job.specs.Outcome.{Parts, tableAfter}
 use Rattle.job.specs.Answer.{jobAnswer, jobTable}
 use Rattle.job.specs.Valid.{Valid, Encodes}
 use Rattle.job.proofs.Accept as JA
+use Rattle.search.specs.Walk.{Best, isLeft, start, visited, walk}
+use Rattle.search.specs.Sum.{sum}
+use Rattle.search.specs.Answer.{search}
+use Rattle.search.proofs.Walks.{walk-left, walk-full, walk-unfit, walk-on, unmet}
+use Rattle.search.proofs.Cheapest.{found-least, found-met}
 use Rattle.search.proofs.Searched.{searched, within-limit}
 use Rattle.soundness.specs.Calls.{registerCall, schemeCall, costCall, penaltyCall, checkCall, jobCall, searchCall}
 use Rattle.soundness.specs.Parts.{Part1, Part2, withR}
@@ -85,7 +94,7 @@ of-cost = record {
         reg = c.reg;
         fed = c.read.parsed;
         part-1 = record { conditions = c.first.valid; bytes = costed-register t plan c b };
-        part-4 = record { conditions = costed-named t plan c; bytes = costed-plan t plan c b' };
+        part-4 = record { conditions = costed-valid t plan c; bytes = costed-plan t plan c b' };
         cost-is = ap (λ a. a.cost) (sym e ∙ c.answers);
       };
   number-0 = λ t plan z. rw (costed t plan z).answers;
@@ -199,11 +208,37 @@ of-penalty = record {
 
 -- ---- part 1, and the visit limit
 
+-- a walk that has met no plan that fits has kept the plan that it began with
+unmet-plan : (sum : ℕ → ℕ → ℤ) (fits : ℕ → Bool) (d fed : ℕ) (w : Best) → (walk sum fits d fed w).met ≡ false → (walk sum fits d fed w).plan ≡ w.plan
+unmet-plan sum fits zero fed w m = flag (isLeft (sum 0 fed) w)
+    (λ e. rw (walk-left sum fits 0 fed w e))
+    (λ e. flag (fits fed) (λ f. absurd (true≢false (rw (walk-full sum fits fed w e f) at m))) (λ f. rw (walk-unfit sum fits fed w f)))
+unmet-plan sum fits (suc d) fed w m = flag (isLeft (sum (suc d) fed) w)
+    (λ e. rw (walk-left sum fits (suc d) fed w e))
+    (λ e.
+    let n = rw (walk-on sum fits d fed w e) at m in
+    let u = walk sum fits d fed (visited w) in
+    rw (walk-on sum fits d fed w e) (unmet-plan sum fits d (fed + 2 ^ d) u n ∙ unmet-plan sum fits d fed (visited w) (unmet sum fits d (fed + 2 ^ d) u n)))
+
+-- so the plan that the search comes to is always one of the register's, and where it fits, one that fits has been met
+module _ (r : Register) where
+  abbrev w : Best
+  w = search (coefficient r) r
+
+  searched-below : w.plan < 2 ^ r.choices
+  unfolding search
+  searched-below = flag w.met
+      (λ m. (found-least (coefficient r) r m).plan-below)
+      (λ m. rw (unmet-plan (sum (coefficient r) r) (fits r) r.choices 0 start m) (pow_pos r.choices))
+
+  searched-met : Fits r w.plan → w.met ≡ true
+  searched-met f = found-met (coefficient r) r w.plan searched-below ((register-fits r w.plan).1 f)
+
 of-search : SearchAcceptance searchCall
 of-search = record {
   all = λ t limit plan z visits p.
       let e = Ra.encoding-accepted t p.reg p.part-1.conditions p.part-1.bytes in
-      rw (p.plan-is, p.cost-is, p.visits-are) (within-limit t p.reg e limit (subst (λ v. v ≤ limit) p.visits-are p.within));
+      rw (p.plan-is, p.cost-is, p.visits-are) (within-limit t p.reg e limit (subst (λ v. v ≤ limit) p.visits-are p.within) (searched-met p.reg (subst (Fits p.reg) p.plan-is p.fits)));
   only = λ t limit plan z visits b e.
       let s = searched t limit (ap (λ a. a.number) e) in
       let f = sym e ∙ s.answers in
@@ -211,6 +246,7 @@ of-search = record {
         reg = (registerAnswer (registerByItself t)).register;
         part-1 = record { conditions = s.first.valid; bytes = ((Ra.accepted-iff t _ b).0 s.first.reads).1 };
         plan-is = ap (λ a. a.plan) f;
+        fits = subst (Fits (registerAnswer (registerByItself t)).register) (sym (ap (λ a. a.plan) f)) ((register-fits (registerAnswer (registerByItself t)).register _).0 (found-least _ _ s.met).plan-fits);
         cost-is = ap (λ a. a.cost) f;
         visits-are = ap (λ a. a.visits) f;
         within = subst (λ v. v ≤ limit) (sym (ap (λ a. a.visits) f)) s.within;

@@ -1,7 +1,7 @@
 -- The day's length, of our calls.
 use Prim.Native.Nat.{ℕ, ◌+◌, ◌^◌, ◌<◌, ◌≤◌}
 use native.Mathlib.Omega.{arith}
-use mathlib.Core.Path.{◌≡◌, refl, ◌∙◌, ap, subst}
+use mathlib.Core.Path.{◌≡◌, refl, sym, ◌∙◌, ap, subst}
 use mathlib.Core.Logic.{inl, inr}
 use mathlib.Core.Bool.{Bool, true, false, cond}
 use mathlib.Core.List.{List, [], ◌∷◌, ◌++◌, append-nil}
@@ -20,7 +20,7 @@ use Rattle.register.specs.declared.Register.{Register}
 use Rattle.register.specs.Limits.{maxBase, maxTank, usualDay, longDay}
 use Rattle.register.specs.Register.{tank, minute, coefficient, fresh, setLength, withBase, withLength, withChoice}
 use Rattle.register.specs.Valid.{DayLength, Within, Valid}
-use Rattle.register.specs.Encoding.{encodeBase, encodeLength, encodeChoice, encodeWithLength, encodeWithoutLength, encodeRegister, SaysLength, lengthIn}
+use Rattle.register.specs.Encoding.{encodeBase, encodeLength, encodeChoice, encodeWithLength, encodeWithoutLength, encodeRegister, SaysLength, lengthIn, SaysRow}
 use Rattle.register.specs.Ranges.{OutOfRange}
 use Rattle.register.specs.Format.{registerInJob, registerByItself}
 use Rattle.register.specs.Answer.{registerAnswer}
@@ -41,10 +41,11 @@ use Rattle.job.specs.Rest.{rest, fromScheme}
 use Rattle.job.specs.Answer.{refusedAnswer, afterJob, jobAnswer}
 use Rattle.soundness.specs.Calls.{registerCall, costCall, jobCall, listingCall}
 use Rattle.soundness.specs.Jobs.{Accepted}
-use Rattle.soundness.specs.DayLengths.{OfDay, KeepsLength, FeedsOfDay, JobOfDay, UsualDay, ValidBeforeLengths, LengthsKept, AsBeforeLengths}
+use Rattle.soundness.specs.DayLengths.{OfDay, KeepsLength, FeedsOfDay, JobOfDay, UsualDay, ValidBeforeLengths, bytesBeforeLengths, LengthsKept, AsBeforeLengths}
+use Rattle.soundness.specs.Windows.{withoutRows}
 use Rattle.soundness.proofs.Written.{unsaid}
 use Rattle.soundness.proofs.Jobs.{accepted-job, accepted-leads}
-use Rattle.soundness.proofs.Windows.{register-valid, accepted-valid, fed-lines, windows-kept}
+use Rattle.soundness.proofs.Windows.{register-valid, accepted-valid, fed-lines, rows-none, windows-kept}
 
 -- ---- a valid register
 
@@ -84,28 +85,12 @@ module _ (reg : Register) (v : Valid reg) where
       window-froms = v.within.window-froms;
       window-tos = v.within.window-tos;
       windows = table-each (λ j l w. record { tank-above = w.tank-above; tank-within = w.tank-within; from-below = o.froms j l; to-above = w.to-above; to-within = o.tos j l; ordered = w.ordered }) v.within.windows;
+      row-totals = v.within.row-totals;
+      row-entries = v.within.row-entries;
+      rows = v.within.rows;
       may-feed = v.within.may-feed;
     };
     day-length = d;
-    some-choice = v.some-choice;
-  }
-
-  -- by the conditions that were
-
-  before-lengths : reg.day_length ≡ usualDay → ValidBeforeLengths reg
-  before-lengths day = record {
-    base = v.within.base;
-    tanks = v.within.tanks;
-    minutes = v.within.minutes;
-    choices = table-each (λ i l c. record { tank-above = c.tank-above; tank-within = c.tank-within; minute-within = omega (arith, c.minute-below) }) v.within.choices;
-    masks = v.within.masks;
-    coefficients = v.within.coefficients;
-    terms = v.within.terms;
-    window-tanks = v.within.window-tanks;
-    window-froms = v.within.window-froms;
-    window-tos = v.within.window-tos;
-    windows = table-each (λ j l w. record { tank-above = w.tank-above; tank-within = w.tank-within; from-within = omega (arith, w.from-below); to-above = w.to-above; to-within = omega (arith, w.to-within); ordered = w.ordered }) v.within.windows;
-    may-feed = v.within.may-feed;
     some-choice = v.some-choice;
   }
 
@@ -115,8 +100,27 @@ longest-valid reg v = other-valid reg v longDay (inr (inr refl)) (of-longest reg
 own-valid : (reg : Register) → Valid (setLength reg longDay) → DayLength reg.day_length → OfDay reg.day_length reg → Valid reg
 own-valid reg v d o = other-valid (setLength reg longDay) v reg.day_length d (record { minutes = o.minutes; froms = o.froms; tos = o.tos })
 
-now-valid : (reg : Register) → ValidBeforeLengths reg → reg.day_length ≡ usualDay → Valid reg
-now-valid reg b day = record {
+-- without rows, by the conditions that were
+before-lengths : (reg : Register) → Valid (withoutRows reg) → reg.day_length ≡ usualDay → ValidBeforeLengths reg
+before-lengths reg v day = record {
+  base = v.within.base;
+  tanks = v.within.tanks;
+  minutes = v.within.minutes;
+  choices = table-each (λ i l c. record { tank-above = c.tank-above; tank-within = c.tank-within; minute-within = omega (arith, c.minute-below) }) v.within.choices;
+  masks = v.within.masks;
+  coefficients = v.within.coefficients;
+  terms = v.within.terms;
+  window-tanks = v.within.window-tanks;
+  window-froms = v.within.window-froms;
+  window-tos = v.within.window-tos;
+  windows = table-each (λ j l w. record { tank-above = w.tank-above; tank-within = w.tank-within; from-within = omega (arith, w.from-below); to-above = w.to-above; to-within = omega (arith, w.to-within); ordered = w.ordered }) v.within.windows;
+  may-feed = v.within.may-feed;
+  some-choice = v.some-choice;
+}
+
+-- and by those that are now
+now-valid : (reg : Register) → ValidBeforeLengths reg → reg.day_length ≡ usualDay → Valid (withoutRows reg)
+now-valid reg b day = let k = rows-none reg in record {
   within = record {
     base = b.base;
     day = inr (inr (inl day));
@@ -130,11 +134,18 @@ now-valid reg b day = record {
     window-froms = b.window-froms;
     window-tos = b.window-tos;
     windows = table-each (λ j l w. record { tank-above = w.tank-above; tank-within = w.tank-within; from-below = omega (arith, w.from-within); to-above = w.to-above; to-within = omega (arith, w.to-within); ordered = w.ordered }) b.windows;
+    row-totals = k.totals;
+    row-entries = k.entries;
+    rows = k.rows;
     may-feed = b.may-feed;
   };
   day-length = inr (inl day);
   some-choice = b.some-choice;
 }
+
+bytes-before : (reg : Register) → encodeWithoutLength (withoutRows reg) ≡ bytesBeforeLengths reg
+unfolding joinBelow
+bytes-before reg = simp append-nil
 
 -- ---- an accepted register
 
@@ -223,7 +234,7 @@ module _ (length t m : ℕ) (day : DayLength length) (above : 1 ≤ t) (below : 
   one-valid : Valid one
   unfolding fresh
   one-valid = record {
-    within = choice-more header header-within t m refl (record { few = omega arith; fits = record { tank-above = above; tank-within = below; minute-below = inside }; rises = inl refl }) (inl λ j l. absurd (omega arith));
+    within = choice-more header header-within t m refl refl (record { few = omega arith; fits = record { tank-above = above; tank-within = below; minute-below = inside }; rises = inl refl }) (inl λ j l. absurd (omega arith));
     day-length = day;
     some-choice = omega arith;
   }
@@ -277,7 +288,8 @@ lengths-kept = record {
       let said = accepted-valid (encodeWithLength reg) reg (encodes-with reg) in
       let not-said = accepted-valid (encodeWithoutLength reg) reg (encodes-without reg day) in
       ((λ e. not-said.1 (said.0 e)), λ e. said.1 (not-said.0 e));
-  read-as-before = λ register none. (ap registerAnswer (as-before-lengths register none), usual register none);
+  usual = usual;
+  read-as-before = λ register none no-row. ap registerAnswer (as-before-lengths register none no-row);
 }
 
 pub kept-before-lengths : AsBeforeLengths
@@ -285,8 +297,8 @@ kept-before-lengths = record {
   in-job = as-before-lengths-in-job;
   by_itself = as-before-lengths;
   part-1 = λ register reg none.
-      let one = unsaid reg register none in (
-        (λ p. let (day, e) = one.0 p.bytes in (before-lengths reg p.conditions day, day, e)),
-        (λ (b, day, e). record { conditions = now-valid reg b day; bytes = one.1 (day, e) }),
+      let one = unsaid (withoutRows reg) register none in (
+        (λ p. let (day, e) = one.0 p.bytes in (before-lengths reg p.conditions day, day, e ∙ bytes-before reg)),
+        (λ (b, day, e). record { conditions = now-valid reg b day; bytes = one.1 (day, e ∙ sym (bytes-before reg)) }),
       );
 }

@@ -11,7 +11,8 @@ use Rattle.integers.specs.Lists.{All}
 use Rattle.integers.proofs.Diff.{diff₂, diffs}
 use Rattle.forms.specs.Table.{tableNumbers}
 use Rattle.register.specs.Register.{coefficient}
-use Rattle.bound.proofs.Bound.{plan-bound}
+use Rattle.bound.proofs.Bound.{plan-bound, every-plan-bound}
+use Rattle.plan.specs.Fits.{Fits}
 use Rattle.text.specs.Text.{line}
 use Rattle.job.specs.declared.Tally.{Tally}
 use Rattle.wire.specs.Outcome.{Outcome, refuses, accepts}
@@ -48,16 +49,18 @@ accepted-job job table tally z =
     let a = r.answers in
     let e = r.leads in
     let v = accepted-valid job p e in
-    let bounds : (plan : ℕ) → boundOf p ≤ℤ planCost p.register plan = plan-bound (coefficient p.register) p.register p.scheme p.certificate v.scheme v.certificate in
+    let bounds : (plan : ℕ) → Fits p.register plan → boundOf p ≤ℤ planCost p.register plan = plan-bound (coefficient p.register) p.register p.scheme p.certificate v.scheme v.certificate in
     record {
       parts = p;
       conditions = v;
       bytes = λ b. ((accepted-iff job p b).0 e).1;
       no_other = λ b q w k. accepts-one (sym ((accepted-iff job q b).1 (w, k)) ∙ e);
-      bounds = λ plan. rw a (bounds plan.fed);
+      fits = v.plan.fits;
+      bounds = λ plan f. rw a (bounds plan.fed f);
+      bounds-every = λ none plan. rw a (every-plan-bound (coefficient p.register) p.register p.scheme p.certificate v.scheme v.certificate none plan.fed);
       cost-is = rw a;
       gap_is = rw a;
-      gap-not-negative = rw a (not_negative (boundOf p) (costOf p) (bounds p.plan));
+      gap-not-negative = rw a (not_negative (boundOf p) (costOf p) (bounds p.plan v.plan.fits));
       lines = λ lent buffer h. (handed-back job lent buffer h).front ∙ ap listing e ∙ rw a;
     }
 

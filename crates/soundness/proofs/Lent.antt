@@ -7,6 +7,7 @@ use mathlib.Core.List.{List, [], ◌∷◌}
 use lib.IntN.{ℤ, pos, nat_abs, zero-*ℤ}
 use lib.ListN.{replicate, length-replicate, get_or-replicate}
 use lib.Signed.{quot_z}
+use lib.Pow.{pow_pos}
 use Rattle.integers.specs.Lists.{comesBefore}
 use Rattle.integers.specs.Sum.{sumBelow}
 use Rattle.integers.proofs.Sum.{sumBelow-cong, sumBelow-0}
@@ -19,6 +20,7 @@ use Rattle.register.specs.Register as R
 use Rattle.register.specs.Format.{baseChecks, choiceChecks, termChecks, registerInJob, registerByItself}
 use Rattle.register.specs.Format as F
 use Rattle.plan.specs.Plan as P
+use Rattle.plan.proofs.Fits.{every-fits}
 use Rattle.scheme.specs.Scheme.{side}
 use Rattle.scheme.specs.Scheme as S
 use Rattle.scheme.specs.Filling.{Filling, factor}
@@ -46,11 +48,12 @@ record Read : Type 0 where
   base : (registerOf register).base ≡ pos 10
   terms : (registerOf register).terms ≡ 0
   choices : (registerOf register).choices ≡ 1
+  rows : (registerOf register).rows ≡ 0
   products : (schemeOf register scheme).products ≡ 0
 
 reads : Read
 unfolding registerByItself registerInJob schemeByItself schemeInJob byItself readPart readFrom run follow step command commandChecks checksAt after_at operandsAt total natAt little refusal row_of R.fresh S.fresh baseChecks choiceChecks termChecks F.endChecks comesBefore productChecks splitChecks endChecks
-reads = record { accepts = refl; base = refl; terms = refl; choices = refl; products = refl }
+reads = record { accepts = refl; base = refl; terms = refl; choices = refl; rows = refl; products = refl }
 
 -- the value read from zeros
 sum_zeros : (n k : ℕ) (y : ℕ → ℤ) → n * n < k → tableSum n (replicate k (pos 0)) y ≡ pos 0
@@ -71,7 +74,8 @@ cost-ten plan = rw (reads.terms, reads.base) refl
 pub lent-fails : (check : CheckCall) (plain : PlainCall) → Demand3 lentCall check plain → ⊥
 lent-fails check plain demand =
     let bytes : Bytes register = (omega arith, (omega arith, (omega arith, (omega arith, (omega arith, (omega arith, (omega arith, (omega arith, (omega arith, (omega arith, (omega arith, tt))))))))))) in
-    let d = (demand.of-accepted register scheme bytes reads.accepts zeros (omega (arith, length-replicate tableNumbers (pos 0)))).least in
+    let unfed : Plan register = record { fed = 0; inside = pow_pos (registerOf register).choices } in
+    let d = (demand.of-accepted register scheme bytes reads.accepts zeros (omega (arith, length-replicate tableNumbers (pos 0)))).least unfed (every-fits (registerOf register) reads.rows 0) in
     let zero : d.least ≡ pos 0 = sym d.of-first.reached ∙ value-zero d.of-first.witness in
     let ten : d.least ≡ pos 10 = sym d.of-second.reached ∙ cost-ten d.of-second.witness in
     let none : ◌≡◌ {A = ℕ} 0 10 = ap nat_abs (sym zero ∙ ten) in

@@ -1,5 +1,6 @@
 -- The statements hold of our calls; demand 3 fails for a penalty call that hands back the table as it was lent.
 pub mod Ours
+pub mod Every
 pub mod Lent
 pub mod Jobs
 pub mod Acceptance

@@ -18,7 +18,7 @@ use Rattle.scheme.specs.Filling.{Filling}
 use Rattle.scheme.proofs.Opened.{Opened, opens, opened-encodings, register-bytes, scheme-bytes, answer-opened}
 use Rattle.penalty.specs.Answer.{penaltyTable}
 use Rattle.penalty.specs.Demand.{Holds}
-use Rattle.penalty.specs.Least.{LeastWhere, Every, Least}
+use Rattle.penalty.specs.Least.{LeastWhere}
 use Rattle.penalty.specs.Carried.{carried}
 use Rattle.penalty.proofs.Sets.{carried-below}
 use Rattle.penalty.proofs.Answers as Penalty
@@ -34,9 +34,9 @@ use Rattle.bound.proofs.Bound.{plan-bound}
 use Rattle.bound.proofs.SecondOrder.{second-order}
 use Rattle.plain.proofs.ReadBack.{plain-encodes, handed-back, enough, own-accepted}
 use Rattle.soundness.specs.Calls.{penaltyCall, checkCall, plainCall}
-use Rattle.soundness.specs.Demand3.{registerOf, coefficients, schemeOf, Accepted, Plan, cost, CarriesAt, valueRead, EqualLeast, Certified, secondOrderOf, tableBack, checked, ownBack, AsWritten, Demand3}
+use Rattle.soundness.specs.Demand3.{registerOf, coefficients, schemeOf, Accepted, Plan, cost, FitsPlan, FitsFilling, CarriesAt, valueRead, EqualLeastWhere, Certified, secondOrderOf, tableBack, checked, ownBack, AsWritten, Demand3}
 
--- a function has one least value
+-- a function has one least value where P holds
 least-one : {A : Type 0} (P : A → Type 0) (f : A → ℤ) (m m' : ℤ) → LeastWhere P f m → LeastWhere P f m' → m ≡ m'
 least-one P f m m' a b =
     ≤ℤ-antisym m m' (rw (← b.reached) (a.lowest b.witness b.holds)) (rw (← a.reached) (b.lowest a.witness a.holds))
@@ -85,23 +85,25 @@ module _ (t s : List ℕ) (z : Accepted t s) (lent : List ℤ) (l : tableNumbers
   ours buffer = ownBack penaltyCall checkCall plainCall t s buffer
 
   -- (a)
-  least : EqualLeast (valueRead t s back) (cost t)
-  least = let m = holds.least in record { least = m.least; of-first = m.overFillings; of-second = m.overPlans }
+  least : (some : Plan t) → FitsPlan t some → EqualLeastWhere (FitsFilling t) (valueRead t s back) (FitsPlan t) (cost t)
+  least some f = let m = holds.least some f in record { least = m.least; of-first = m.overFillings; of-second = m.overPlans }
 
   -- (b)
-  minimisers : (m : ℤ) → Least (valueRead t s back) m → (z : Filling) → valueRead t s back z ≡ m → CarriesAt t z m
-  minimisers m h z e =
-      let one = least-one Every (valueRead t s back) m holds.least.least h holds.least.overFillings in
+  minimisers : (m : ℤ) → LeastWhere (FitsFilling t) (valueRead t s back) m → (z : Filling) → FitsFilling t z → valueRead t s back z ≡ m → CarriesAt t z m
+  minimisers m h z f e =
       let n = (registerOf t).choices in
-      record { plan = record { fed = carried n z; inside = carried-below n z }; carries = refl; costs = holds.least.minimisers z tt (e ∙ one) ∙ sym one }
+      let plan : Plan t = record { fed = carried n z; inside = carried-below n z } in
+      let same = holds.least plan f in
+      let one = least-one (FitsFilling t) (valueRead t s back) m same.least h same.overFillings in
+      record { plan = plan; carries = refl; fits = f; costs = same.minimisers z f (e ∙ one) ∙ sym one }
 
   -- (c)
-  bounds : (certificate : List ℕ) → (check certificate).number ≡ 0 → (plan : Plan t) → (check certificate).bound ≤ℤ cost t plan
-  bounds certificate e plan =
+  bounds : (certificate : List ℕ) → (check certificate).number ≡ 0 → (plan : Plan t) → FitsPlan t plan → (check certificate).bound ≤ℤ cost t plan
+  bounds certificate e plan f =
       let k = reads-accepted t s _ _ o lent l certificate e in
       let valid = whole-valid _ _ _ certificate k.read k.end k.reads in
       rw (bound-read t s _ _ o lent l certificate k.read k.end k.reads).1
-      (plan-bound (coefficients t) (registerOf t) (schemeOf t s) k.read.parsed o.scheme-valid valid plan.fed)
+      (plan-bound (coefficients t) (registerOf t) (schemeOf t s) k.read.parsed o.scheme-valid valid plan.fed f)
 
   -- (d)
   second-order-part : (certificate : List ℕ) (k : Certified t s certificate) (x : ℕ → ℤ) → pos 0 ≤ℤ secondOrderOf t s k.cert x

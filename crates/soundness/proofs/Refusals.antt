@@ -3,13 +3,13 @@ use Prim.Native.Nat.{ℕ, ◌+◌, ◌≤◌, ◌<◌}
 use native.Mathlib.Omega.{arith}
 use mathlib.Core.Path.{◌≡◌, refl, sym, ap, ap₂, ◌∙◌}
 use mathlib.Core.Logic.{◌⊎◌, inl, inr, ⊎_elim}
-use mathlib.Core.Bool.{Bool, true, false, cond}
+use mathlib.Core.Bool.{Bool, true, false, false≢true, cond}
 use mathlib.Core.List.{List, [], ◌∷◌, ◌++◌, append_assoc}
 use lib.Dec.{ltb}
 use lib.IntN.{ℤ, pos}
 use lib.ListN.{length, take, drop, length-append, length-drop, take-append-drop}
 use lib.Seq.{drop-drop, length-take-le}
-use borrow.Author.Tests.{ltb-true, lt-ltb, le-ltb}
+use borrow.Author.Tests.{ltb-true, ltb-false, lt-ltb, le-ltb}
 use Rattle.integers.specs.Lists.{All}
 use Rattle.integers.proofs.Lists.{◌▹◌, flag}
 use Rattle.wire.specs.Number.{Bytes}
@@ -61,6 +61,7 @@ use Rattle.bound.proofs.Answers.{afterCertificate}
 use Rattle.bound.proofs.Lowest.{certificate-refused, certificate-refused-by-itself}
 use Rattle.plan.specs.Format.{planPart, planInJob, planByItself}
 use Rattle.plan.specs.Answer.{refusedCost, acceptedCost, costOutcome, costAnswer}
+use Rattle.plan.proofs.Fits.{register-fits}
 use Rattle.plan.proofs.Lowest.{plan-refused, plan-refused-by-itself}
 use Rattle.plain.specs.Answer.{ownBytes, plainAnswer, plainBuffer}
 use Rattle.job.specs.declared.Tally.{Tally}
@@ -72,9 +73,10 @@ use Rattle.listing.specs.Listing.{listing}
 use Rattle.listing.specs.Answer.{listingAnswer, listingTable, listingBuffer}
 use Rattle.search.specs.Walk.{Best}
 use Rattle.search.specs.Answer.{search, searchOutcome, refusedSearch, acceptedSearch, searchAnswer}
+use Rattle.search.proofs.Cheapest.{found-none}
 use Rattle.soundness.specs.Calls.{registerCall, schemeCall, costCall, penaltyCall, checkCall, plainCall, buildCall, jobCall, listingCall, searchCall}
 use Rattle.soundness.specs.Parts.{withR}
-use Rattle.soundness.specs.Refusals.{Before2, Before3, Before4, tableRefused, tableRefusedByItself, InRegister, InScheme, InCertificate, InPlan, InTerm, ShortBuffer, SchemeTooLong, PlainTooLong, PastLimit, Behind, FromRegister, FromScheme, FromCertificate, FromPlan, RegisterRefusals, SchemeRefusals, BuildRefusals, CostRefusals, PenaltyRefusals, CheckRefusals, PlainRefusals, JobRefusals, ListingRefusals, SearchRefusals, Refusals}
+use Rattle.soundness.specs.Refusals.{Before2, Before3, Before4, tableRefused, tableRefusedByItself, InRegister, InScheme, InCertificate, InPlan, InTerm, ShortBuffer, SchemeTooLong, PlainTooLong, PastLimit, NoneFits, Behind, FromRegister, FromScheme, FromCertificate, FromPlan, RegisterRefusals, SchemeRefusals, BuildRefusals, CostRefusals, PenaltyRefusals, CheckRefusals, PlainRefusals, JobRefusals, ListingRefusals, SearchRefusals, Refusals}
 
 -- ---- parts by themselves
 
@@ -116,15 +118,26 @@ module _ (n part at : ℕ) where
       inr (record { part-is = p; before = before2 t b reg x; refused = (plan-refused-by-itself reg s b' n at).0 w }))
       (λ fed z w. absurd (not-both (sym w)))
 
-  in-search : (t : List ℕ) → Bytes t → (limit : ℕ) → searchOutcome t limit ≡ refuses n part at → InRegister n part at t ⊎ PastLimit n part at t limit
+  in-search : (t : List ℕ) → Bytes t → (limit : ℕ) → searchOutcome t limit ≡ refuses n part at → InRegister n part at t ⊎ (PastLimit n part at t limit ⊎ NoneFits n part at t limit)
   in-search t b limit e =
       then-refuses (openRegister t) _ e (λ x. inl (in-register t b x)) λ reg x y.
-      let visits = (search (coefficient reg) reg).visits in
-      flag (ltb limit visits)
+      let w = search (coefficient reg) reg in
+      flag (ltb limit w.visits)
       (λ l.
       let (i, (j, k)) = refuses-same (rw l at y) in
-      inr (record { number_is = sym i; part-is = sym j; position-is = sym k; before = before2 t b reg x; passed = ltb-true limit visits l }))
-      (λ l. absurd (not-both (sym (rw l at y))))
+      inr (inl (record { number_is = sym i; part-is = sym j; position-is = sym k; before = before2 t b reg x; passed = ltb-true limit w.visits l })))
+      (λ l. flag w.met
+      (λ m. absurd (not-both (sym (rw (l, m) at y))))
+      (λ m.
+      let (i, (j, k)) = refuses-same (rw (l, m) at y) in
+      inr (inr (record {
+        number_is = sym i;
+        part-is = sym j;
+        position-is = sym k;
+        before = before2 t b reg x;
+        within = ltb-false limit w.visits l;
+        none = λ plan h f. false≢true (sym ((found-none (coefficient reg) reg).0 m plan h) ∙ (register-fits reg plan).1 f);
+      }))))
 
 pub register-refusals : RegisterRefusals registerCall
 register-refusals t b = go (registerByItself t) refl
@@ -153,7 +166,7 @@ unfolding searchAnswer
 search-refusals t b limit = go (searchOutcome t limit) refl
   where
     go : (x : Outcome Best) → searchOutcome t limit ≡ x → let a = answerBy refusedSearch acceptedSearch x in (a.number ≡ 0 → ⊥) →
-        (a.plan ≡ 0) × (a.cost ≡ pos 0) × (a.visits ≡ 0) × (InRegister a.number a.part a.position t ⊎ PastLimit a.number a.part a.position t limit)
+        (a.plan ≡ 0) × (a.cost ≡ pos 0) × (a.visits ≡ 0) × (InRegister a.number a.part a.position t ⊎ (PastLimit a.number a.part a.position t limit ⊎ NoneFits a.number a.part a.position t limit))
     go (refuses n part at) e h = (refl, refl, refl, in-search n part at t b limit e)
     go (accepts w) e h = absurd (h refl)
 
@@ -221,14 +234,14 @@ module _ (reg : Register) (sch : Scheme) where
   rising = rows-rising fresh (certificateRows reg sch) rises
     where
       rises : All Rises (certificateRows reg sch)
-      rises = (λ r xs. tt) ▹ (λ r xs. tt) ▹ (λ r xs. tt) ▹ (λ r xs. tt) ▹ (λ r xs. tt) ▹ (λ r xs. tt) ▹ (λ r xs. tt) ▹ (λ r xs. tt) ▹ (λ r xs. tt) ▹ (λ r xs. tt) ▹ (λ r xs. tt) ▹ (λ r xs. tt) ▹ tt
+      rises = (λ r xs. tt) ▹ (λ r xs. tt) ▹ (λ r xs. tt) ▹ (λ r xs. tt) ▹ (λ r xs. tt) ▹ (λ r xs. tt) ▹ (λ r xs. tt) ▹ (λ r xs. tt) ▹ (λ r xs. tt) ▹ (λ r xs. tt) ▹ (λ r xs. tt) ▹ (λ r xs. tt) ▹ (λ r xs. tt) ▹ tt
 
 module _ (t u : List ℕ) (h : Before3 t u) (s : List ℕ) (b : Bytes s) (lent : List ℤ) (n at : ℕ) where
   -- where a certificate stands up to `3F`
   table-reached : (k : Certificate) (end : ℕ) → Within h.reg h.sch k → Encodes k (take end s) → withResidual h.reg h.sch (commandsInJob h.reg h.sch s) lent ≡ withR h.reg h.sch k lent
   table-reached k end w e =
       let few : variables h.reg.choices h.sch ≤ maxVariables = omega (arith, h.part-1.conditions.within.choices.few, h.part-2.conditions.within.products-within) in
-      let q = certificate-front h.reg h.sch few k (take end s) (drop end s) w e in
+      let q = certificate-front h.reg h.sch few h.part-1.conditions.within.rows.few k (take end s) (drop end s) w e in
       ap (λ x. withResidual h.reg h.sch x lent) (ap (commandsInJob h.reg h.sch) (sym (take-append-drop end s)) ∙ q)
 
   table-refused : (r : CertificateRefused (coefficient h.reg) h.reg h.sch s n at) → withResidual h.reg h.sch (commandsInJob h.reg h.sch s) lent ≡ tableRefused h.reg h.sch lent r

@@ -1,12 +1,12 @@
 -- Feeding windows, of our calls.
-use Prim.Native.Nat.{ℕ}
+use Prim.Native.Nat.{ℕ, ◌*◌}
 use native.Mathlib.Omega.{arith}
 use mathlib.Core.Path.{◌≡◌, refl, sym, ◌∙◌, ap, ap₂, subst}
 use mathlib.Core.Logic.{◌↔◌, inl, inr}
 use mathlib.Core.Bool.{Bool, false≢true}
 use mathlib.Core.List.{List, append-nil}
 use lib.Dec.{eqb}
-use lib.IntN.{ℤ}
+use lib.IntN.{ℤ, pos}
 use lib.ListN.{get_or}
 use borrow.Author.Tests.{eqb-true, eq-eqb}
 use Rattle.integers.specs.Lists.{anyBelow, joinBelow}
@@ -17,17 +17,17 @@ use Rattle.wire.specs.Number.{Bytes}
 use Rattle.wire.specs.Part.{Reading, refused, accepted}
 use Rattle.wire.specs.Rows.{Progress}
 use Rattle.register.specs.declared.Register.{Register}
-use Rattle.register.specs.Limits.{maxWindows, usualDay}
+use Rattle.register.specs.Limits.{maxWindows, maxRows, rowEntries, usualDay}
 use Rattle.register.specs.Register.{tank, minute, windowTank, fresh, setWindows}
 use Rattle.register.specs.Format.{registerByItself}
 use Rattle.register.specs.Answer.{registerAnswer}
 use Rattle.register.specs.Valid.{Valid, MayFeed, windowAt}
-use Rattle.register.specs.Encoding.{Encodes, encodeRegister, encodeWithoutLength, SaysLength}
+use Rattle.register.specs.Encoding.{Encodes, encodeRegister, encodeWithoutLength, SaysLength, SaysRow}
 use Rattle.register.proofs.Accept.{encoding-accepted}
 use Rattle.register.proofs.Canonical.{canonical}
 use Rattle.register.proofs.BeforeWindows.{as-before-windows-in-job, as-before-windows, no-windows}
 use Rattle.register.proofs.Opened.{opened}
-use Rattle.plan.proofs.Answers.{costed, costed-named, costed-plan}
+use Rattle.plan.proofs.Answers.{costed, costed-valid, costed-plan}
 use Rattle.job.specs.declared.Tally.{Tally}
 use Rattle.text.specs.Text.{HasLine}
 use Rattle.listing.specs.Listing.{fedLine}
@@ -36,7 +36,8 @@ use Rattle.soundness.specs.Calls.{registerCall, costCall, jobCall, listingCall}
 use Rattle.soundness.specs.Parts.{Part4}
 use Rattle.soundness.specs.Acceptance.{registerAccepted}
 use Rattle.soundness.specs.Jobs.{Accepted, Listed, shown, AcceptedJob}
-use Rattle.soundness.specs.Windows.{InWindow, ChoicesInside, Feeding, KeepsWindows, JobInside, WindowsRight, withoutWindows, ValidBeforeWindows, bytesBeforeWindows, WindowsKept, AsBeforeWindows}
+use Rattle.soundness.specs.Windows.{InWindow, ChoicesInside, Feeding, KeepsWindows, JobInside, WindowsRight, withoutWindows, withoutRows, ValidBeforeWindows, bytesBeforeWindows, WindowsKept, AsBeforeWindows}
+use Rattle.soundness.specs.Rows.{RowsRight}
 use Rattle.soundness.proofs.Written.{unsaid}
 use Rattle.soundness.proofs.Jobs.{accepted-job}
 
@@ -76,7 +77,7 @@ plan-keeps register plan b z =
     let n = ap (λ a. a.number) e in (
       n,
       fed,
-      subst (λ reg. Part4 reg plan fed) (sym (ap (λ a. a.register) e)) (record { conditions = costed-named register plan c; bytes = costed-plan register plan c b }),
+      subst (λ reg. Part4 reg plan fed) (sym (ap (λ a. a.register) e)) (record { conditions = costed-valid register plan c; bytes = costed-plan register plan c b }),
       keeps (registerCall register).register fed (register-valid register n),
     )
 
@@ -129,11 +130,22 @@ module _ (r : Register) (v : Valid r) (k : ℕ) (tanks froms tos : List ℕ) whe
       window-froms = w.froms;
       window-tos = w.tos;
       windows = w.windows;
+      row-totals = v.within.row-totals;
+      row-entries = v.within.row-entries;
+      rows = v.within.rows;
       may-feed = λ i l. may-feed other (tank r i) (minute r i) (h i l);
     };
     day-length = v.day-length;
     some-choice = v.some-choice;
   }
+
+-- without rows those that there are are right
+pub rows-none : (r : Register) → RowsRight (withoutRows r)
+rows-none r = record {
+  totals = column-none {A = ℤ} maxRows (pos 0);
+  entries = column-none {A = ℤ} (maxRows * rowEntries) (pos 0);
+  rows = record { few = omega arith; each = λ i l. absurd (omega arith) };
+}
 
 module _ (r : Register) where
   right : Valid r → WindowsRight r
@@ -155,9 +167,9 @@ module _ (r : Register) where
   own-valid : Valid (withoutWindows r) → WindowsRight r → ChoicesInside r → Valid r
   own-valid v = with-windows (withoutWindows r) v r.windows r.window_tanks r.window_froms r.window_tos
 
-  -- the conditions before there were windows, on a day of the usual length
+  -- the conditions before there were windows, on a day of the usual length and without rows
 
-  before-none : r.day_length ≡ usualDay → Valid (withoutWindows r) → ValidBeforeWindows r
+  before-none : r.day_length ≡ usualDay → Valid (withoutWindows (withoutRows r)) → ValidBeforeWindows r
   before-none day v = record {
     base = v.within.base;
     day = day;
@@ -170,8 +182,8 @@ module _ (r : Register) where
     some-choice = v.some-choice;
   }
 
-  with_none : ValidBeforeWindows r → Valid (withoutWindows r)
-  with_none b = let w = right-none in record {
+  with_none : ValidBeforeWindows r → Valid (withoutWindows (withoutRows r))
+  with_none b = let w = right-none in let k = rows-none r in record {
     within = record {
       base = b.base;
       day = inr (inr (inl b.day));
@@ -185,26 +197,29 @@ module _ (r : Register) where
       window-froms = w.froms;
       window-tos = w.tos;
       windows = w.windows;
+      row-totals = k.totals;
+      row-entries = k.entries;
+      rows = k.rows;
       may-feed = λ i l. may-feed (withoutWindows r) (tank r i) (minute r i) (inside-none i l);
     };
     day-length = inr (inl b.day);
     some-choice = b.some-choice;
   }
 
-  bytes-none : encodeWithoutLength (withoutWindows r) ≡ bytesBeforeWindows r
+  bytes-none : encodeWithoutLength (withoutWindows (withoutRows r)) ≡ bytesBeforeWindows r
   unfolding joinBelow
-  bytes-none = rw append-nil
+  bytes-none = simp append-nil
 
--- ---- bytes without a window that say no length
+-- ---- bytes without a window that say no length and no row
 
-module _ (s : List ℕ) (none : get_or s 5 0 ≡ 0x13 → ⊥) (no_length : SaysLength s → ⊥) where
+module _ (s : List ℕ) (none : get_or s 5 0 ≡ 0x13 → ⊥) (no_length : SaysLength s → ⊥) (no-row : SaysRow s → ⊥) where
   answered-without : withoutWindows (registerCall s).register ≡ (registerCall s).register
   unfolding fresh
   answered-without = go (registerByItself s) refl
     where
       go : (x : Reading (Progress Register)) → registerByItself s ≡ x → withoutWindows (registerAnswer x).register ≡ (registerAnswer x).register
       go (refused n at) e = refl
-      go (accepted p end) e = ap (λ w. setWindows p.parsed w.0 w.1 w.2 w.3) (sym (no-windows s none no_length e))
+      go (accepted p end) e = ap (λ w. setWindows p.parsed w.0 w.1 w.2 w.3) (sym (no-windows s none no_length no-row e))
 
 -- ---- acceptance
 
@@ -226,7 +241,8 @@ windows-kept = record {
         (λ e. let v = own.0 e in (none.1 (none-valid reg v), right reg v, inside reg v)),
         (λ (e, w, h). own.1 (own-valid reg (none.0 e) w h)),
       );
-  read-as-before = λ register none no_length. (ap registerAnswer (as-before-windows register none no_length), answered-without register none no_length);
+  read-as-before = λ register none no_length no-row.
+      (ap registerAnswer (as-before-windows register none no_length no-row), answered-without register none no_length no-row);
 }
 
 pub kept-before-windows : AsBeforeWindows
@@ -234,7 +250,7 @@ kept-before-windows = record {
   in-job = as-before-windows-in-job;
   by_itself = as-before-windows;
   part-1 = λ register reg no_length.
-      let one = unsaid (withoutWindows reg) register no_length in (
+      let one = unsaid (withoutWindows (withoutRows reg)) register no_length in (
         (λ p. let (day, e) = one.0 p.bytes in (before-none reg day p.conditions, e ∙ bytes-none reg)),
         (λ (b, e). record { conditions = with_none reg b; bytes = one.1 (b.day, e ∙ sym (bytes-none reg)) }),
       );

@@ -17,7 +17,7 @@ module _ (reg : Register) (s : List ℕ) where
   abbrev Without : Type 0
   Without = (reg.day_length ≡ usualDay) × (s ≡ encodeWithoutLength reg)
 
-  forms : Encodes reg s ↔ ((s ≡ encodeWithLength reg) ⊎ Without)
+  pub forms : Encodes reg s ↔ ((s ≡ encodeWithLength reg) ⊎ Without)
   forms = (R.encodes-forms reg s, ⊎_elim (λ e. rw e (R.encodes-with reg)) (λ (day, e). rw e (R.encodes-without reg day)))
 
   says-length : s ≡ encodeWithLength reg → SaysLength s

@@ -99,14 +99,14 @@ add_multiple-requires-2-clause-bounded c =
 pub add_multiple-requires-2-clause-c_bound : goal.add_multiple-requires-2-clause-c_bound
 add_multiple-requires-2-clause-c_bound c =
     let k = (goal.at.add_multiple-requires-2-clause-c_bound c).Start in
-    let x = get_or c.args.sums.now c.args.row (pos 0) in
+    let x = get_or c.args.totals.now c.args.row (pos 0) in
     let word : SFits w16 x = search rules in
     rw (m-read k, word-less-read x word) (omega (arith, natAbs-*-≤ c.args.m (neg_ℤ x) maxRowMultiplier 32_768 c.requires.m_bound (word-low x word)))
 
 pub returns : goal.returns
 returns c =
     let k = (goal.at.returns c).Start in
-    let x = get_or c.args.sums.now c.args.row (pos 0) in
+    let x = get_or c.args.totals.now c.args.row (pos 0) in
     let word : SFits w16 x = search rules in
     let all : c.loop-j.j ≡ c.args.n = omega arith in
     c.add_multiple-2.ensures
