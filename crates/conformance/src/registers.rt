@@ -105,7 +105,12 @@ fn entries(
 {
     let mut next = from;
     for j in 0..Register::ROW_ENTRIES {
-        next = entry(next, line, is_counted, entries[k * Register::ROW_ENTRIES + j]);
+        next = entry(
+            next,
+            line,
+            is_counted,
+            entries[k * Register::ROW_ENTRIES + j],
+        );
     }
     next
 }
