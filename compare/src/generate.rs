@@ -3,7 +3,7 @@
 use crate::random::Random;
 use reference::certificate::{self, Certificate, Multiplier, Square};
 use reference::register::{
-    Choice, Register, Row, Term, Window, DAY_LENGTHS, LONG_DAY, MAX_CHOICES, MAX_ROWS, MAX_ROW_SUM, MAX_TERMS, MAX_WINDOWS,
+    Choice, Register, Row, Term, Window, DAY_LENGTHS, LONG_DAY, MAX_CHOICES, MAX_ROWS, MAX_ROW_TOTAL, MAX_TERMS, MAX_WINDOWS,
     SHORT_DAY, USUAL_DAY,
 };
 use reference::scheme::{Scheme, MAX_PRODUCTS};
@@ -184,7 +184,7 @@ fn later(random: &mut Random, minute: u16, length: u16) -> u16 {
     random.pick(&[minute + 1, minute + 1, length, shorter, any])
 }
 
-/// Rows of n choices. In three of four cases the plan fits them all; else one or all have another sum, which may be no plan's.
+/// Rows of n choices. In three of four cases the plan fits them all; else one or all have another total, which may be no plan's.
 fn rows(random: &mut Random, n: usize, plan: u32) -> Vec<Row> {
     let count = match random.below(20) {
         0..=9 => return Vec::new(),
@@ -199,15 +199,16 @@ fn rows(random: &mut Random, n: usize, plan: u32) -> Vec<Row> {
         let (only, any) = (random.below(count), random.within(-4_064, 4_064) as i16);
         for (k, row) in rows.iter_mut().enumerate() {
             if k == only || random.chance(20) {
-                let (limit, sum) = (MAX_ROW_SUM as i16, row.sum);
-                row.sum = random.pick(&[sum + 1, sum - 1, sum + 2, -sum, 0, 1, limit, -limit, any]).clamp(-limit, limit);
+                let (limit, total) = (MAX_ROW_TOTAL as i16, row.total);
+                row.total =
+                    random.pick(&[total + 1, total - 1, total + 2, -total, 0, 1, limit, -limit, any]).clamp(-limit, limit);
             }
         }
     }
     rows
 }
 
-/// A row that the plan fits: entries of one kind or of any, and the sum that the plan makes of them.
+/// A row that the plan fits: entries of one kind or of any, and the total that the plan makes of them.
 fn row(random: &mut Random, n: usize, plan: u32) -> Row {
     let any = random.next() as i8;
     let kinds: [&[i8]; 10] = [
@@ -226,7 +227,7 @@ fn row(random: &mut Random, n: usize, plan: u32) -> Row {
     ];
     let kind = random.pick(&kinds);
     let any_entries = random.chance(25);
-    let mut row = Row { sum: 0, entries: [0; MAX_CHOICES] };
+    let mut row = Row { total: 0, entries: [0; MAX_CHOICES] };
     for entry in &mut row.entries[..n] {
         *entry = if any_entries { random.next() as i8 } else { random.pick(kind) };
     }
@@ -235,10 +236,10 @@ fn row(random: &mut Random, n: usize, plan: u32) -> Row {
         row.entries = [0; MAX_CHOICES];
         row.entries[random.pick(&[0, n - 1])] = random.pick(&[1, -1, 127, -128]);
     }
-    // 32 entries of -128 or of 127 and more come to more than a sum may be: the last ones are left out.
+    // 32 entries of -128 or of 127 and more come to more than a total may be: the last ones are left out.
     for j in (0..n).rev() {
-        row.sum = row.sum_of(plan);
-        if row.sum.unsigned_abs() <= MAX_ROW_SUM {
+        row.total = row.sum_of(plan);
+        if row.total.unsigned_abs() <= MAX_ROW_TOTAL {
             break;
         }
         row.entries[j] = 0;
@@ -588,7 +589,7 @@ fn window_command(window: &Window) -> Vec<u8> {
 }
 
 fn row_command(row: &Row) -> Vec<u8> {
-    command(0x14, &[&row.sum.to_le_bytes(), &row.entries.map(|entry| entry as u8)])
+    command(0x14, &[&row.total.to_le_bytes(), &row.entries.map(|entry| entry as u8)])
 }
 
 pub fn scheme_commands(scheme: &Scheme) -> Vec<Vec<u8>> {
@@ -919,14 +920,14 @@ fn damage_rows(random: &mut Random, commands: &mut Vec<Vec<u8>>, n: usize) {
     let any: Vec<u8> = (0..2 + n).map(|_| random.next() as u8).collect();
     let mut fresh = vec![0; 3 + MAX_CHOICES];
     fresh[0] = 0x14;
-    // A row of 0s, of 1s, or of any entries with any sum that is allowed.
+    // A row of 0s, of 1s, or of any entries with any total that is allowed.
     match random.below(3) {
         0 => {}
         1 => fresh[3..3 + n].fill(1),
         _ => {
             fresh[1..3 + n].copy_from_slice(&any);
-            let sum = i16::from_le_bytes([any[0], any[1]]) % (MAX_ROW_SUM as i16 + 1);
-            fresh[1..3].copy_from_slice(&sum.to_le_bytes());
+            let total = i16::from_le_bytes([any[0], any[1]]) % (MAX_ROW_TOTAL as i16 + 1);
+            fresh[1..3].copy_from_slice(&total.to_le_bytes());
         }
     }
     let choice_end = commands.iter().rposition(|command| command[0] == 0x11).map_or(1, |at| at + 1).min(commands.len());
@@ -943,12 +944,12 @@ fn damage_rows(random: &mut Random, commands: &mut Vec<Vec<u8>>, n: usize) {
     match random.below(16) {
         // One thing wrong, or two; of a row that is left as it was, or of all.
         0..=4 => wrong_row(random, &mut commands[at], n),
-        // Another sum or another entry, within its range: other plans fit, or none does.
+        // Another total or another entry, within its range: other plans fit, or none does.
         5 | 6 => {
-            let sum = operand(&commands[at], 0);
-            let (more, less) = (sum.wrapping_add(1), sum.wrapping_sub(1));
-            let sum = random.pick(&[more, more, less, less, sum.wrapping_neg(), 0]);
-            set_operand(&mut commands[at], 0, sum);
+            let total = operand(&commands[at], 0);
+            let (more, less) = (total.wrapping_add(1), total.wrapping_sub(1));
+            let total = random.pick(&[more, more, less, less, total.wrapping_neg(), 0]);
+            set_operand(&mut commands[at], 0, total);
         }
         7 => {
             let entry = 3 + random.below(n.min(MAX_CHOICES));
@@ -1004,11 +1005,11 @@ fn wrong_row(random: &mut Random, row: &mut [u8], n: usize) {
             let any = n + random.below(MAX_CHOICES - n);
             row[3 + random.pick(&[n, n, MAX_CHOICES - 1, any])] = random.pick(&[1, 0xFF, 0x80, 0x7F]);
         } else {
-            let limit = MAX_ROW_SUM as i16;
+            let limit = MAX_ROW_TOTAL as i16;
             let near = random.pick(&[limit, limit + 1, limit - 1, -limit, -limit - 1, 1 - limit]);
             let any = random.next() as i16;
-            let sum = random.pick(&[near, near, near, i16::MAX, i16::MIN, near.swap_bytes(), any]);
-            row[1..3].copy_from_slice(&sum.to_le_bytes());
+            let total = random.pick(&[near, near, near, i16::MAX, i16::MIN, near.swap_bytes(), any]);
+            row[1..3].copy_from_slice(&total.to_le_bytes());
         }
     }
 }

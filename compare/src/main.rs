@@ -439,7 +439,7 @@ fn register_answer(answer: Answer<reference::register::Register>) -> raw::Regist
         }
         record.rows = register.rows.len();
         for (k, row) in register.rows.iter().enumerate() {
-            record.row_totals[k] = row.sum;
+            record.row_totals[k] = row.total;
             record.row_entries[32 * k..32 * k + 32].copy_from_slice(&row.entries);
         }
     }

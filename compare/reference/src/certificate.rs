@@ -180,7 +180,7 @@ fn add_multiplier(register: &Register, scheme: &Scheme, multiplier: &Multiplier,
             for (choice, &entry) in row.entries[..scheme.choices].iter().enumerate() {
                 table.add_product(j, choice, m * entry as i64);
             }
-            table.add_linear(j, -m * row.sum as i64);
+            table.add_linear(j, -m * row.total as i64);
         }
         // Forms that are never negative, subtracted.
         0x35 => {

@@ -37,14 +37,14 @@ pub struct Choice {
     pub minute: u16,
 }
 
-/// The largest sum of a row, either sign.
-pub const MAX_ROW_SUM: u16 = 4_064;
+/// The largest total of a row, either sign.
+pub const MAX_ROW_TOTAL: u16 = 4_064;
 
-/// A plan fits the row when the entries of the choices that it feeds come to the sum; 004's linear constraint. Every row has a
+/// A plan fits the row when the entries of the choices that it feeds come to the total; 004's linear constraint. Every row has a
 /// place for each choice that there may be; those of choices that are not there hold 0.
 #[derive(Clone, Copy, Debug, PartialEq, Eq)]
 pub struct Row {
-    pub sum: i16,
+    pub total: i16,
     pub entries: [i8; MAX_CHOICES],
 }
 
@@ -82,7 +82,7 @@ impl Register {
 
     /// Whether the plan fits every row.
     pub fn fits(&self, plan: u32) -> bool {
-        self.rows.iter().all(|row| row.sum_of(plan) == row.sum)
+        self.rows.iter().all(|row| row.sum_of(plan) == row.total)
     }
 
     /// Whether the windows let the tank be fed at this minute; a tank that has none may be fed at any.
@@ -141,12 +141,12 @@ pub fn read(bytes: &[u8]) -> Read<Register> {
                 register.windows.push(Window { tank, from, to });
             }
             0x14 => {
-                let sum = command.i16(0);
+                let total = command.i16(0);
                 let entries = std::array::from_fn(|j| command.u8(2 + j) as i8);
                 command.refuse(3, register.rows.len() == MAX_ROWS)?;
-                command.refuse(4, sum.unsigned_abs() > MAX_ROW_SUM)?;
+                command.refuse(4, total.unsigned_abs() > MAX_ROW_TOTAL)?;
                 command.refuse(5, entries[register.choices.len()..].iter().any(|&entry| entry != 0))?;
-                register.rows.push(Row { sum, entries });
+                register.rows.push(Row { total, entries });
             }
             0x18 => {
                 let length = command.u16(0);

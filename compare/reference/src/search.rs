@@ -47,7 +47,7 @@ pub fn search(register: &Register, limit: u32) -> Result<Found, NotFound> {
     let mut unfed = 0;
     // The sums of the partial plans on the way to this one, by the number of choices undecided there.
     let mut sums = [0; MAX_CHOICES + 1];
-    // Until a full plan is met, above every sum.
+    // Until a full plan that fits is met, above every sum.
     let mut best = i64::MAX;
     let mut plan = None;
     let mut visits = 0;
@@ -155,7 +155,7 @@ impl WordForWord<'_> {
         if undecided == 0 {
             let fits = |row: &Row| {
                 let fed_entries = (0..MAX_CHOICES).filter(|i| fed & 1 << i != 0).map(|i| row.entries[i] as i64);
-                fed_entries.sum::<i64>() == row.sum as i64
+                fed_entries.sum::<i64>() == row.total as i64
             };
             if self.register.rows.iter().all(fits) {
                 self.best = Some((fed, sum));

@@ -42,11 +42,11 @@ fn rows(random: &mut Random, n: usize) -> Vec<Row> {
     let row = |_| {
         let kinds = [&[1][..], &[0, 1], &[0, 1], &[-1, 1], &[0, 2, -2], &[1, 2, 3, 4], &[-128, -1, 0, 1, 127]];
         let values = random.pick(&kinds);
-        let mut row = Row { sum: 0, entries: [0; MAX_CHOICES] };
+        let mut row = Row { total: 0, entries: [0; MAX_CHOICES] };
         row.entries[..n].iter_mut().for_each(|entry| *entry = random.pick(values));
-        // The sum of some plan, or one that may be no plan's.
+        // The total of some plan, or one that may be no plan's.
         let near = if random.chance(15) { random.within(-1, 1) as i16 } else { 0 };
-        row.sum = (row.sum_of(fed) + near).clamp(-4_064, 4_064);
+        row.total = (row.sum_of(fed) + near).clamp(-4_064, 4_064);
         row
     };
     (0..count).map(row).collect()
@@ -55,7 +55,7 @@ fn rows(random: &mut Random, n: usize) -> Vec<Row> {
 /// Whether a plan fits, said again.
 fn fits(register: &Register, plan: u32) -> bool {
     let sum = |row: &Row| (0..MAX_CHOICES).map(|j| (plan >> j & 1) as i64 * row.entries[j] as i64).sum::<i64>();
-    register.rows.iter().all(|row| sum(row) == row.sum as i64)
+    register.rows.iter().all(|row| sum(row) == row.total as i64)
 }
 
 #[test]
@@ -130,7 +130,7 @@ fn last_plan_fits() {
     for n in 1..=16 {
         let choices = (1..=n as u16).map(|tank| Choice { tank, minute: 0 }).collect();
         let terms = (0..n).map(|i| Term { mask: 1 << i, coefficient: 1 << i, position: 0 }).collect();
-        let mut row = Row { sum: n as i16, entries: [0; MAX_CHOICES] };
+        let mut row = Row { total: n as i16, entries: [0; MAX_CHOICES] };
         row.entries[..n as usize].fill(1);
         let register = Register { base: 0, day_length: USUAL_DAY, windows: Vec::new(), choices, rows: vec![row], terms };
         let found = search(&register, u32::MAX).unwrap();

@@ -95,7 +95,7 @@ fn register() {
                 let windows = register.windows.iter().flat_map(|window| [window.tank, window.from, window.to].map(i64::from));
                 let windows = std::iter::once(register.windows.len() as i64).chain(windows);
                 let rest = [register.day_length as i64, register.rows.len() as i64];
-                let of_row = |row: &Row| std::iter::once(row.sum as i64).chain(row.entries.map(i64::from)).collect::<Vec<_>>();
+                let of_row = |row: &Row| std::iter::once(row.total as i64).chain(row.entries.map(i64::from)).collect::<Vec<_>>();
                 let rows = register.rows.iter().flat_map(of_row);
                 let mut numbers = counts.into_iter().chain(choices).chain(terms).chain(windows).chain(rest).chain(rows);
                 numbers.all(|number| number == f.number())
