@@ -141,9 +141,9 @@ module _ (n : ℕ) (a : ℕ → ℤ) (b : ℤ) (i : ℕ) where
 
   -- ---- how large they are
 
-  module _ (most : ℕ) (entries : (j : ℕ) → j < n → nat_abs (a j) * 2 ≤ most) (sum : nat_abs b ≤ most) where
+  module _ (most : ℕ) (entries : (j : ℕ) → j < n → nat_abs (a j) * 2 ≤ most) (total : nat_abs b ≤ most) where
     in-row : (y : ℕ) → nat_abs (entry (rowForm n a b i) (place i) y) ≤ most
-    in-row zero = rw (entry-symmetric (rowForm n a b i) (place i) 0, row-constant, natAbs-neg b) sum
+    in-row zero = rw (entry-symmetric (rowForm n a b i) (place i) 0, row-constant, natAbs-neg b) total
     in-row (suc j) = go (dec_lt j n) (ℕ_discrete i j)
       where
         go : Dec (j < n) → Dec (i ≡ j) → nat_abs (entry (rowForm n a b i) (place i) (place j)) ≤ most
@@ -151,7 +151,7 @@ module _ (n : ℕ) (a : ℕ → ℤ) (b : ℤ) (i : ℕ) where
         go (yes l) (no d) = rw (row-product j l d) (omega (arith, entries j l))
         go (yes l) (yes e) = rw (← e, row-square (rw e l), natAbs-* (a i) (pos 2)) (omega (arith, entries i (rw e l)))
 
-    -- twice an entry and the sum are at most so much: so is each number of the table
+    -- twice an entry and the total are at most so much: so is each number of the table
     pub row-low : (x y : ℕ) → nat_abs (entry (rowForm n a b i) x y) ≤ most
     row-low x y = go (ℕ_discrete x (place i)) (ℕ_discrete y (place i))
       where
@@ -164,7 +164,7 @@ module _ (n : ℕ) (a : ℕ → ℤ) (b : ℤ) (i : ℕ) where
     pub row-low-times : (m : ℤ) (l : ℕ) → nat_abs m ≤ l → (x y : ℕ) → nat_abs (entry (times m (rowForm n a b i)) x y) ≤ l * most
     row-low-times m l h x y = rw (entry-times m (rowForm n a b i) x y) (natAbs-*-≤ m (entry (rowForm n a b i) x y) l most h (row-low x y))
 
-  -- the sum of twice the absolute values of its coefficients: entries within ±c, the sum within ±e
+  -- the sum of twice the absolute values of its coefficients: entries within ±c, the total within ±e
   pub row-norm : (c e : ℕ) → ((j : ℕ) → j < n → nat_abs (a j) ≤ c) → nat_abs b ≤ e → norm1 (rowForm n a b i) ≤ 2 * c * n + 2 * e
   unfolding rowForm
   row-norm c e h l =
@@ -177,7 +177,7 @@ module _ (n : ℕ) (a : ℕ → ℤ) (b : ℤ) (i : ℕ) where
         natAbs-neg b,
       )
 
--- ---- an example: three choices with entries 3, 5, −1, the sum 4, and variable 1, twice: rows 0 to 3 of its table. The square
+-- ---- an example: three choices with entries 3, 5, −1, the total 4, and variable 1, twice: rows 0 to 3 of its table. The square
 -- 5 z_1 z_1 stands at (2,2), twice
 
 row : Form

@@ -33,7 +33,7 @@ SubtractedRange m = (pos 0 ≤ℤ m) × (m ≤ℤ pos maxMultiplier)
 abbrev pub RowRange : ℤ → Type 0
 RowRange m = nat_abs m ≤ maxRowMultiplier
 
--- the condition of each multiplier command by its byte: how many variables it names, which are there, their order, their
+-- the condition of each multiplier command by its byte: how many numbers it names, whether what they name is there, their order, their
 -- sets, and the range of m
 abbrev pub conditions : Register → Scheme → List ℕ → ℤ → List (ℕ × Type 0)
 conditions r s names m =

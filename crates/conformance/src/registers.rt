@@ -84,12 +84,12 @@ fn windows(from: Cursor, line: &[u8], register: Register) -> Cursor {
     next
 }
 
-// An entry of a row, or past the count zero.
-fn entry(next: Cursor, line: &[u8], is_counted: bool, entry: i8) -> Cursor {
+// A number of a row, or past the count zero.
+fn row_number(next: Cursor, line: &[u8], is_counted: bool, number: i64) -> Cursor {
     if is_counted {
-        next.signed(line, entry as i64)
+        next.signed(line, number)
     } else {
-        next.also(entry == 0)
+        next.also(number == 0)
     }
 }
 
@@ -103,32 +103,19 @@ fn entries(
 ) -> Cursor
     requires { k < maxRows }
 {
+    let start = k * Register::ROW_ENTRIES;
     let mut next = from;
     for j in 0..Register::ROW_ENTRIES {
-        next = entry(
-            next,
-            line,
-            is_counted,
-            entries[k * Register::ROW_ENTRIES + j],
-        );
+        next = row_number(next, line, is_counted, entries[start + j] as i64);
     }
     next
-}
-
-// A row's sum, or past the count zero.
-fn sum(next: Cursor, line: &[u8], is_counted: bool, sum: i16) -> Cursor {
-    if is_counted {
-        next.signed(line, sum as i64)
-    } else {
-        next.also(sum == 0)
-    }
 }
 
 fn rows(from: Cursor, line: &[u8], register: Register) -> Cursor {
     let mut next = from;
     for k in 0..Register::MAX_ROWS {
         let is_counted = k < register.rows;
-        next = sum(next, line, is_counted, register.row_totals[k]);
+        next = row_number(next, line, is_counted, register.row_totals[k] as i64);
         next = entries(next, line, is_counted, &register.row_entries, k);
     }
     next

@@ -48,48 +48,48 @@ fedSum-set n entry z = sumBelow-cong n _ _ (λ j l. ap (λ x. cond x (entry j) (
 
 -- ---- whether a plan fits
 
-module _ (n count : ℕ) (entry : ℕ → ℕ → ℤ) (sum : ℕ → ℤ) where
+module _ (n count : ℕ) (entry : ℕ → ℕ → ℤ) (total : ℕ → ℤ) where
   -- the test passes just where the plan fits
-  pub fits-iff : (plan : ℕ) → (fitsRows n count entry sum plan ≡ true) ↔ FitsRows n count entry sum plan
+  pub fits-iff : (plan : ℕ) → (fitsRows n count entry total plan ≡ true) ↔ FitsRows n count entry total plan
   unfolding fitsRows
   fits-iff plan = (
     (λ e k l. (Decides-int_eq _ _).0 ((T_true _).0 (allBelow-at count _ ((T_true _).1 e) k l))),
     (λ f. (T_true _).0 (allBelow-by count _ (λ k l. (T_true _).1 ((Decides-int_eq _ _).1 (f k l))))),
   )
 
-  pub fits-not : (plan : ℕ) → fitsRows n count entry sum plan ≡ false → FitsRows n count entry sum plan → ⊥
+  pub fits-not : (plan : ℕ) → fitsRows n count entry total plan ≡ false → FitsRows n count entry total plan → ⊥
   fits-not plan e f = absurd (differ (sym e ∙ (fits-iff plan).1 f))
     where
       differ : false ≡ true → ⊥
       differ h = grind arith
 
   -- whether a plan fits is decided
-  pub fits? : (plan : ℕ) → Dec (FitsRows n count entry sum plan)
-  fits? plan = go (fitsRows n count entry sum plan) refl
+  pub fits? : (plan : ℕ) → Dec (FitsRows n count entry total plan)
+  fits? plan = go (fitsRows n count entry total plan) refl
     where
-      go : (b : Bool) → fitsRows n count entry sum plan ≡ b → Dec (FitsRows n count entry sum plan)
+      go : (b : Bool) → fitsRows n count entry total plan ≡ b → Dec (FitsRows n count entry total plan)
       go true e = yes ((fits-iff plan).0 e)
       go false e = no (fits-not plan e)
 
 -- without rows every plan fits
-pub fits-none : (n : ℕ) (entry : ℕ → ℕ → ℤ) (sum : ℕ → ℤ) (plan : ℕ) → fitsRows n 0 entry sum plan ≡ true
+pub fits-none : (n : ℕ) (entry : ℕ → ℕ → ℤ) (total : ℕ → ℤ) (plan : ℕ) → fitsRows n 0 entry total plan ≡ true
 unfolding fitsRows all_below
-fits-none n entry sum plan = refl
+fits-none n entry total plan = refl
 
 -- by the entries and the sums alone
-pub fits-cong : (n count : ℕ) (entry entry' : ℕ → ℕ → ℤ) (sum sum' : ℕ → ℤ) (plan : ℕ) → ((k j : ℕ) → k < count → j < n → entry k j ≡ entry' k j) → ((k : ℕ) → k < count → sum k ≡ sum' k) →
-    FitsRows n count entry sum plan → FitsRows n count entry' sum' plan
-fits-cong n count entry entry' sum sum' plan h g f k l = sym (fedSum-cong n (entry k) (entry' k) plan (λ j m. h k j l m)) ∙ f k l ∙ g k l
+pub fits-cong : (n count : ℕ) (entry entry' : ℕ → ℕ → ℤ) (total total' : ℕ → ℤ) (plan : ℕ) → ((k j : ℕ) → k < count → j < n → entry k j ≡ entry' k j) → ((k : ℕ) → k < count → total k ≡ total' k) →
+    FitsRows n count entry total plan → FitsRows n count entry' total' plan
+fits-cong n count entry entry' total total' plan h g f k l = sym (fedSum-cong n (entry k) (entry' k) plan (λ j m. h k j l m)) ∙ f k l ∙ g k l
 
 -- one row more, which the plan fits
-pub fits-suc : (n count : ℕ) (entry : ℕ → ℕ → ℤ) (sum : ℕ → ℤ) (plan : ℕ) → fitsRows n count entry sum plan ≡ true → FitsRow n (entry count) (sum count) plan →
-    fitsRows n (suc count) entry sum plan ≡ true
+pub fits-suc : (n count : ℕ) (entry : ℕ → ℕ → ℤ) (total : ℕ → ℤ) (plan : ℕ) → fitsRows n count entry total plan ≡ true → FitsRow n (entry count) (total count) plan →
+    fitsRows n (suc count) entry total plan ≡ true
 unfolding fitsRows all_below
-fits-suc n count entry sum plan e f = rw (e, (Decides-int_eq _ _).1 f)
+fits-suc n count entry total plan e f = rw (e, (Decides-int_eq _ _).1 f)
 
 -- a row that the plan does not fit
-pub fits-broken : (n count : ℕ) (entry : ℕ → ℕ → ℤ) (sum : ℕ → ℤ) (plan k : ℕ) → k < count → (FitsRow n (entry k) (sum k) plan → ⊥) → fitsRows n count entry sum plan ≡ false
-fits-broken n count entry sum plan k l d = flag (fitsRows n count entry sum plan) (λ e. absurd (d ((fits-iff n count entry sum plan).0 e k l))) (λ e. e)
+pub fits-broken : (n count : ℕ) (entry : ℕ → ℕ → ℤ) (total : ℕ → ℤ) (plan k : ℕ) → k < count → (FitsRow n (entry k) (total k) plan → ⊥) → fitsRows n count entry total plan ≡ false
+fits-broken n count entry total plan k l d = flag (fitsRows n count entry total plan) (λ e. absurd (d ((fits-iff n count entry total plan).0 e k l))) (λ e. e)
 
 -- ---- the rows of a register
 

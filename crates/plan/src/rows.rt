@@ -1,4 +1,4 @@
-// Whether a plan fits rows: the totals of its fed entries.
+// Whether a plan fits rows: the sums of its fed entries.
 ghost use Rattle.std.specs.Prelude.{◌≡◌, ◌≤◌, ◌<◌, cond, pos};
 ghost use Rattle.register.specs.Limits.{maxChoices, maxRows};
 ghost use Rattle.sets.specs.Sets.{isMember};
@@ -33,11 +33,12 @@ fn fed_sum<'a>(
     requires n_le_max_choices { n ≤ maxChoices }
     ensures { result ≡ fedSum n (entryIn entries.now row) plan }
 {
-    let mut total: i32 = 0;
+    let start = row * Register::ROW_ENTRIES;
+    let mut sum: i32 = 0;
     for j in 0..n {
-        total += entry_where(is_fed(plan, j), entries[row * Register::ROW_ENTRIES + j]);
+        sum += entry_where(is_fed(plan, j), entries[start + j]);
     }
-    total
+    sum
 }
 
 // A plan fits so many rows of n choices: in each the fed entries come to the row's total.

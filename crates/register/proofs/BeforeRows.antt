@@ -1,9 +1,10 @@
--- A register that says no row is read as before there were any, in number, position and every field. A `14` that stands where a
--- command is due was refused 1; with none there, no command follows one.
+-- A register that says no row is read as before there were any, in number, position and every field. Each `14` was refused 1, and
+-- one that may not stand where it does is today; where reading comes to no other, no command follows one.
 use Prim.Native.Nat.{ℕ}
 use native.Mathlib.Omega.{arith}
 use mathlib.Core.Path.{◌≡◌, refl, ap}
-use mathlib.Core.List.{List}
+use mathlib.Core.Bool.{Bool, false}
+use mathlib.Core.List.{List, [], ◌∷◌}
 use lib.IntN.{ℤ}
 use borrow.Author.Tests.{ne_eqb}
 use Rattle.integers.proofs.Lists.{◌▹◌}
@@ -61,15 +62,23 @@ module _ (p : Progress Register) (at : ℕ) (r : Reach p at) where
       (ap (λ row. isAmong p.previous row.follows) (no-row registerRows b n))
       (ap (λ row. isAmong p.previous row.follows) (no-row rowsBeforeRows b (n.0 ▹ n.1.0 ▹ n.1.1.0 ▹ n.1.1.1.0 ▹ n.1.1.1.1.1)))
 
-agree : (p : Progress Register) (at c : ℕ) → Reach p at → (c ≡ 0x14 → ⊥) → Alike registerPart partBeforeRows Reach p at c
+-- directly after one of these a row may stand, and after a row
+abbrev mayFollow : Progress Register → Bool
+mayFollow p = isAmong p.previous (0x10 ∷ 0x11 ∷ 0x13 ∷ 0x18 ∷ [])
+
+row-alike : (p : Progress Register) (at : ℕ) → Reach p at → mayFollow p ≡ false → Alike registerPart partBeforeRows Reach p at 0x14
+unfolding row_of
+row-alike p at r m = neither registerPart partBeforeRows Reach (rw (ne_eqb p.previous 0x14 r.no-row-read) m) refl
+
+agree : (p : Progress Register) (at c : ℕ) → Reach p at → (c ≡ 0x14 → mayFollow p ≡ false) → Alike registerPart partBeforeRows Reach p at c
 agree p at c r =
-    by_bytes (λ c. (c ≡ 0x14 → ⊥) → AlikeAt p at r c) registerRows c (λ n d. none_alike p at r c n)
-    ((λ d. base-alike p at r) ▹ (λ d. choice-alike p at r) ▹ (λ d. term-alike p at r) ▹ (λ d. window-alike p at r) ▹ (λ d. absurd (d refl)) ▹ (λ d. length-alike p at r) ▹ (λ d. end-alike p at r) ▹ tt)
+    by_bytes (λ c. (c ≡ 0x14 → mayFollow p ≡ false) → AlikeAt p at r c) registerRows c (λ n d. none_alike p at r c n)
+    ((λ d. base-alike p at r) ▹ (λ d. choice-alike p at r) ▹ (λ d. term-alike p at r) ▹ (λ d. window-alike p at r) ▹ (λ d. row-alike p at r (d refl)) ▹ (λ d. length-alike p at r) ▹ (λ d. end-alike p at r) ▹ tt)
 
 module _ (s : List ℕ) (none : SaysRow s → ⊥) where
   both : (registerInJob s ≡ inJobBeforeRows s) × Ended Reach (registerInJob s)
   unfolding registerInJob inJobBeforeRows
-  both = read-without registerPart partBeforeRows Reach 0x14 agree s none refl (record { no-row-read = λ e. omega arith; rows = refl })
+  both = read-without registerPart partBeforeRows Reach mayFollow 0x14 agree s none refl (record { no-row-read = λ e. omega arith; rows = refl })
 
   pub as-before-rows-in-job : registerInJob s ≡ inJobBeforeRows s
   as-before-rows-in-job = both.0

@@ -161,8 +161,8 @@ module _ (r : Register) (w : Within r) where
     may-feed = λ i l. absurd (omega arith);
   }
 
-  in-rows : {k : ℕ} {sums entries : List ℤ} → Column maxRows k (pos 0) sums → Column (maxRows * rowEntries) (k * rowEntries) (pos 0) entries
-      → Rows r.choices k (λ i. (get_or sums i (pos 0), λ j. get_or entries (i * rowEntries + j) (pos 0))) → Within (setRows r k sums entries)
+  in-rows : {k : ℕ} {totals entries : List ℤ} → Column maxRows k (pos 0) totals → Column (maxRows * rowEntries) (k * rowEntries) (pos 0) entries
+      → Rows r.choices k (λ i. (get_or totals i (pos 0), λ j. get_or entries (i * rowEntries + j) (pos 0))) → Within (setRows r k totals entries)
   in-rows a b c = record {
     base = w.base;
     day = w.day;
@@ -192,7 +192,7 @@ module _ (r : Register) where
   same-windows : {k : ℕ} {tanks froms tos : List ℕ} → k ≡ r.windows → tanks ≡ r.window_tanks → froms ≡ r.window_froms → tos ≡ r.window_tos → setWindows r k tanks froms tos ≡ r
   same-windows a b c d = rw (a, b, c, d)
 
-  same-rows : {k : ℕ} {sums entries : List ℤ} → k ≡ r.rows → sums ≡ r.row_totals → entries ≡ r.row_entries → setRows r k sums entries ≡ r
+  same-rows : {k : ℕ} {totals entries : List ℤ} → k ≡ r.rows → totals ≡ r.row_totals → entries ≡ r.row_entries → setRows r k totals entries ≡ r
   same-rows a b c = rw (a, b, c)
 
 -- ---- the base cost and the day length
@@ -343,10 +343,10 @@ module _ (r : Register) (w : Within r) (k : ℕ) (e : r.windows ≡ suc k) where
 
 -- ---- rows: the entries of a register with one more, and of one with one less
 
--- a row with the same sum and entries
+-- a row with the same total and entries
 same-row : {n : ℕ} {b c : ℤ} {f g : ℕ → ℤ} → c ≡ b → ((j : ℕ) → j < rowEntries → g j ≡ f j) → FeedingRow n b f → FeedingRow n c g
 same-row e h k = record {
-  sum-within = rw e k.sum-within;
+  total-within = rw e k.total-within;
   entry-above = λ j l. rw (h j l) (k.entry-above j l);
   entry-below = λ j l. rw (h j l) (k.entry-below j l);
   past-0 = λ j a l. h j l ∙ k.past-0 j a l;
@@ -366,17 +366,17 @@ module _ (r : Register) (w : Within r) (b : ℤ) (es : List ℤ) (long : length 
   entry-new : q < maxRows → (j : ℕ) → j < rowEntries → rowEntry (withRow r b es) q j ≡ get_or es j (pos 0)
   entry-new l j h = sets-in (pos 0) es r.row_entries (q * rowEntries) j (omega arith) (omega (arith, w.row-entries.room))
 
-  sum-kept : (i : ℕ) → i < q → rowTotal (withRow r b es) i ≡ rowTotal r i
-  sum-kept i l = kept_set r.row_totals q b (pos 0) i l
+  total-kept : (i : ℕ) → i < q → rowTotal (withRow r b es) i ≡ rowTotal r i
+  total-kept i l = kept_set r.row_totals q b (pos 0) i l
 
-  sum-new : q < maxRows → rowTotal (withRow r b es) q ≡ b
-  sum-new l = get_or-set_same r.row_totals q b (pos 0) (omega (arith, w.row-totals.room))
+  total-new : q < maxRows → rowTotal (withRow r b es) q ≡ b
+  total-new l = get_or-set_same r.row_totals q b (pos 0) (omega (arith, w.row-totals.room))
 
   pub row-kept : (i : ℕ) → i < q → rowSaid (withRow r b es) i ≡ rowSaid r i
-  row-kept i l = rw (sum-kept i l, join-cong rowEntries _ _ (λ j h. ap (λ x. x ∷ []) (entry-kept i j l h)))
+  row-kept i l = rw (total-kept i l, join-cong rowEntries _ _ (λ j h. ap (λ x. x ∷ []) (entry-kept i j l h)))
 
   pub row-new : q < maxRows → rowSaid (withRow r b es) q ≡ (b, es)
-  row-new l = rw (sum-new l, ones-are (pos 0) rowEntries (rowEntry (withRow r b es) q) es long (λ j h. sym (entry-new l j h)))
+  row-new l = rw (total-new l, ones-are (pos 0) rowEntries (rowEntry (withRow r b es) q) es long (λ j h. sym (entry-new l j h)))
 
   pub row-more : NextRow r.choices q b (λ j. get_or es j (pos 0)) → Within (withRow r b es)
   row-more p =
@@ -385,8 +385,8 @@ module _ (r : Register) (w : Within r) (b : ℤ) (es : List ℤ) (long : length 
         few = p.few;
         each = λ i l.
             ⊎_elim
-            (λ (k : i < q). same-row (sum-kept i k) (λ j h. entry-kept i j k h) (w.rows.each i k))
-            (λ (e : i ≡ q). rw e (same-row (sum-new p.few) (entry-new p.few) p.fits))
+            (λ (k : i < q). same-row (total-kept i k) (λ j h. entry-kept i j k h) (w.rows.each i k))
+            (λ (e : i ≡ q). rw e (same-row (total-new p.few) (entry-new p.few) p.fits))
             (below-or-last i q l);
       })
 
@@ -401,11 +401,11 @@ module _ (r : Register) (w : Within r) (k : ℕ) (e : r.rows ≡ suc k) where
   entry-less : (i j : ℕ) → i < k → j < rowEntries → rowEntry r i j ≡ rowEntry (lessRow r k) i j
   entry-less i j l h = sym (sets-other (pos 0) (replicate rowEntries (pos 0)) r.row_entries (k * rowEntries) (i * rowEntries + j) (inl (omega arith)))
 
-  sum-less : (i : ℕ) → i < k → rowTotal r i ≡ rowTotal (lessRow r k) i
-  sum-less i l = sym (kept_set r.row_totals k (pos 0) (pos 0) i l)
+  total-less : (i : ℕ) → i < k → rowTotal r i ≡ rowTotal (lessRow r k) i
+  total-less i l = sym (kept_set r.row_totals k (pos 0) (pos 0) i l)
 
   pub row-less : (i : ℕ) → i < k → rowSaid r i ≡ rowSaid (lessRow r k) i
-  row-less i l = rw (← sum-less i l) (ap (λ es. (rowTotal r i, es)) (join-cong rowEntries _ _ (λ j h. ap (λ x. x ∷ []) (entry-less i j l h))))
+  row-less i l = rw (← total-less i l) (ap (λ es. (rowTotal r i, es)) (join-cong rowEntries _ _ (λ j h. ap (λ x. x ∷ []) (entry-less i j l h))))
 
   pub row-back : withRow (lessRow r k) (rowTotal r k) (rowList r k) ≡ r
   row-back = same-rows r (sym e) (set_back r.row_totals k (pos 0)) (sets-back (pos 0) r.row_entries (k * rowEntries) rowEntries (omega (arith, enough, w.row-entries.room)))
@@ -415,15 +415,15 @@ module _ (r : Register) (w : Within r) (k : ℕ) (e : r.rows ≡ suc k) where
     in-rows r w (column-less enough (rw e at w.row-totals)) (column-unblock rowEntries (omega (arith, enough)) (omega arith) (rw e at w.row-entries))
         (record {
           few = omega (arith, enough);
-          each = λ i l. same-row (sym (sum-less i l)) (λ j h. sym (entry-less i j l h)) (w.rows.each i (omega arith));
+          each = λ i l. same-row (sym (total-less i l)) (λ j h. sym (entry-less i j l h)) (w.rows.each i (omega arith));
         }),
     record { few = enough; fits = same-row refl (λ j h. ones-at (rowEntry r k) rowEntries j (pos 0) h) (w.rows.each k (omega arith)) },
   )
 
--- the sum and the entries of a row fit 16 and 8 bits
+-- the total and the entries of a row fit 16 and 8 bits
 module _ (r : Register) (w : Within r) (k : ℕ) (l : k < r.rows) where
-  pub sum-fits : SFits w16 (rowTotal r k)
-  sum-fits = fits_signed w16 (rowTotal r k) (omega (arith, (w.rows.each k l).sum-within))
+  pub total-fits : SFits w16 (rowTotal r k)
+  total-fits = fits_signed w16 (rowTotal r k) (omega (arith, (w.rows.each k l).total-within))
 
   pub entry-fits : (j : ℕ) → j < rowEntries → SFits w8 (rowEntry r k j)
   entry-fits j h = let f = w.rows.each k l in within-byte (rowEntry r k j) (f.entry-above j h) (f.entry-below j h)

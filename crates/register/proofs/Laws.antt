@@ -337,7 +337,7 @@ module _ (r : Register) (cs : List Command) (w : Within r) (d : DayLength r.day_
       let es = rowList r k in
       let long : length es ≡ rowEntries = length-ones (rowEntry r k) rowEntries in
       let bytes : (j : ℕ) → j < rowEntries → SFits w8 (get_or es j (pos 0)) = λ j l. within-byte (get_or es j (pos 0)) (p.fits.entry-above j l) (p.fits.entry-below j l) in
-      let f : SFits w16 z = fits_signed w16 z (omega (arith, p.fits.sum-within)) in
+      let f : SFits w16 z = fits_signed w16 z (omega (arith, p.fits.total-within)) in
       let l = kinds-less (ToChoices U r) r r' (under U rowKind) (afterRows U) none none cs k e refl (λ i d k' h u. h u ∙ ap (λ c. rowCommand c.0 c.1) (row-less r w k e i k')) b in
       record {
         before = r';

@@ -29,8 +29,8 @@ module _ (r : Register) (w : Within r) {k : ℕ} (p : Passed r k) where
   pub passed-term : (m : ℕ) (z : ℤ) → Passed (withTerm r m z) k
   passed-term m z = record { within = p.within; earlier = p.earlier }
 
-  pub passed-rows : (n : ℕ) (sums entries : List ℤ) → Passed (setRows r n sums entries) k
-  passed-rows n sums entries = record { within = p.within; earlier = p.earlier }
+  pub passed-rows : (n : ℕ) (totals entries : List ℤ) → Passed (setRows r n totals entries) k
+  passed-rows n totals entries = record { within = p.within; earlier = p.earlier }
 
   pub passed-window : (t f o : ℕ) → Passed (withWindow r t f o) k
   passed-window t f o = record {

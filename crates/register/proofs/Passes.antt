@@ -223,7 +223,7 @@ row-iff n k b entry bytes = (to, from)
         record {
           few = leb-false maxRows k p.0;
           fits = record {
-            sum-within = ltb-false maxRowTotal (nat_abs b) p.1.0;
+            total-within = ltb-false maxRowTotal (nat_abs b) p.1.0;
             entry-above = λ j l. (byte-within (entry j) (bytes j l)).0;
             entry-below = λ j l. (byte-within (entry j) (bytes j l)).1;
             past-0 = (zeros-iff n entry).0 (not-false _ p.1.1.0);
@@ -234,7 +234,7 @@ row-iff n k b entry bytes = (to, from)
     from p =
         none-refusal (rowChecks k b (zeroPast n entry)) (
           lt-leb maxRows k p.few,
-          (le-ltb maxRowTotal (nat_abs b) p.fits.sum-within, (rw ((zeros-iff n entry).1 p.fits.past-0), tt)),
+          (le-ltb maxRowTotal (nat_abs b) p.fits.total-within, (rw ((zeros-iff n entry).1 p.fits.past-0), tt)),
         )
 
 -- one of the three lengths

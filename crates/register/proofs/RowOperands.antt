@@ -1,4 +1,4 @@
--- The operands of `14`: the sum and the entries that they say, and that they are read back.
+-- The operands of `14`: the total and the entries that they say, and that they are read back.
 use Prim.Native.Nat.{ℕ, ◌+◌, ◌<◌}
 use native.Mathlib.Omega.{arith}
 use native.Mathlib.Nat.{one-mul}
@@ -39,7 +39,7 @@ pub row-said : (xs : List ℕ) → Fit rowRow.widths xs → xs ≡ of_z w16 (to_
 row-said [] f = absurd f
 row-said (x ∷ xs) f = ap₂ (λ y ys. y ∷ ys) (sym (of_z-to_z {w = w16} (record { fits = f.0 }))) (signed-said w8 rowEntries xs f.1)
 
--- ---- and operands of a sum and of entries that fit
+-- ---- and operands of a total and of entries that fit
 
 module _ (b : ℤ) (es : List ℤ) (long : length es ≡ rowEntries) (bytes : (j : ℕ) → j < rowEntries → SFits w8 (get_or es j (pos 0))) where
   pub row-fit : SFits w16 b → Fit rowRow.widths (of_z w16 b ∷ map (of_z w8) es)

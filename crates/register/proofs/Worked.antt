@@ -1,5 +1,5 @@
 -- The rows of the paper's refusal table that speak of the register, and its example; minutes at the end of the long, the short and
--- the usual day, another length, and a second one; a row, one whose sum is out of range, one with an entry past the choices, and one
+-- the usual day, another length, and a second one; a row, one whose total is out of range, one with an entry past the choices, and one
 -- after a term.
 use mathlib.Core.Path.{◌≡◌, refl}
 use mathlib.Core.List.{List, [], ◌∷◌, ◌++◌, map}
@@ -24,7 +24,7 @@ answer (accepted p end) = (0, end)
 abbrev oneChoice : List ℕ
 oneChoice = 0x10 ∷ 0 ∷ 0 ∷ 0 ∷ 0 ∷ 0x11 ∷ 1 ∷ 0 ∷ 0 ∷ 0 ∷ []
 
--- a row with this sum, in two bytes, and these entries for choices 0 and 1
+-- a row with this total, in two bytes, and these entries for choices 0 and 1
 abbrev row : (low high a b : ℕ) → List ℕ
 row low high a b = 0x14 ∷ low ∷ high ∷ a ∷ b ∷ replicate 30 0
 

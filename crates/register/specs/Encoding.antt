@@ -1,5 +1,6 @@
 -- The register's bytes: `10` base cost, `18` day length, which may be missing where it is the usual one, `13` for each window, `11`
--- for each choice, `14` for each row, `12` for each term, `1F`. Written without the reader: of the part's rows only the widths of operands are used.
+-- for each choice, `14` for each row, `12` for each term, `1F`. Written without the reader: of the part's rows only the widths of
+-- operands are used. `SaysRow` alone, below, uses a reader, as it was before there were rows.
 use Rattle.std.specs.Prelude.{ℕ, ◌≡◌, true, cond, map, eqb, ℤ, get_or}
 use mathlib.Core.List.{List, [], ◌∷◌, ◌++◌, flat_map}
 use Rattle.std.specs.Int.{w8, w16, w32}
@@ -10,10 +11,12 @@ use Rattle.wire.specs.Encoding.{Command}
 use Rattle.wire.specs.Grammar.{Only, Optional, Then, Kind, Kinds}
 use Rattle.wire.specs.Grammar as G
 use Rattle.wire.specs.Walk.{comesTo}
+use Rattle.wire.specs.Rows.{isAmong}
 use Rattle.register.specs.declared.Register.{Register}
 use Rattle.register.specs.Limits.{usualDay, rowEntries}
 use Rattle.register.specs.Register.{tank, minute, mask, coefficient, windowTank, windowFrom, windowTo, rowTotal, rowEntry}
 use Rattle.register.specs.Format.{registerPart}
+use Rattle.register.specs.BeforeRows.{partBeforeRows}
 
 -- ---- an encoding: header, each window, choice, row and term in one of its forms, end
 
@@ -54,9 +57,9 @@ windowKind = record { bytes = 0x13 ∷ []; count = λ r. r.windows; says = λ r 
 abbrev pub rowList : Register → ℕ → List ℤ
 rowList r k = joinBelow rowEntries (λ j. rowEntry r k j ∷ [])
 
--- `14` sum, entries
+-- `14` total, entries
 abbrev pub rowCommand : ℤ → List ℤ → Command
-rowCommand sum entries = record { byte = 0x14; operands = of_z w16 sum ∷ map (of_z w8) entries }
+rowCommand total entries = record { byte = 0x14; operands = of_z w16 total ∷ map (of_z w8) entries }
 
 abbrev pub rowKind : Kind Register
 rowKind = record { bytes = 0x14 ∷ []; count = λ r. r.rows; says = λ r k c. c ≡ rowCommand (rowTotal r k) (rowList r k) }
@@ -96,9 +99,9 @@ encodeTerm mask coefficient = 0x12 ∷ (bytes_of 4 mask ++ bytes_of 4 (of_z w32 
 unfoldable pub encodeWindow : (tank from to : ℕ) → List ℕ
 encodeWindow tank from to = 0x13 ∷ (bytes_of 2 tank ++ (bytes_of 2 from ++ bytes_of 2 to))
 
--- `14` row: sum i16, entries i8
+-- `14` row: total i16, entries i8
 unfoldable pub encodeRow : ℤ → List ℤ → List ℕ
-encodeRow sum entries = 0x14 ∷ (bytes_of 2 (of_z w16 sum) ++ flat_map (λ a. bytes_of 1 (of_z w8 a)) entries)
+encodeRow total entries = 0x14 ∷ (bytes_of 2 (of_z w16 total) ++ flat_map (λ a. bytes_of 1 (of_z w8 a)) entries)
 
 -- `18` day length u16
 unfoldable pub encodeLength : ℕ → List ℕ
@@ -144,6 +147,7 @@ lengthIn s = cond (eqb (get_or s 5 0) 0x18) (natAt 2 s 6) usualDay
 
 -- ---- rows in bytes
 
--- a walk over the commands by their sizes, to the end of the register, comes to a `14`
+-- reading as before there were rows, which refuses each `14` with 1, comes to one directly after `10`, `11`, `13` or `18`. It comes
+-- to none past a byte that is no command, nor past a command that it refuses
 abbrev pub SaysRow : List ℕ → Type 0
-SaysRow s = comesTo registerPart 0x14 s ≡ true
+SaysRow s = comesTo partBeforeRows (λ p. isAmong p.previous (0x10 ∷ 0x11 ∷ 0x13 ∷ 0x18 ∷ [])) 0x14 s ≡ true

@@ -100,7 +100,7 @@ windowRow = record {
 abbrev pub zeroPast : ℕ → (ℕ → ℤ) → Bool
 zeroPast n entry = all_below rowEntries (λ j. ltb j n || eqb (nat_abs (entry j)) 0)
 
--- up to 8 rows, the sum within ±4,064, the entries past the choices 0: k rows were read, and `zeros` where these entries are
+-- up to 8 rows, the total within ±4,064, the entries past the choices 0: k rows were read, and `zeros` where these entries are
 unfoldable pub rowChecks : (k : ℕ) → ℤ → (zeros : Bool) → List Check
 rowChecks k b zeros =
     check 3 (leb maxRows k)
@@ -108,11 +108,11 @@ rowChecks k b zeros =
     ∷ check 5 (not zeros)
     ∷ []
 
--- the entries in the operands of `14`, after the sum
+-- the entries in the operands of `14`, after the total
 abbrev pub entriesOf : List ℕ → List ℤ
 entriesOf xs = map (to_z w8) (first_of rowEntries (drop 1 xs))
 
--- `14` row: sum i16, then 32 entries i8. After all `13` and `11` and before all `12`
+-- `14` row: total i16, then 32 entries i8. After all `13` and `11` and before all `12`
 abbrev pub rowRow : Row Register
 rowRow = record {
   byte = 0x14;

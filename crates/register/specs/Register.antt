@@ -34,7 +34,7 @@ windowTo r j = get_or r.window_tos j 0
 -- row k: its total b, and its entry for choice j, in lists of totals and of entries; the entries of all rows stand one after the other
 
 abbrev pub totalIn : List ℤ → ℕ → ℤ
-totalIn sums k = get_or sums k (pos 0)
+totalIn totals k = get_or totals k (pos 0)
 
 abbrev pub entryIn : List ℤ → ℕ → ℕ → ℤ
 entryIn entries k j = get_or entries (k * rowEntries + j) (pos 0)
@@ -163,8 +163,8 @@ setWindows r k tanks froms tos = record {
   row_entries = r.row_entries;
 }
 
-abbrev pub setRows : Register → ℕ → (sums entries : List ℤ) → Register
-setRows r k sums entries = record {
+abbrev pub setRows : Register → ℕ → (totals entries : List ℤ) → Register
+setRows r k totals entries = record {
   base = r.base;
   day_length = r.day_length;
   choices = r.choices;
@@ -178,7 +178,7 @@ setRows r k sums entries = record {
   window_froms = r.window_froms;
   window_tos = r.window_tos;
   rows = k;
-  row_totals = sums;
+  row_totals = totals;
   row_entries = entries;
 }
 

@@ -42,8 +42,8 @@ pub record Window (length t from to : ℕ) : Type 0 where
   pub ordered : from < to
 
 -- the ranges of a row's total and of its entries; those past the n choices are 0
-pub record FeedingRow (n : ℕ) (sum : ℤ) (entry : ℕ → ℤ) : Type 0 where
-  pub sum-within : nat_abs sum ≤ maxRowTotal
+pub record FeedingRow (n : ℕ) (total : ℤ) (entry : ℕ → ℤ) : Type 0 where
+  pub total-within : nat_abs total ≤ maxRowTotal
   pub entry-above : (j : ℕ) → j < rowEntries → lowestEntry ≤ℤ entry j
   pub entry-below : (j : ℕ) → j < rowEntries → entry j ≤ℤ highestEntry
   pub past-0 : (j : ℕ) → n ≤ j → j < rowEntries → entry j ≡ pos 0
@@ -60,7 +60,7 @@ Terms n m f = Table maxTerms m f (λ c. Term n c.0 c.1) Rises
 abbrev pub Windows : (length k : ℕ) → (ℕ → ℕ × ℕ × ℕ) → Type 0
 Windows length k f = Table maxWindows k f (λ c. Window length c.0 c.1 c.2) (λ c d. Before (c.0, c.1) (d.0, d.1))
 
--- up to 8 rows over n choices (sum, entries), each in its ranges, in any order
+-- up to 8 rows over n choices (total, entries), each in its ranges, in any order
 pub record Rows (n k : ℕ) (f : ℕ → ℤ × (ℕ → ℤ)) : Type 0 where
   pub few : k ≤ maxRows
   pub each : (i : ℕ) → i < k → FeedingRow n (f i).0 (f i).1

@@ -86,10 +86,10 @@ fn window_refusal(
 }
 
 // The refusal of a row after k others, or 0; `zeros` where its entries past the choices are 0.
-fn row_refusal(k: usize, sum: i16, zeros: bool) -> u8
-    ensures { result ≡ refusal (rowChecks k sum zeros) }
+fn row_refusal(k: usize, total: i16, zeros: bool) -> u8
+    ensures { result ≡ refusal (rowChecks k total zeros) }
 {
-    let out = Register::MAX_ROW_TOTAL < wire::magnitude(sum as i64);
+    let out = Register::MAX_ROW_TOTAL < wire::magnitude(total as i64);
     first_of(
         Register::MAX_ROWS <= k,
         3,
@@ -227,9 +227,9 @@ pub fn refusal_at<'a>(
             )
         }
         0x14 => {
-            let sum = wire::i16_at(bytes, at + 1);
+            let total = wire::i16_at(bytes, at + 1);
             let zeros = past_zero(bytes, at + 1 + 2, seen.choices);
-            row_refusal(seen.rows, sum, zeros)
+            row_refusal(seen.rows, total, zeros)
         }
         0x18 => length_refusal(wire::u16_at(bytes, at + 1)),
         _ => end_refusal(seen.choices),

@@ -1,5 +1,5 @@
 // Part 1 of the job file, the register: the day's length, the choices of a plan, the terms of its cost, the windows of its tanks and
-// the rows, which ask for exactly so many feedings.
+// the rows, which fix totals.
 
 #![tactic(auto)]
 

@@ -50,7 +50,7 @@ small r valid = record {
   rows = λ k l.
       let f = valid.rows.each k l in
       let few = valid.choices.few in
-      record { entries = λ j m. twice (rowEntry r k j) (f.entry-above j (omega arith)) (f.entry-below j (omega arith)); sum = f.sum-within };
+      record { entries = λ j m. twice (rowEntry r k j) (f.entry-above j (omega arith)) (f.entry-below j (omega arith)); total = f.total-within };
 }
   where
     twice : (x : ℤ) → lowestEntry ≤ℤ x → x ≤ℤ highestEntry → nat_abs x * 2 ≤ maxRowTotal

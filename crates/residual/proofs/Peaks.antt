@@ -1,4 +1,4 @@
--- How large the numbers in the table of a multiplier command's form are: of `31` to `39` at most 2, of `3B` at most the highest sum of
+-- How large the numbers in the table of a multiplier command's form are: of `31` to `39` at most 2, of `3B` at most the highest total of
 -- a row; and so m times as large.
 use Prim.Native.Nat.{ℕ, zero, suc, ◌*◌, ◌≤◌, ◌<◌}
 use mathlib.Core.Path.{◌≡◌, sym, ◌∙◌}
@@ -120,10 +120,10 @@ pub record Low (ρ : Rule) : Type 0 where
   pub entries : T ρ.there → (i j : ℕ) → nat_abs (entry ρ.form i j) ≤ peak
   pub within : most * peak ≤ maxByCommand
 
--- the entries of a row and its sum, so that twice an entry is at most the highest sum
+-- the entries of a row and its total, so that twice an entry is at most the highest total
 pub record RowSmall (r : Register) (k : ℕ) : Type 0 where
   pub entries : (j : ℕ) → j < r.choices → nat_abs (rowEntry r k j) * 2 ≤ maxRowTotal
-  pub sum : nat_abs (rowTotal r k) ≤ maxRowTotal
+  pub total : nat_abs (rowTotal r k) ≤ maxRowTotal
 
 null-low : {there ordered fits : Bool} {form : Form} → Flat form → Low (nullRule there ordered fits form)
 null-low f = record { most = maxMultiplier; peak = 2; ranged = go; entries = λ _. f; within = omega arith }
@@ -158,7 +158,7 @@ module _ (r : Register) (s : Scheme) (rows : (k : ℕ) → k < r.rows → RowSma
       ▹ row-rule-low (λ h.
       let (p, _) = (T_and (ltb i r.rows) (ltb j (variables r.choices s))).0 h in
       let f = rows i (ltb→lt i r.rows p) in
-      row-low r.choices (rowEntry r i) (rowTotal r i) j maxRowTotal f.entries f.sum)
+      row-low r.choices (rowEntry r i) (rowTotal r i) j maxRowTotal f.entries f.total)
       ▹ tt
 
   pub rule-low : (t : Multiplier) → Low (ruleOf r s t)

@@ -33,7 +33,7 @@ module _ (a : ℕ → ℤ) (i : ℕ) (m : ℤ) where
     unfolding addForm times joinBelow
     first-next j = sym (ap (λ f. addForm side f t) (times-append m (firstOf j) (mono (place i) (place j) (a j) ∷ [])) ∙ addForm-append side (first j) _ t)
 
-    -- and the sum
+    -- and the total
     pub first-all : (n : ℕ) (b : ℤ) → addMonomial side (mono 0 (place i) (m *ℤ neg_ℤ b)) (addForm side (first n) t) ≡ addForm side (times m (rowForm n a b i)) t
     unfolding addForm times rowForm
     first-all n b = sym (ap (λ f. addForm side f t) (times-append m (firstOf n) (mono 0 (place i) (neg_ℤ b) ∷ [])) ∙ addForm-append side (first n) _ t)

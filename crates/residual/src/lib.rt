@@ -237,9 +237,9 @@ pub fn put_residual(bytes: &[u8], register: Register, scheme: Scheme, table: &mu
                 at += command_size(command);
             }
             0x3b => {
-                let form = multiplier_at(bytes, at);
-                let row = form.i as usize;
-                let variable = form.j as usize;
+                let named = multiplier_at(bytes, at);
+                let row = named.i as usize;
+                let variable = named.j as usize;
                 add_row_form(
                     table,
                     side,
@@ -248,7 +248,7 @@ pub fn put_residual(bytes: &[u8], register: Register, scheme: Scheme, table: &mu
                     &register.row_entries,
                     row,
                     variable,
-                    form.m,
+                    named.m,
                 );
                 at += command_size(command);
             }

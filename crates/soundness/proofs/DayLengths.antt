@@ -10,7 +10,7 @@ use lib.IntN.{ℤ, pos, nat_abs}
 use lib.ListN.{length, drop}
 use Rattle.integers.specs.Lists.{joinBelow}
 use Rattle.integers.proofs.Entries.{table-each}
-use Rattle.wire.specs.Part.{Reading, refused}
+use Rattle.wire.specs.Part.{Reading, refused, accepted}
 use Rattle.wire.specs.Rows.{Progress}
 use Rattle.wire.specs.Outcome.{Outcome, refuses, accepts, next, and_then, startingAt, addedBy}
 use Rattle.wire.proofs.Encoding.{byItself-accepted}
@@ -20,7 +20,7 @@ use Rattle.register.specs.declared.Register.{Register}
 use Rattle.register.specs.Limits.{maxBase, maxTank, usualDay, longDay}
 use Rattle.register.specs.Register.{tank, minute, coefficient, fresh, setLength, withBase, withLength, withChoice}
 use Rattle.register.specs.Valid.{DayLength, Within, Valid}
-use Rattle.register.specs.Encoding.{encodeBase, encodeLength, encodeChoice, encodeWithLength, encodeWithoutLength, encodeRegister, SaysLength, lengthIn, SaysRow}
+use Rattle.register.specs.Encoding.{encodeBase, encodeLength, encodeChoice, encodeWithLength, encodeWithoutLength, encodeRegister, SaysLength, lengthIn}
 use Rattle.register.specs.Ranges.{OutOfRange}
 use Rattle.register.specs.Format.{registerInJob, registerByItself}
 use Rattle.register.specs.Answer.{registerAnswer}
@@ -157,17 +157,17 @@ register-keeps s z =
 
 -- ---- part 1 at the front of a job
 
-module _ (s : List ℕ) where
-  -- a refusal of part 1 is that of its reading, and the parts of an accepted job have the length that the job says
-  abbrev First : Outcome Parts → Type 0
+module _ (s : List ℕ) (Q : Register → Type 0) where
+  -- a refusal of part 1 is that of its reading, and the register of an accepted job has Q
+  abbrev pub First : Outcome Parts → Type 0
   First (refuses n part at) = part ≡ 1 → registerInJob s ≡ refused n at
-  First (accepts p) = p.register.day_length ≡ lengthIn s
+  First (accepts p) = Q p.register
 
   follows : {A : Type 0} (part from : ℕ) (add : A → Parts) (x : Reading (Progress A)) (ks : List JobPart) → 1 < part →
       ((read : Progress A) (end : ℕ) → First (rest s ks (add read.parsed) (from + end))) → First (and_then (next part (startingAt from (addedBy add x)) (in_turn ks s)) (ended 4 s))
   follows part from add x ks l h = next-at (λ o. First (and_then o (ended 4 s))) part from add x (in_turn ks s) (λ n at e z. absurd (omega arith)) (λ read end e. h read end)
 
-  from-scheme : (reg : Register) (from : ℕ) → reg.day_length ≡ lengthIn s → First (fromScheme s reg from)
+  from-scheme : (reg : Register) (from : ℕ) → Q reg → First (fromScheme s reg from)
   from-scheme reg from said =
       follows 2 from (withScheme (ofRegister reg)) (schemeInJob reg (drop from s)) (partThree ∷ partFour ∷ []) (omega arith) λ two end.
       let sch = two.parsed in
@@ -175,20 +175,28 @@ module _ (s : List ℕ) where
       follows 4 (from + end + later) (withPlan (withCertificate (withScheme (ofRegister reg) sch) three.parsed)) (planInJob reg (drop (from + end + later) s)) [] (omega arith) λ four last.
       past (ltb (from + end + later + last) (length s)) (from + end + later + last) _ said
     where
-      past : (t : Bool) (at : ℕ) (p : Parts) → p.register.day_length ≡ lengthIn s → First (cond t (refuses 12 4 at) (accepts p))
+      past : (t : Bool) (at : ℕ) (p : Parts) → Q p.register → First (cond t (refuses 12 4 at) (accepts p))
       past true at p e = λ z. absurd (omega arith)
       past false at p e = e
 
-  first : First (outcome s)
+  -- where each register that is read at its front does
+  pub first : ((p : Progress Register) (end : ℕ) → registerInJob s ≡ accepted p end → Q p.parsed) → First (outcome s)
   unfolding outcome
-  first = next-by First 1 (registerInJob s) (λ one end. fromScheme s one.parsed end) (λ n at x _. x) (λ one end x. from-scheme one.parsed end (length-said s x))
+  first h = next-by First 1 (registerInJob s) (λ one end. fromScheme s one.parsed end) (λ n at x _. x) (λ one end x. from-scheme one.parsed end (h one end x))
+
+-- it has the length that the job says
+abbrev SaidBy : List ℕ → Register → Type 0
+SaidBy s reg = reg.day_length ≡ lengthIn s
+
+first-said : (s : List ℕ) → First s (SaidBy s) (outcome s)
+first-said s = first s (SaidBy s) (λ p end. length-said s)
 
 job-of-day : (job : List ℕ) (table : List ℤ) (tally : Tally) → Accepted jobCall listingCall job table tally → JobOfDay jobCall listingCall job table tally
 job-of-day job table tally z =
     let j = accepted-job job table tally z in
     let reg = j.parts.register in
     let v = j.conditions.register in
-    let said : reg.day_length ≡ lengthIn job = rw (accepted-leads job table tally z) at (first job) in
+    let said : reg.day_length ≡ lengthIn job = rw (accepted-leads job table tally z) at (first-said job) in
     let feeds = feeds-of-day reg v j.parts.plan in
     record {
       accepted = j;
@@ -210,7 +218,7 @@ unfolding jobAnswer
 job-refused job table tally = by (ltb (length table) tableNumbers)
   where
     go : (x : Outcome Parts) → outcome job ≡ x → (afterJob x tally).number ≡ 4 → (afterJob x tally).part ≡ 1 → OutOfRange job (afterJob x tally).position
-    go (refuses n part at) e z one = let f : First job (refuses n part at) = rw e at (first job) in out_of_range job at (f one ∙ ap (λ n. refused n at) z)
+    go (refuses n part at) e z one = let f : First job (SaidBy job) (refuses n part at) = rw e at (first-said job) in out_of_range job at (f one ∙ ap (λ n. refused n at) z)
     go (accepts p) e z one = absurd (omega arith)
 
     by : (t : Bool) → let a = cond t (refusedAnswer 11 0 0 tally) (afterJob (outcome job) tally) in a.number ≡ 4 → a.part ≡ 1 → OutOfRange job a.position

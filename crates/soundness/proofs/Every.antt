@@ -1,8 +1,6 @@
 -- Without rows demand 3 is what it was: of any calls of which it holds, over every plan and every filling.
 use Prim.Native.Nat.{ℕ}
-use mathlib.Core.Path.{◌≡◌}
 use mathlib.Core.Bool.{Bool}
-use mathlib.Core.List.{List}
 use lib.IntN.{ℤ}
 use lib.Pow.{pow_pos}
 use Rattle.penalty.specs.Carried.{carried}
@@ -31,12 +29,10 @@ without-rows penalty check plain demand = record {
       let empty : Plan t = record { fed = 0; inside = pow_pos (registerOf t).choices } in
       let e = d.least empty (plans empty) in
       record {
+        demand = d;
         least = record { least = e.least; of-first = wider e.of-first fillings; of-second = wider e.of-second plans };
         minimisers = λ m h z. d.minimisers m (narrower h fillings) z (fillings z);
         bounds = λ certificate n plan. d.bounds certificate n plan (plans plan);
-        second-order = d.second-order;
-        own-accepted = d.own-accepted;
-        as_written = d.as_written;
       };
   all-accepted = demand.all-accepted;
 }

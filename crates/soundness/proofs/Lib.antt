@@ -10,3 +10,8 @@ pub mod Written
 pub mod Windows
 pub mod DayLengths
 pub mod Search
+pub mod RowForms
+pub mod Misfit
+pub mod RowAbsent
+pub mod Feedings
+pub mod Rows

@@ -1,10 +1,9 @@
 -- The cheapest plan, of our calls.
 use Prim.Native.Nat.{ℕ, suc, ◌^◌, ◌≤◌, ◌<◌}
 use native.Mathlib.Omega.{arith}
-use native.Mathlib.Decide.{dec_lt}
 use mathlib.Core.Path.{◌≡◌, refl, sym, ◌∙◌, ap, subst}
 use mathlib.Core.Logic.{◌↔◌}
-use mathlib.Core.Bool.{true, false, true≢false}
+use mathlib.Core.Bool.{true≢false}
 use mathlib.Core.List.{List}
 use lib.IntN.{ℤ}
 use lib.Pow.{pow_pos}
@@ -116,22 +115,7 @@ module _ (t : List ℕ) (limit : ℕ) (z : (searchAnswer t limit).number ≡ 0) 
   cheapest-every none =
       let c = cheapest in
       let all : (plan : ℕ) → Fits reg plan = every-fits reg none in
-      record {
-        part-1 = c.part-1;
-        plan = c.plan;
-        plan-is = c.plan-is;
-        cost-is = c.cost-is;
-        least = λ other. c.least other (all other.fed);
-        smallest = λ other. c.smallest other (all other.fed);
-        keeps = c.keeps;
-        of-day = c.of-day;
-        costed = c.costed;
-        costed-least = c.costed-least;
-        visits-are = c.visits-are;
-        visits-some = c.visits-some;
-        visits-few = c.visits-few;
-        visits-within = c.visits-within;
-      }
+      record { cheapest = c; least = λ other. c.least other (all other.fed); smallest = λ other. c.smallest other (all other.fed) }
 
   -- every plan that fits costs at least the bound, and so does the one found
   bound-below : (s k : List ℕ) (table : List ℤ) → (checkAnswer t s k table).number ≡ 0 → (checkAnswer t s k table).bound ≤ℤ (searchAnswer t limit).cost

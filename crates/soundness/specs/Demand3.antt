@@ -150,17 +150,16 @@ module _ (penaltyCall : PenaltyCall) (checkCall : CheckCall) (plainCall : PlainC
     -- and every register and scheme that meet the paper's conditions are accepted
     pub all-accepted : (register scheme : List ℕ) (reg : Register) (sch : Scheme) → Part1 register reg → Part2 reg scheme sch → Accepted register scheme
 
-  -- ---- the same of a register without rows, over every plan and every filling, as it stood before there were rows
+  -- ---- of a register without rows: the same over every plan and every filling, as it stood before there were rows
 
   pub record Demand3EveryFor (register scheme : List ℕ) (table : List ℤ) : Type 0 where
+    -- (d), (e) and what (a) to (e) speak of
+    pub demand : Demand3For register scheme table
     pub least : EqualLeast (valueRead register scheme (tableBack register scheme table)) (cost register)
     pub minimisers : (m : ℤ) → Least (valueRead register scheme (tableBack register scheme table)) m →
         (z : Filling) → valueRead register scheme (tableBack register scheme table) z ≡ m → CarriesAt register z m
     pub bounds : (certificate : List ℕ) → (checked register scheme certificate table).number ≡ 0 →
         (plan : Plan register) → (checked register scheme certificate table).bound ≤ℤ cost register plan
-    pub second-order : (certificate : List ℕ) (k : Certified register scheme certificate) (x : ℕ → ℤ) → pos 0 ≤ℤ secondOrderOf register scheme k.cert x
-    pub own-accepted : (buffer : List ℕ) → (plainCall register scheme buffer).0.number ≡ 0 → (checked register scheme (ownBack register scheme buffer) table).number ≡ 0
-    pub as_written : AsWritten register scheme table
 
   pub record Demand3Every : Type 0 where
     pub of-accepted : (register scheme : List ℕ) → Bytes register → Accepted register scheme → (registerOf register).rows ≡ 0 →

@@ -4,10 +4,10 @@
 -- just where the register call does.
 use Rattle.std.specs.Prelude.{ℕ, suc, ◌*◌, ◌^◌, ◌<◌, ◌≤◌, ◌≡◌, ◌⊎◌, ◌↔◌, true, List, [], ◌∷◌, ◌++◌, length, get_or, ℤ, pos, neg_ℤ, nat_abs, ◌-ℤ◌, ◌*ℤ◌}
 use Rattle.integers.specs.Integer.{bit}
-use Rattle.integers.specs.Lists.{All, Column, Table}
+use Rattle.integers.specs.Lists.{All, Column}
 use Rattle.integers.specs.Sum.{sumBelow}
 use Rattle.wire.specs.Number.{Bytes}
-use Rattle.forms.specs.Form.{Form, place, value, entry}
+use Rattle.forms.specs.Form.{place, value, entry}
 use Rattle.forms.specs.Table.{tableNumbers}
 use Rattle.register.specs.declared.Register.{Register}
 use Rattle.register.specs.Limits.{maxChoices, maxTerms, maxWindows, maxRows, rowEntries, maxBase, usualDay}
@@ -19,16 +19,20 @@ use Rattle.register.specs.Answer.{registerAnswer}
 use Rattle.register.specs.Format.{registerInJob, registerByItself}
 use Rattle.register.specs.BeforeRows.{inJobBeforeRows, byItselfBeforeRows}
 use Rattle.plan.specs.declared.CostAnswer.{CostAnswer}
+use Rattle.plan.specs.Plan.{cost}
 use Rattle.plan.specs.Fits.{Fits, fedSum}
 use Rattle.plan.specs.Encoding.{encodePlan}
 use Rattle.scheme.specs.declared.Scheme.{Scheme}
 use Rattle.scheme.specs.Filling.{Filling, factor, induced}
+use Rattle.scheme.specs.Function.{g}
 use Rattle.certificate.specs.Limits.{maxScale, maxTarget, maxRowMultiplier}
 use Rattle.certificate.specs.Certificate.{Multiplier, Certificate}
 use Rattle.certificate.specs.Rules.{ruleOf}
 use Rattle.certificate.specs.RowForm.{rowFormOf}
 use Rattle.certificate.specs.Encoding.{encodeScale, encodeMultiplier}
 use Rattle.penalty.specs.Carried.{carried}
+use Rattle.penalty.specs.Answer.{withPenalty}
+use Rattle.plain.specs.Plain.{plain}
 use Rattle.bound.specs.declared.CheckAnswer.{CheckAnswer}
 use Rattle.text.specs.Text.{HasLine}
 use Rattle.job.specs.declared.Tally.{Tally}
@@ -70,6 +74,8 @@ pub record JobFits (jobCall : JobCall) (listingCall : ListingCall) (job : List �
   pub accepted : AcceptedJob jobCall listingCall job table tally
   -- its plan fits the rows
   pub fits : Fits accepted.parts.register accepted.parts.plan
+  -- where the job says no row its register has none, so that each plan fits
+  pub none-said : (SaysRow job → ⊥) → accepted.parts.register.rows ≡ 0
   -- where a row counts the feedings of a tank, a farm reads exactly so many `F` lines of the tank as the row's total
   pub exactly : (k t : ℕ) → Counts accepted.parts.register k t →
       (lent : List ℤ) (buffer : List ℕ) → Listed jobCall listingCall job lent buffer →
@@ -166,6 +172,15 @@ pub record RowForms : Type 0 where
       value (factor (induced reg.choices sch plan)) (rowFormOf reg k i) ≡ pos 0
   pub in-table : (reg : Register) (k i : ℕ) → RowTable reg k i
 
+-- ---- what rows leave as it is
+
+-- rows change neither what a plan costs, nor g, the penalty form in a table and our own certificate, of no call in particular
+pub record RowsApart : Type 0 where
+  pub costs : (reg : Register) (plan : ℕ) → cost (coefficient reg) (withoutRows reg) plan ≡ cost (coefficient reg) reg plan
+  pub function : (reg : Register) (sch : Scheme) → g (coefficient reg) (withoutRows reg) sch ≡ g (coefficient reg) reg sch
+  pub penalty-form : (reg : Register) (sch : Scheme) (lent : List ℤ) → withPenalty (withoutRows reg) sch lent ≡ withPenalty reg sch lent
+  pub own-certificate : (reg : Register) (sch : Scheme) → plain (coefficient reg) (withoutRows reg) sch ≡ plain (coefficient reg) reg sch
+
 -- ---- without rows
 
 -- the conditions on a register before there were rows
@@ -222,8 +237,9 @@ pub record RowsKept (registerCall : RegisterCall) (costCall : CostCall) (checkCa
   pub row-absent : (register scheme certificate : List ℕ) (reg : Register) (sch : Scheme) (table : List ℤ) → tableNumbers ≤ length table →
       Part1 register reg → Part2 reg scheme sch → RowAbsent reg certificate → (checkCall register scheme certificate table).0 ≡ rowAbsent
   pub rows-named : (reg : Register) (sch : Scheme) (certificate : List ℕ) (cert : Certificate) → Part3 reg sch certificate cert → NamesRows reg cert
-  -- without rows every plan fits
+  -- without rows every plan fits, as where the bytes say no row
   pub every-plan : (reg : Register) → reg.rows ≡ 0 → (plan : ℕ) → Fits reg plan
+  pub none-said : (register : List ℕ) → (SaysRow register → ⊥) → (registerCall register).register.rows ≡ 0
   -- bytes that say no row are answered as they were, accepted or refused, with no row
   pub read-as-before : (register : List ℕ) → (SaysRow register → ⊥) →
       (registerCall register ≡ registerAnswer (byItselfBeforeRows register)) × (withoutRows (registerCall register).register ≡ (registerCall register).register)

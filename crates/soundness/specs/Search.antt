@@ -56,22 +56,11 @@ pub record Cheapest (costCall : CostCall) (register : List ℕ) (limit : ℕ) (a
   pub visits-few : suc a.visits ≤ 2 ^ suc (registerOf register).choices
   pub visits-within : a.visits ≤ limit
 
--- of a register without rows, over every plan, as it stood before there were rows
+-- of a register without rows: the same over every plan, as it stood before there were rows
 pub record CheapestEvery (costCall : CostCall) (register : List ℕ) (limit : ℕ) (a : SearchAnswer) : Type 0 where
-  pub part-1 : Bytes register → Part1 register (registerOf register)
-  pub plan : Plan register
-  pub plan-is : plan.fed ≡ a.plan
-  pub cost-is : cost register plan ≡ a.cost
+  pub cheapest : Cheapest costCall register limit a
   pub least : (other : Plan register) → a.cost ≤ℤ cost register other
   pub smallest : (other : Plan register) → cost register other ≡ a.cost → a.plan ≤ other.fed
-  pub keeps : KeepsWindows (registerOf register) a.plan
-  pub of-day : FeedsOfDay (registerOf register) a.plan
-  pub costed : (bytes : List ℕ) → Encodes (registerOf register) a.plan bytes → costCall register bytes ≡ costAccepted a.cost
-  pub costed-least : (bytes : List ℕ) → (costCall register bytes).number ≡ 0 → a.cost ≤ℤ (costCall register bytes).cost
-  pub visits-are : a.visits ≡ visitsOf (registerOf register)
-  pub visits-some : 1 ≤ a.visits
-  pub visits-few : suc a.visits ≤ 2 ^ suc (registerOf register).choices
-  pub visits-within : a.visits ≤ limit
 
 pub record SearchSound (searchCall : SearchCall) (costCall : CostCall) (checkCall : CheckCall) : Type 0 where
   pub cheapest : (register : List ℕ) (limit : ℕ) → (searchCall register limit).number ≡ 0 → Cheapest costCall register limit (searchCall register limit)

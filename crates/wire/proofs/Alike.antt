@@ -3,16 +3,16 @@
 use Prim.Native.Nat.{ℕ, zero, suc, ◌+◌, ◌≤◌, ◌<◌}
 use native.Mathlib.Omega.{arith}
 use mathlib.Core.Path.{◌≡◌, refl, sym, ◌∙◌, ap}
-use mathlib.Core.Bool.{true, false, not, ◌&&◌, ◌||◌, false≢true}
+use mathlib.Core.Bool.{Bool, true, false, ◌&&◌, ◌||◌, false≢true}
 use mathlib.Core.List.{List}
 use lib.Dec.{eqb}
 use lib.ListN.{length, get_or}
-use borrow.Author.Tests.{lt-ltb, eqb-false}
+use borrow.Author.Tests.{lt-ltb, eq-eqb}
 use Rattle.integers.proofs.Lists.{flag, or-none}
 use Rattle.wire.specs.Checks.{refusal, commandChecks}
-use Rattle.wire.specs.Part.{Part, Reading, refused, accepted, operandsAt, size, checksAt, after_at, readFrom, readPart}
-use Rattle.wire.specs.Walk.{comesFrom, comesTo}
-use Rattle.wire.proofs.Part.{Passes, Ways, by-ways, passed-checksAt, readFrom-missing, readFrom-refused, readFrom-goes, readFrom-ends}
+use Rattle.wire.specs.Part.{Part, Reading, refused, accepted, operandsAt, size, checksAt, after_at, step, readFrom, readPart}
+use Rattle.wire.specs.Walk.{passing, comesFrom, comesTo}
+use Rattle.wire.proofs.Part.{Passes, Ways, by-ways, passed-checksAt, step-goes, readFrom-missing, readFrom-refused, readFrom-goes, readFrom-ends}
 
 -- Reach holds of what was read and the position past it, where the part is accepted
 abbrev pub Ended : {S : Type 0} → (S → ℕ → Type 0) → Reading S → Type 0
@@ -83,43 +83,52 @@ module _ {S : Type 0} (P Q : Part S) (Reach : S → ℕ → Type 0) where
               (ends-alike s read at a p l, (at-same s read at a p).moves _ p.allowed);
         }
 
--- ---- parts that agree at every byte but one
+-- ---- parts that agree at every byte but one, and at that one where it may not stand
 
--- a walk by sizes from a position on does not come to a command with this byte
-pub record Avoids {S : Type 0} (P : Part S) (b : ℕ) (s : List ℕ) (at : ℕ) : Type 0 where
+-- reading from a position on does not come to this byte where it may stand
+pub record Avoids {S : Type 0} (Q : Part S) (may : S → Bool) (b : ℕ) (s : List ℕ) (read : S) (at : ℕ) : Type 0 where
   pub steps : ℕ
   pub enough : length s ≤ at + steps
-  pub none : comesFrom P b s steps at ≡ false
+  pub none : comesFrom Q may b s steps read at ≡ false
 
--- nor does it at the first command and, where that is not the last, from the next one on
-avoids-here : {S : Type 0} (P : Part S) (b : ℕ) (s : List ℕ) (at : ℕ) → at < length s → Avoids P b s at → (get_or s at 0 ≡ b → ⊥) × (P.last (get_or s at 0) ≡ false → Avoids P b s (at + size P (get_or s at 0)))
-unfolding comesFrom
-avoids-here P b s at l a = go a.steps a.enough a.none
-  where
-    c : ℕ
-    c = get_or s at 0
+-- so it may not stand at the first command; nor does reading come to it from the next one on
+module _ {S : Type 0} (Q : Part S) (may : S → Bool) (b : ℕ) (s : List ℕ) (read : S) (at : ℕ) (l : at < length s) where
+  avoids-here : Avoids Q may b s read at → (get_or s at 0 ≡ b → may read ≡ false) × (refusal (checksAt Q s read at) ≡ 0 → Q.last (get_or s at 0) ≡ false → Avoids Q may b s (after_at Q s read at) (at + size Q (get_or s at 0)))
+  unfolding comesFrom passing
+  avoids-here a = go a.steps a.enough a.none
+    where
+      c : ℕ
+      c = get_or s at 0
 
-    go : (k : ℕ) → length s ≤ at + k → comesFrom P b s k at ≡ false → (c ≡ b → ⊥) × (P.last c ≡ false → Avoids P b s (at + size P c))
-    go zero h e = absurd (omega arith)
-    go (suc k) h e =
-        let f : (eqb c b || (not (P.last c) && comesFrom P b s k (at + size P c))) ≡ false = rw (lt-ltb at (length s) l) at e in
-        let (d, n) = or-none _ _ f in
-        (eqb-false c b d, λ t. record { steps = k; enough = omega arith; none = rw t at n })
+      go : (k : ℕ) → length s ≤ at + k → comesFrom Q may b s k read at ≡ false → (c ≡ b → may read ≡ false) × (refusal (checksAt Q s read at) ≡ 0 → Q.last c ≡ false → Avoids Q may b s (after_at Q s read at) (at + size Q c))
+      go zero h e = absurd (omega arith)
+      go (suc k) h e =
+          let past = passing (step Q s read at) (comesFrom Q may b s k) in
+          let f : ((eqb c b && may read) || past) ≡ false = rw (lt-ltb at (length s) l) at e in
+          let (d, n) : ((eqb c b && may read) ≡ false) × (past ≡ false) = or-none (eqb c b && may read) past f in
+          (λ q. rw (eq-eqb c b q) at d, λ z t. record { steps = k; enough = omega arith; none = rw (step-goes Q s read at l z t) at n })
 
--- so where a walk from the front does not, both parts read alike
-module _ {S : Type 0} (P Q : Part S) (Reach : S → ℕ → Type 0) (b : ℕ) (agree : (read : S) (at c : ℕ) → Reach read at → (c ≡ b → ⊥) → Alike P Q Reach read at c) where
-  pub read-without : (s : List ℕ) → (comesTo P b s ≡ true → ⊥) → P.start ≡ Q.start → Reach P.start 0 → (readPart P s ≡ readPart Q s) × Ended Reach (readPart P s)
+-- so where reading from the front does not, both parts read alike
+module _ {S : Type 0} (P Q : Part S) (Reach : S → ℕ → Type 0) (may : S → Bool) (b : ℕ) (agree : (read : S) (at c : ℕ) → Reach read at → (c ≡ b → may read ≡ false) → Alike P Q Reach read at c) where
+  pub read-without : (s : List ℕ) → (comesTo Q may b s ≡ true → ⊥) → P.start ≡ Q.start → Reach P.start 0 → (readPart P s ≡ readPart Q s) × Ended Reach (readPart P s)
   unfolding readPart comesTo after_at
   read-without s none e r =
-      let avoids : Avoids P b s 0 = record { steps = length s; enough = omega arith; none = flag (comesFrom P b s (length s) 0) (λ t. absurd (none t)) (λ t. t) } in
+      let comes : S → Bool = λ start. comesFrom Q may b s (length s) start 0 in
+      let avoids : Avoids Q may b s P.start 0 = record { steps = length s; enough = omega arith; none = flag (comes P.start) (λ t. absurd (none (ap comes (sym e) ∙ t))) (λ t. t) } in
       let (k, h) = by-ways P s M ways P.start 0 r avoids in
       (k ∙ ap (λ start. readFrom Q s start 0) e, h)
     where
       M : S → ℕ → Reading S → Type 0
-      M read at x = Reach read at → Avoids P b s at → (x ≡ readFrom Q s read at) × Ended Reach x
+      M read at x = Reach read at → Avoids Q may b s read at → (x ≡ readFrom Q s read at) × Ended Reach x
 
-      here : (read : S) (at : ℕ) → at < length s → Reach read at → Avoids P b s at → Alike P Q Reach read at (get_or s at 0)
-      here read at l r a = agree read at (get_or s at 0) r (avoids-here P b s at l a).0
+      here : (read : S) (at : ℕ) → at < length s → Reach read at → Avoids Q may b s read at → Alike P Q Reach read at (get_or s at 0)
+      here read at l r a = agree read at (get_or s at 0) r (avoids-here Q may b s read at l a).0
+
+      onward : (read : S) (at : ℕ) → Alike P Q Reach read at (get_or s at 0) → Passes P s read at → P.last (get_or s at 0) ≡ false → Avoids Q may b s read at → Avoids Q may b s (after_at P s read at) (at + size P (get_or s at 0))
+      onward read at h p l a =
+          let same = at-same P Q Reach s read at h p in
+          let next : Avoids Q may b s (after_at Q s read at) (at + size Q (get_or s at 0)) = (avoids-here Q may b s read at p.inside a).1 (passes P Q Reach s read at h p) (sym same.last ∙ l) in
+          rw (after-alike P Q Reach s read at h p, ← same.widths) at next
 
       ways : Ways P s M
       ways = record {
@@ -127,7 +136,7 @@ module _ {S : Type 0} (P Q : Part S) (Reach : S → ℕ → Type 0) (b : ℕ) (a
         refuses = λ read at n l e d r a. (refused-alike P Q Reach s read at (here read at l r a) n l e d, tt);
         goes = λ read at x p l rest r a.
             let h = here read at p.inside r a in
-            let (k, g) = rest ((at-same P Q Reach s read at h p).moves _ p.allowed) ((avoids-here P b s at p.inside a).1 l) in
+            let (k, g) = rest ((at-same P Q Reach s read at h p).moves _ p.allowed) (onward read at h p l a) in
             (goes-alike P Q Reach s read at h p x l k, g);
         ends = λ read at p l r a.
             let h = here read at p.inside r a in

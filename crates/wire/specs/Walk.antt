@@ -1,6 +1,6 @@
--- Where commands stand in a run of bytes: one after the other by their sizes, from the front.
-use Rattle.std.specs.Prelude.{ℕ, zero, suc, ◌+◌, ◌≡◌, Bool, false, not, ◌&&◌, ◌||◌, cond, List, [], ◌∷◌, ◌++◌, length, get_or, eqb, ltb}
-use Rattle.wire.specs.Part.{Part, size}
+-- Where commands stand in a run of bytes: one after the other by their sizes, from the front. And whether reading comes to a byte.
+use Rattle.std.specs.Prelude.{ℕ, zero, suc, ◌+◌, ◌≡◌, Bool, false, ◌&&◌, ◌||◌, cond, List, [], ◌∷◌, ◌++◌, length, get_or, eqb, ltb}
+use Rattle.wire.specs.Part.{Part, Step, goes, stops, size, step}
 use Rattle.wire.specs.Rows.{isAmong}
 use Rattle.wire.specs.Encoding.{Command, encode}
 use Rattle.wire.specs.Grammar.{Kind, Form}
@@ -18,18 +18,22 @@ module _ {S : Type 0} (P : Part S) (bytes : List ℕ) (s : List ℕ) where
   unfoldable pub position_of : ℕ → ℕ
   position_of i = get_or (positionsFrom (length s) 0) i 0
 
--- whether a walk by sizes comes to a command with a byte, before one that ends the part or at it
-module _ {S : Type 0} (P : Part S) (b : ℕ) (s : List ℕ) where
-  -- from a position on, past at most k commands
-  unfoldable pub comesFrom : ℕ → ℕ → Bool
-  comesFrom zero at = false
-  comesFrom (suc k) at =
-      let c = get_or s at 0 in
-      ltb at (length s) && (eqb c b || (not (P.last c) && comesFrom k (at + size P c)))
+-- a test of what is read next and where; it fails where reading stops
+unfoldable pub passing : {S : Type 0} → Step S → (S → ℕ → Bool) → Bool
+passing (goes read at) rest = rest read at
+passing (stops reading) rest = false
 
-  -- from the front. Each command takes at least a byte, so all are passed
+-- whether reading, which goes on only past commands that it does not refuse, comes to a byte where it may stand by what has been
+-- read so far
+module _ {S : Type 0} (P : Part S) (may : S → Bool) (b : ℕ) (s : List ℕ) where
+  -- from a position on, past at most k commands
+  unfoldable pub comesFrom : ℕ → S → ℕ → Bool
+  comesFrom zero read at = false
+  comesFrom (suc k) read at = ltb at (length s) && ((eqb (get_or s at 0) b && may read) || passing (step P s read at) (comesFrom k))
+
+  -- from the front. Each command takes at least a byte, so none is left
   unfoldable pub comesTo : Bool
-  comesTo = comesFrom (length s) 0
+  comesTo = comesFrom (length s) P.start 0
 
 -- one of the commands is a form of entry i of a kind, and the commands before it have so many bytes
 pub record Stands {R S : Type 0} (P : Part S) (k : Kind R) (r : R) (i : ℕ) (cs : List Command) (at : ℕ) : Type 0 where

@@ -89,7 +89,7 @@ loop-j-preserved c =
         go (yes e) = rw e l
         go (no d) = h k (omega arith)
 
--- the sum
+-- the total
 
 pub add_multiple-requires-2-clause-bounded : goal.add_multiple-requires-2-clause-bounded
 add_multiple-requires-2-clause-bounded c =

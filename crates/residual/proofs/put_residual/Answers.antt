@@ -144,24 +144,24 @@ loop-at-preserved c =
 
 -- a row's form
 
-pub multiplier_at-form-requires-clause-at_in_bounds : goal.multiplier_at-form-requires-clause-at_in_bounds
-multiplier_at-form-requires-clause-at_in_bounds c = within (goal.at.multiplier_at-form-requires-clause-at_in_bounds c).After-put_scaled_function _ _ c.loop-at.invariant
+pub multiplier_at-named-requires-clause-at_in_bounds : goal.multiplier_at-named-requires-clause-at_in_bounds
+multiplier_at-named-requires-clause-at_in_bounds c = within (goal.at.multiplier_at-named-requires-clause-at_in_bounds c).After-put_scaled_function _ _ c.loop-at.invariant
 
 pub add_row_form-requires-clause-row_within : goal.add_row_form-requires-clause-row_within
 add_row_form-requires-clause-row_within c =
     let k = (goal.at.add_row_form-requires-clause-row_within c).After-put_scaled_function in
-    rw c.multiplier_at-form.ensures (omega (arith, (row k _ _ c.loop-at.invariant c.in-59.is).row-there, (ready k).register.rows.few))
+    rw c.multiplier_at-named.ensures (omega (arith, (row k _ _ c.loop-at.invariant c.in-59.is).row-there, (ready k).register.rows.few))
 
 pub add_row_form-requires-clause-places : goal.add_row_form-requires-clause-places
 add_row_form-requires-clause-places c =
     let k = (goal.at.add_row_form-requires-clause-places c).After-put_scaled_function in
-    rw c.multiplier_at-form.ensures (omega arith, omega (arith, (row k _ _ c.loop-at.invariant c.in-59.is).variable-there))
+    rw c.multiplier_at-named.ensures (omega arith, omega (arith, (row k _ _ c.loop-at.invariant c.in-59.is).variable-there))
 
 pub add_row_form-requires-clause-m_bound : goal.add_row_form-requires-clause-m_bound
 add_row_form-requires-clause-m_bound c =
     let k = (goal.at.add_row_form-requires-clause-m_bound c).After-put_scaled_function in
-    let fits : SFits w64 c.multiplier_at-form.result.m = search rules in
-    rw (to_z-of_z fits, c.multiplier_at-form.ensures) (row k _ _ c.loop-at.invariant c.in-59.is).m-within
+    let fits : SFits w64 c.multiplier_at-named.result.m = search rules in
+    rw (to_z-of_z fits, c.multiplier_at-named.ensures) (row k _ _ c.loop-at.invariant c.in-59.is).m-within
 
 pub add_row_form-requires-clause-bounded : goal.add_row_form-requires-clause-bounded
 add_row_form-requires-clause-bounded c = room (goal.at.add_row_form-requires-clause-bounded c).After-put_scaled_function _ _ c.loop-at.invariant
@@ -179,11 +179,11 @@ loop-at-smaller-in-59 c =
 pub loop-at-preserved-in-59 : goal.loop-at-preserved-in-59
 loop-at-preserved-in-59 c =
     let k = (goal.at.loop-at-preserved-in-59 c).After-put_scaled_function in
-    let fits : SFits w64 c.multiplier_at-form.result.m = search rules in
+    let fits : SFits w64 c.multiplier_at-named.result.m = search rules in
     rw c.command_size-at-in-59.ensures
     (row-filled (ready k) (first k) (long k) c.loop-at.invariant c.in-59.is _
     (rw (to_z-of_z fits) at c.add_row_form.ensures
-    ∙ ap (λ (t : Named). addForm (side_in (reg k) (sch k)) (times t.m (rowFormOf (reg k) t.i t.j)) c.loop-at.table) c.multiplier_at-form.ensures))
+    ∙ ap (λ (t : Named). addForm (side_in (reg k) (sch k)) (times t.m (rowFormOf (reg k) t.i t.j)) c.loop-at.table) c.multiplier_at-named.ensures))
 
 -- the end
 

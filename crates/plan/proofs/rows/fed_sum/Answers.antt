@@ -48,7 +48,7 @@ module _ (a : ℕ → ℤ) (plan j bits : ℕ) (r : ℤ) (fed : Bool) (x : ℤ) 
 pub loop-j-init : goal.loop-j-init
 loop-j-init c = record { within = omega arith; so_far = sym (fedSum-zero _ _); small = omega arith }
 
-module _ (c : goal.After-entry_where-total) where
+module _ (c : goal.After-entry_where-sum) where
   -- the entry of the turn
   abbrev x : ℤ
   x = get_or c.args.entries.now (c.args.row * 32 + c.loop-j.j) (pos 0)
@@ -56,11 +56,11 @@ module _ (c : goal.After-entry_where-total) where
   byte : SFits w8 x
   byte = search rules
 
-  wide : SFits w32 c.entry_where-total.result
-  wide = record { sfits = c.entry_where-total.type_inv }
+  wide : SFits w32 c.entry_where-sum.result
+  wide = record { sfits = c.entry_where-sum.type_inv }
 
-  is : c.entry_where-total.result ≡ cond c.is_fed.result x (pos 0)
-  is = c.entry_where-total.ensures ∙ ap (λ x. cond c.is_fed.result x (pos 0)) (to_z-of_z byte)
+  is : c.entry_where-sum.result ≡ cond c.is_fed.result x (pos 0)
+  is = c.entry_where-sum.ensures ∙ ap (λ x. cond c.is_fed.result x (pos 0)) (to_z-of_z byte)
 
   few : c.loop-j.j < 32
   few = omega (arith, c.requires.n_le_max_choices)
@@ -68,8 +68,8 @@ module _ (c : goal.After-entry_where-total) where
   abbrev a : ℕ → ℤ
   a = entryIn c.args.entries.now c.args.row
 
-pub overflow_add-total : goal.overflow_add-total
-overflow_add-total c =
+pub overflow_add-sum : goal.overflow_add-sum
+overflow_add-sum c =
     let i = c.loop-j.invariant in
     turn-fits (a c) c.args.plan c.loop-j.j _ _ _ (x c) refl (byte c) (wide c) (is c) c.is_fed.ensures i.so_far i.small (few c)
 

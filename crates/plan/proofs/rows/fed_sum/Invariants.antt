@@ -1,4 +1,4 @@
--- The loop's invariant: the total is the sum over the choices passed, each of 8 bits.
+-- The loop's invariant: the sum is that over the choices passed, each of 8 bits.
 use Prim.Native.Nat.{◌*◌, ◌-◌, ◌≤◌}
 use lib.IntN.{nat_abs}
 use mathlib.Core.Path.{◌≡◌}
@@ -7,7 +7,7 @@ use Rattle.register.specs.Register.{entryIn}
 use Rattle.plan.proofs.rows.fed_sum.Given as goal
 
 abbrev pub invariant-loop-j : goal.invariant-loop-j
-invariant-loop-j l = record { within : l.j ≤ l.n; so_far : l.total ≡ fedSum l.j (entryIn l.entries l.row) l.plan; small : nat_abs l.total ≤ 128 * l.j }
+invariant-loop-j l = record { within : l.j ≤ l.n; so_far : l.sum ≡ fedSum l.j (entryIn l.entries l.row) l.plan; small : nat_abs l.sum ≤ 128 * l.j }
 
 abbrev pub decreases-loop-j : goal.decreases-loop-j
 decreases-loop-j l = l.n - l.j

@@ -80,9 +80,9 @@ pub u16_at-to-requires : goal.u16_at-to-requires
 unfolding row_of total
 u16_at-to-requires c = omega (arith, room (goal.at.u16_at-to-requires c).Else-placed-ne0 0x13 7 c.in-19.is refl)
 
-pub i16_at-sum-requires : goal.i16_at-sum-requires
+pub i16_at-total-requires : goal.i16_at-total-requires
 unfolding row_of total
-i16_at-sum-requires c = omega (arith, room (goal.at.i16_at-sum-requires c).Else-placed-ne0 0x14 35 c.in-20.is refl)
+i16_at-total-requires c = omega (arith, room (goal.at.i16_at-total-requires c).Else-placed-ne0 0x14 35 c.in-20.is refl)
 
 pub past_zero-zeros-requires : goal.past_zero-zeros-requires
 unfolding row_of total
@@ -120,7 +120,7 @@ pub returns-in-20 : goal.returns-in-20
 unfolding row_of operandsAt intAt
 returns-in-20 c = λ p g.
     c.row_refusal.ensures
-    ∙ rw (c.past_zero-zeros.ensures, ← g.seen-is, to_z-of_z (record { sfits = c.i16_at-sum.type_inv }), c.i16_at-sum.ensures, ← zeros-at p.parsed.choices c.args.bytes.now (c.args.at + 1)) (own (goal.at.returns-in-20 c).Else-placed-ne0 p g.seen-is 0x14 c.in-20.is)
+    ∙ rw (c.past_zero-zeros.ensures, ← g.seen-is, to_z-of_z (record { sfits = c.i16_at-total.type_inv }), c.i16_at-total.ensures, ← zeros-at p.parsed.choices c.args.bytes.now (c.args.at + 1)) (own (goal.at.returns-in-20 c).Else-placed-ne0 p g.seen-is 0x14 c.in-20.is)
 
 pub returns-in-24 : goal.returns-in-24
 unfolding row_of operandsAt

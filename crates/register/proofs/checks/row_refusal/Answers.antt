@@ -7,4 +7,4 @@ use Rattle.register.proofs.checks.row_refusal.Goals as goal
 
 pub returns : goal.returns
 unfolding refusal rowChecks
-returns c = rw (c.first_of-3.ensures, c.first_of-2.ensures, c.first_of.ensures, c.magnitude-out.ensures, cast-read w16 w64 c.args.sum (omega arith) c.ranges.sum)
+returns c = rw (c.first_of-3.ensures, c.first_of-2.ensures, c.first_of.ensures, c.magnitude-out.ensures, cast-read w16 w64 c.args.total (omega arith) c.ranges.total)

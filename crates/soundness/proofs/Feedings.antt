@@ -1,0 +1,205 @@
+-- A row that counts the feedings of a tank: an accepted job shows exactly so many `F` lines of the tank as the row's total. And a job
+-- that says no row has none.
+use Prim.Native.Nat.{ℕ, zero, suc, ◌≤◌, ◌<◌}
+use native.Mathlib.Omega.{arith}
+use mathlib.Core.Path.{◌≡◌, refl, sym, ◌∙◌, ap, ap₂}
+use mathlib.Core.Logic.{inl, inr, ⊎_elim}
+use mathlib.Core.Bool.{Bool, true, false, cond, ◌&&◌}
+use mathlib.Core.List.{List, [], ◌∷◌, ◌++◌}
+use lib.Dec.{eqb}
+use lib.IntN.{ℤ, pos, ◌+ℤ◌, +ℤ_idr}
+use lib.ListN.{length, get_or, length-append, get_or-append}
+use lib.Seq.{get_or_at}
+use borrow.Author.Tests.{eqb-true, eqb-false, eq-eqb}
+use Rattle.integers.proofs.Lists.{◌▹◌, flag, and_both}
+use Rattle.integers.proofs.Entries.{below-or-last}
+use Rattle.sets.specs.Sets.{isMember}
+use Rattle.wire.specs.Part.{Reading, refused, accepted, after_at, readPart}
+use Rattle.wire.specs.Rows.{Progress, row_of}
+use Rattle.wire.proofs.Part.{Ways, by-ways}
+use Rattle.wire.proofs.Rest.{no-row, by_bytes}
+use Rattle.register.specs.declared.Register.{Register}
+use Rattle.register.specs.Register.{tank, minute, rowTotal, rowEntry}
+use Rattle.register.specs.Register.{fresh}
+use Rattle.register.specs.Valid.{Before, Valid}
+use Rattle.register.specs.Format.{registerInJob}
+use Rattle.register.specs.Encoding.{SaysRow}
+use Rattle.register.specs.BeforeRows.{rowsBeforeRows, partBeforeRows, inJobBeforeRows}
+use Rattle.register.proofs.BeforeRows.{as-before-rows-in-job}
+use Rattle.plan.specs.Fits.{fedSum}
+use Rattle.plan.proofs.Fits.{fedSum-zero, fedSum-suc}
+use Rattle.job.specs.declared.Tally.{Tally}
+use Rattle.soundness.specs.Calls.{jobCall, listingCall}
+use Rattle.soundness.specs.Jobs.{Accepted, Listed, shown, AcceptedJob}
+use Rattle.soundness.specs.Rows.{Counts, Exactly, JobFits}
+use Rattle.soundness.proofs.Jobs.{accepted-job, accepted-leads}
+use Rattle.soundness.proofs.Windows.{fed-lines}
+use Rattle.soundness.proofs.DayLengths.{first}
+
+-- of two choices of a tank the later has the later minute
+module _ (r : Register) (v : Valid r) where
+  abbrev at : ℕ → ℕ × ℕ
+  at i = (tank r i, minute r i)
+
+  before-all : (c d e : ℕ × ℕ) → Before c d → Before d e → Before c e
+  before-all c d e (inl a) (inl b) = inl (omega (arith, a, b))
+  before-all c d e (inl a) (inr b) = inl (omega (arith, a, b.0))
+  before-all c d e (inr a) (inl b) = inl (omega (arith, a.0, b))
+  before-all c d e (inr a) (inr b) = inr (a.0 ∙ b.0, omega (arith, a.1, b.1))
+
+  rises : (j i : ℕ) → i < j → j < r.choices → Before (at i) (at j)
+  rises zero i l h = absurd (omega arith)
+  rises (suc j) i l h =
+      let next = v.within.choices.rise j h in
+      ⊎_elim
+      (λ (k : i < j). before-all (at i) (at j) (at (suc j)) (rises j i k (omega arith)) next)
+      (λ (k : i ≡ j). rw k next)
+      (below-or-last i j l)
+
+  later : (j i : ℕ) → i < j → j < r.choices → tank r i ≡ tank r j → minute r i < minute r j
+  later j i l h e = ⊎_elim (λ (b : tank r i < tank r j). absurd (omega arith)) (λ b. b.1) (rises j i l h)
+
+-- the choices below n that are the tank's and fed, by their minutes, which rise
+module _ (r : Register) (v : Valid r) (t plan k : ℕ) (counts : Counts r k t) where
+  abbrev counted : ℕ → Bool
+  counted i = isMember i plan && eqb (tank r i) t
+
+  record Those (n : ℕ) (ms : List ℕ) : Type 0 where
+    many : pos (length ms) ≡ fedSum n (rowEntry r k) plan
+    from : (j : ℕ) → j < length ms → (i : ℕ) × ((i < n) × ((counted i ≡ true) × (get_or ms j 0 ≡ minute r i)))
+    to : (i : ℕ) → i < n → counted i ≡ true → (j : ℕ) × ((j < length ms) × (get_or ms j 0 ≡ minute r i))
+    rising : (j : ℕ) → suc j < length ms → get_or ms j 0 < get_or ms (suc j) 0
+
+  tank-of : (i : ℕ) → counted i ≡ true → tank r i ≡ t
+  tank-of i c = eqb-true (tank r i) t (and_both (isMember i plan) _ c).1
+
+  -- what the row adds for a choice
+
+  adds-one : (i : ℕ) → i < r.choices → counted i ≡ true → cond (isMember i plan) (rowEntry r k i) (pos 0) ≡ pos 1
+  adds-one i l c = let (m, e) = and_both (isMember i plan) _ c in rw (m, counts.own i l (eqb-true (tank r i) t e))
+
+  adds-none : (i : ℕ) → i < r.choices → counted i ≡ false → cond (isMember i plan) (rowEntry r k i) (pos 0) ≡ pos 0
+  adds-none i l c =
+      flag (isMember i plan)
+      (λ m. let d : eqb (tank r i) t ≡ false = rw m at c in rw (m, counts.others i l (eqb-false (tank r i) t d)))
+      (λ m. rw m)
+
+  -- a choice that does not count
+  same : (n : ℕ) (ms : List ℕ) → n < r.choices → Those n ms → counted n ≡ false → Those (suc n) ms
+  same n ms l h c = record {
+    many = h.many ∙ sym (+ℤ_idr _) ∙ ap (λ x. fedSum n (rowEntry r k) plan +ℤ x) (sym (adds-none n l c)) ∙ sym (fedSum-suc n (rowEntry r k) plan);
+    from = λ j b. let (i, (m, (d, e))) = h.from j b in (i, (omega arith, (d, e)));
+    to = λ i b d. ⊎_elim (λ (m : i < n). h.to i m d) (λ (m : i ≡ n). absurd (differ (sym c ∙ ap counted (sym m) ∙ d))) (below-or-last i n b);
+    rising = h.rising;
+  }
+    where
+      differ : false ≡ true → ⊥
+      differ h = grind arith
+
+  -- and one that does
+  more : (n : ℕ) (ms : List ℕ) → n < r.choices → Those n ms → counted n ≡ true → Those (suc n) (ms ++ (minute r n ∷ []))
+  more n ms l h c =
+      let long = length-append ms (minute r n ∷ []) in
+      record {
+        many = ap pos long ∙ ap₂ ◌+ℤ◌ h.many (sym (adds-one n l c)) ∙ sym (fedSum-suc n (rowEntry r k) plan);
+        from = λ j b. ⊎_elim
+            (λ (m : j < length ms). let (i, (a, (d, e))) = h.from j m in (i, (omega arith, (d, get_or-append ms _ 0 j m ∙ e))))
+            (λ (m : j ≡ length ms). (n, (omega arith, (c, get_or_at ms (minute r n) [] 0 j (sym m)))))
+            (below-or-last j (length ms) (omega (arith, long)));
+        to = λ i b d. ⊎_elim
+            (λ (m : i < n). let (j, (a, e)) = h.to i m d in (j, (omega (arith, long), get_or-append ms _ 0 j a ∙ e)))
+            (λ (m : i ≡ n). (length ms, (omega (arith, long), get_or_at ms (minute r n) [] 0 (length ms) refl ∙ ap (minute r) (sym m))))
+            (below-or-last i n b);
+        rising = λ j b. ⊎_elim
+            (λ (m : suc j < length ms). let less = h.rising j m in omega (arith, less, get_or-append ms (minute r n ∷ []) 0 j (omega arith), get_or-append ms (minute r n ∷ []) 0 (suc j) m))
+            (λ (m : suc j ≡ length ms).
+            let (i, (a, (d, e))) = h.from j (omega arith) in
+            let less = later r v n i a l (tank-of i d ∙ sym (tank-of n c)) in
+            omega (arith, less, e, get_or-append ms (minute r n ∷ []) 0 j (omega arith), get_or_at ms (minute r n) [] 0 (suc j) (sym m)))
+            (below-or-last (suc j) (length ms) (omega (arith, long)));
+      }
+
+  those : (n : ℕ) → n ≤ r.choices → (ms : List ℕ) × Those n ms
+  those zero l = ([], record { many = sym (fedSum-zero (rowEntry r k) plan); from = λ j b. absurd (omega arith); to = λ i b. absurd (omega arith); rising = λ j b. absurd (omega arith) })
+  those (suc n) l =
+      let (ms, h) = those n (omega arith) in
+      flag (counted n) (λ c. (ms ++ (minute r n ∷ []), more n ms (omega arith) h c)) (λ c. (ms, same n ms (omega arith) h c))
+
+-- ---- of an accepted job
+
+module _ (job : List ℕ) (table : List ℤ) (tally : Tally) (j : AcceptedJob jobCall listingCall job table tally) (k t : ℕ) (counts : Counts j.parts.register k t)
+    (lent : List ℤ) (buffer : List ℕ) (h : Listed jobCall listingCall job lent buffer) where
+  abbrev reg : Register
+  reg = j.parts.register
+
+  abbrev plan : ℕ
+  plan = j.parts.plan
+
+  abbrev text : List ℕ
+  text = shown jobCall listingCall job lent buffer
+
+  exactly : (n : ℕ) × (rowTotal reg k ≡ pos n) × Exactly n t text
+  exactly =
+      let (ms, all) = those reg j.conditions.register t plan k counts reg.choices (omega arith) in (
+        length ms,
+        sym (all.many ∙ j.fits k counts.there),
+        record {
+          minutes = ms;
+          many = refl;
+          rising = all.rising;
+          lines = λ m.
+              let (to, from) = fed-lines job table tally j lent buffer h t m in (
+                (λ l.
+                    let f = to l in
+                    let c : (isMember f.choice plan && eqb (tank reg f.choice) t) ≡ true = rw (f.fed, eq-eqb (tank reg f.choice) t f.tank-is) in
+                    let (i, (b, e)) = all.to f.choice f.there c in
+                    (i, b, e ∙ f.minute-is)),
+                (λ (i, b, e).
+                    let (n, (there, (c, d))) = all.from i b in
+                    let (fed, own) = and_both (isMember n plan) _ c in
+                    from (record { choice = n; there = there; fed = fed; tank-is = eqb-true (tank reg n) t own; minute-is = sym d ∙ e })),
+              );
+        },
+      )
+
+-- ---- a job that says no row
+
+-- before there were rows no command gave one
+
+module _ (s : List ℕ) where
+  abbrev Kept : Reading (Progress Register) → Type 0
+  Kept (refused n at) = Unit {0}
+  Kept (accepted p end) = p.parsed.rows ≡ 0
+
+  keeps : (p : Progress Register) (at : ℕ) → (after_at partBeforeRows s p at).parsed.rows ≡ p.parsed.rows
+  unfolding after_at row_of
+  keeps p at =
+      let Q : ℕ → Type 0 = λ b. (xs : List ℕ) → ((row_of rowsBeforeRows b).after p.parsed xs).rows ≡ p.parsed.rows in
+      by_bytes Q rowsBeforeRows (get_or s at 0) (λ n xs. ap (λ row. (row.after p.parsed xs).rows) (no-row rowsBeforeRows (get_or s at 0) n))
+      ((λ xs. refl) ▹ (λ xs. refl) ▹ (λ xs. refl) ▹ (λ xs. refl) ▹ (λ xs. refl) ▹ (λ xs. refl) ▹ tt) _
+
+  none-before : Kept (inJobBeforeRows s)
+  unfolding inJobBeforeRows readPart fresh
+  none-before = by-ways partBeforeRows s (λ p at x. p.parsed.rows ≡ 0 → Kept x) ways partBeforeRows.start 0 refl
+    where
+      ways : Ways partBeforeRows s (λ p at x. p.parsed.rows ≡ 0 → Kept x)
+      ways = record {
+        missing = λ p at l e. tt;
+        refuses = λ p at n l e d k. tt;
+        goes = λ p at x h l rest e. rest (keeps p at ∙ e);
+        ends = λ p at h l e. keeps p at ∙ e;
+      }
+
+  none-read : (SaysRow s → ⊥) → (p : Progress Register) (end : ℕ) → registerInJob s ≡ accepted p end → p.parsed.rows ≡ 0
+  none-read none p end e = let k : Kept (accepted p end) = rw (sym (as-before-rows-in-job s none) ∙ e) at none-before in k
+
+pub job-fits : (job : List ℕ) (table : List ℤ) (tally : Tally) → Accepted jobCall listingCall job table tally → JobFits jobCall listingCall job table tally
+job-fits job table tally z =
+    let j = accepted-job job table tally z in
+    let NoRow : Register → Type 0 = λ reg. reg.rows ≡ 0 in
+    record {
+      accepted = j;
+      fits = j.fits;
+      none-said = λ none. rw (accepted-leads job table tally z) at (first job NoRow (none-read job none));
+      exactly = exactly job table tally j;
+    }
