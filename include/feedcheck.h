@@ -42,8 +42,8 @@ enum {
  * and no window ends after it.
  * Window number w is of the tank window_tanks[w]: window_froms[w] is its first minute, window_tos[w] the first minute after it.
  * Where a tank has no window, every minute of the day is allowed.
- * Row number k has the sum row_totals[k], and for choice j the entry row_entries[FEEDCHECK_ROW_ENTRIES * k + j], 0 where there is
- * no choice j. A plan fits where, for each row, the entries of the choices that it feeds add up to the row's sum; where there is
+ * Row number k has the total row_totals[k], and for choice j the entry row_entries[FEEDCHECK_ROW_ENTRIES * k + j], 0 where there is
+ * no choice j. A plan fits where, for each row, the entries of the choices that it feeds add up to the row's total; where there is
  * no row, every plan fits.
  * Entries past the counts are 0. */
 typedef struct {

@@ -1,7 +1,7 @@
 #!/usr/bin/env python3
 """Tries tools/job_text.py: bytes to lines and back, on every example, on every file of the folders given, and on damaged copies of
-three jobs, one without windows, one with them and one with a day's length too, and of one with a row: each front of it, each byte
-changed to eight others, each byte left out. Then the lines of registers with windows, lengths and rows, right ones and others, and of
+five jobs, one without windows, one with them, one with a day's length too and two with a row: each front of it, each byte changed to
+eight others, each byte left out. Then the lines of registers with windows, lengths and rows, right ones and others, and of
 what names a row, lines that are no command, registers written by hand, and part 1 of jobs.
 
     tools/test_job_text.py [FOLDER ..]
@@ -16,7 +16,7 @@ from job_text import make, register_of, show
 EXAMPLES = pathlib.Path(__file__).resolve().parent.parent / "examples"
 
 # jobs whose damaged copies are tried, and whose part 1
-JOBS = ("example", "windows.night", "days.autumn")
+JOBS = ("example", "windows.night", "days.autumn", "raceway.four")
 
 # runs of bytes, command by command, with the line of each
 SHOWN = [
@@ -70,7 +70,7 @@ SHOWN = [
         ("11 0400 0000", "00015  1  11 choice    tank 4  minute 0  (choice 0)"),
         ("18 DC", "00020  -  raw  18 DC"),
     ],
-    # rows in order, entries of 8 bits and a sum below 0, a row without entries, a row that names a choice that is not there; what
+    # rows in order, entries of 8 bits and a total below 0, a row without entries, a row that names a choice that is not there; what
     # names a row, a product among the variables, a row that is not there and a variable that is not there; a plan that does not fit
     [
         ("10 00000000", "00000  1  10 base      cost 0"),

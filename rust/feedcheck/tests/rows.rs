@@ -3,10 +3,10 @@
 use feedcheck::{raw, MAX_ROWS, ROW_ENTRIES};
 use std::mem::{offset_of, size_of};
 
-/// A `14` with this sum and these entries, and 0 for the choices behind them.
-fn row(sum: i16, entries: &[i8]) -> Vec<u8> {
+/// A `14` with this total and these entries, and 0 for the choices behind them.
+fn row(total: i16, entries: &[i8]) -> Vec<u8> {
     let mut bytes = vec![0x14];
-    bytes.extend(sum.to_le_bytes());
+    bytes.extend(total.to_le_bytes());
     bytes.extend(entries.iter().map(|&entry| entry as u8));
     bytes.resize(3 + ROW_ENTRIES, 0);
     bytes
@@ -77,7 +77,7 @@ fn entries() {
 
 #[test]
 fn row_refused() {
-    // A sum past 4,064; an entry of choice 5, which is not there; both, of which 4 is the lower number.
+    // A total past 4,064; an entry of choice 5, which is not there; both, of which 4 is the lower number.
     assert_eq!(refused(feedcheck::register(&register(&[row(4_065, &[])]))), (4, 1, 30));
     assert_eq!(refused(feedcheck::register(&register(&[row(-4_065, &[])]))), (4, 1, 30));
     assert_eq!(refused(feedcheck::register(&register(&[row(1, &[0, 0, 0, 0, 0, 1])]))), (5, 1, 30));
