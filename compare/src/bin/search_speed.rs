@@ -46,17 +46,17 @@ fn generated(random: &mut Random, terms: usize, degree: u32) -> Vec<u8> {
     generate::register_commands(&register).concat()
 }
 
-/// What library and reference both answer: the search, or `None` where its visits pass the limit.
-fn answer(register: &[u8], limit: u32) -> Option<Found> {
+/// What library and reference both answer: the search, or its refusal, 14 where its visits pass the limit and 16 where no plan fits.
+fn answer(register: &[u8], limit: u32) -> Result<Found, u8> {
     let ours = feedcheck::search(register, limit);
     let theirs = reference::search(register, limit);
     let alike = match (&ours, &theirs) {
         (Ok(a), Ok(b)) => (a.plan, a.cost, a.visits) == (b.plan, b.cost, b.visits),
-        (Err(a), Err(b)) => (a.number, a.part, a.position) == (b.number, b.part, b.position) && a.number == 14,
+        (Err(a), Err(b)) => (a.number, a.part, a.position) == (b.number, b.part, b.position) && matches!(a.number, 14 | 16),
         _ => false,
     };
     assert!(alike, "{ours:?} {theirs:?}");
-    theirs.ok()
+    theirs.map_err(|refusal| refusal.number)
 }
 
 /// Seconds of processor time of a call.
@@ -96,7 +96,7 @@ fn race_generated(runs: usize) {
                     sum[1] += theirs;
                 }
                 all_visits += visits;
-                ended += found.is_some() as u32;
+                ended += found.is_ok() as u32;
             }
             let [ours, theirs] = [0, 1].map(|which| figures.iter().map(move |times| times[which] * 1e9 / all_visits as f64));
             let ratios = figures.iter().map(|[ours, theirs]| ours / theirs);
@@ -155,16 +155,23 @@ fn race_jobs(runs: usize, folders: &[String]) {
     let mut longer: [Vec<String>; 2] = Default::default();
     for (choices, terms, bytes, names) in rows {
         let found = answer(&bytes, JOB_LIMIT);
-        let visits = found.map_or(JOB_LIMIT, |found| found.visits);
+        // Where no plan fits nothing is left: the visits are the most that there can be.
+        let visits = match found {
+            Ok(found) => found.visits,
+            Err(16) => (2 << choices) - 1,
+            Err(_) => JOB_LIMIT,
+        };
         let runs = if visits > LIMIT { runs.min(3) } else { runs };
         let figures = race(runs, &bytes, JOB_LIMIT, visits);
         let times = [0, 1].map(|which| summary(figures.iter().map(|times| times[which]))[0]);
         let ratio = summary(figures.iter().map(|[ours, theirs]| ours / theirs))[0];
-        let shown = found.map_or("above limit".to_string(), |found| found.visits.to_string());
+        let within = !matches!(found, Err(14));
+        let shown = if within { visits.to_string() } else { "above limit".to_string() };
+        let names = if matches!(found, Err(16)) { format!("{names} (no plan fits)") } else { names };
         let [ours, theirs] = times.map(|seconds| seconds * 1e6);
         println!("{choices:>7}  {terms:>5}  {shown:>11}  {ours:>11.2}  {theirs:>11.2}  {ratio:>19.2}  {names}");
         for which in 0..2 {
-            if found.is_some() && times[which] < 1.0 {
+            if within && times[which] < 1.0 {
                 largest[which] = largest[which].max(choices);
             } else {
                 longer[which].push(format!("{names} ({choices} choices)"));
