@@ -124,7 +124,7 @@ module _ (r : Register) (v : Valid r) where
   abbrev at : ℕ → ℕ × ℕ
   at i = (tank r i, minute r i)
 
-  rises : (j i : ℕ) → i < j → j < r.choices → Before (at i) (at j)
+  pub rises : (j i : ℕ) → i < j → j < r.choices → Before (tank r i, minute r i) (tank r j, minute r j)
   rises zero i l h = absurd (omega arith)
   rises (suc j) i l h =
       let next = v.within.choices.rise j h in

@@ -3,7 +3,7 @@
 use Prim.Native.Nat.{ℕ, zero, suc, ◌≤◌, ◌<◌}
 use native.Mathlib.Omega.{arith}
 use mathlib.Core.Path.{◌≡◌, refl, sym, ◌∙◌, ap, ap₂}
-use mathlib.Core.Logic.{inl, inr, ⊎_elim}
+use mathlib.Core.Logic.{⊎_elim}
 use mathlib.Core.Bool.{Bool, true, false, cond, ◌&&◌}
 use mathlib.Core.List.{List, [], ◌∷◌, ◌++◌}
 use lib.Dec.{eqb}
@@ -21,7 +21,7 @@ use Rattle.wire.proofs.Rest.{no-row, by_bytes}
 use Rattle.register.specs.declared.Register.{Register}
 use Rattle.register.specs.Register.{tank, minute, rowTotal, rowEntry}
 use Rattle.register.specs.Register.{fresh}
-use Rattle.register.specs.Valid.{Before, Valid}
+use Rattle.register.specs.Valid.{Valid}
 use Rattle.register.specs.Format.{registerInJob}
 use Rattle.register.specs.Encoding.{SaysRow}
 use Rattle.register.specs.BeforeRows.{rowsBeforeRows, partBeforeRows, inJobBeforeRows}
@@ -29,6 +29,7 @@ use Rattle.register.proofs.BeforeRows.{as-before-rows-in-job}
 use Rattle.plan.specs.Fits.{fedSum}
 use Rattle.plan.proofs.Fits.{fedSum-zero, fedSum-suc}
 use Rattle.job.specs.declared.Tally.{Tally}
+use Rattle.listing.proofs.Lines.{rises}
 use Rattle.soundness.specs.Calls.{jobCall, listingCall}
 use Rattle.soundness.specs.Jobs.{Accepted, Listed, shown, AcceptedJob}
 use Rattle.soundness.specs.Rows.{Counts, Exactly, JobFits}
@@ -38,26 +39,8 @@ use Rattle.soundness.proofs.DayLengths.{first}
 
 -- of two choices of a tank the later has the later minute
 module _ (r : Register) (v : Valid r) where
-  abbrev at : ℕ → ℕ × ℕ
-  at i = (tank r i, minute r i)
-
-  before-all : (c d e : ℕ × ℕ) → Before c d → Before d e → Before c e
-  before-all c d e (inl a) (inl b) = inl (omega (arith, a, b))
-  before-all c d e (inl a) (inr b) = inl (omega (arith, a, b.0))
-  before-all c d e (inr a) (inl b) = inl (omega (arith, a.0, b))
-  before-all c d e (inr a) (inr b) = inr (a.0 ∙ b.0, omega (arith, a.1, b.1))
-
-  rises : (j i : ℕ) → i < j → j < r.choices → Before (at i) (at j)
-  rises zero i l h = absurd (omega arith)
-  rises (suc j) i l h =
-      let next = v.within.choices.rise j h in
-      ⊎_elim
-      (λ (k : i < j). before-all (at i) (at j) (at (suc j)) (rises j i k (omega arith)) next)
-      (λ (k : i ≡ j). rw k next)
-      (below-or-last i j l)
-
   later : (j i : ℕ) → i < j → j < r.choices → tank r i ≡ tank r j → minute r i < minute r j
-  later j i l h e = ⊎_elim (λ (b : tank r i < tank r j). absurd (omega arith)) (λ b. b.1) (rises j i l h)
+  later j i l h e = ⊎_elim (λ (b : tank r i < tank r j). absurd (omega arith)) (λ b. b.1) (rises r v j i l h)
 
 -- the choices below n that are the tank's and fed, by their minutes, which rise
 module _ (r : Register) (v : Valid r) (t plan k : ℕ) (counts : Counts r k t) where
