@@ -8,7 +8,8 @@ pub fn agrees(line: &[u8]) -> bool {
     let start = Cursor::past_name(line);
     let first = start.bytes(line, &mut job);
     let a = first.count;
-    let count = console::lines_of(&job[..a], &mut text);
+    let checked = console::lines_of(&job[..a], &mut text);
+    let count = checked.count;
     let next = buffers::compared(first.next, line, &text[..count]);
     next.ends(line)
 }

@@ -1,2 +1,3 @@
--- The lines that the program `cheapest` prints.
+-- The tally that `feedcheck` carries, and the lines that `cheapest` prints.
+pub mod Feedcheck
 pub mod Cheapest

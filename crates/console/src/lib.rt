@@ -8,9 +8,11 @@ ghost use Rattle.register.specs.Limits.{maxChoices};
 ghost use Rattle.job.specs.Outcome.{outcome};
 ghost use Rattle.listing.specs.Listing.{listing};
 ghost use Rattle.listing.specs.Answer.{listingRoom};
+ghost use Rattle.console.specs.Feedcheck.{tallyAfter};
 ghost use Rattle.console.specs.Cheapest.{searchLines, cheapestLines, cheapestRoom};
 
 use forms::WorkingTable;
+use job::{Tally, feedcheck_job};
 use listing::{feedcheck_listing, put_choices, put_refusal};
 use register::{Register, feedcheck_register};
 use search::{SearchAnswer, feedcheck_search};
@@ -20,16 +22,31 @@ use std::io::{Read, Write};
 // The visit limit of `cheapest`: a search that would visit more partial plans is refused.
 pub const MAX_VISITS: u32 = 100_000_000;
 
-// The lines of a job, at the front of the lent text. Returns their count of bytes.
-pub fn lines_of(job: &[u8], text: &mut [u8]) -> usize
+// The supplier of the job that `feedcheck` reads.
+pub const SUPPLIER: u8 = 0;
+
+// What `feedcheck` makes of a job: the count of the bytes of its lines, and the tally with it counted, which nothing shows.
+#[derive(Clone, Copy)]
+pub struct Checked {
+    pub count: usize,
+    pub tally: Tally,
+}
+
+// Counts a job in a fresh tally, and writes its lines at the front of the lent text.
+pub fn lines_of(job: &[u8], text: &mut [u8]) -> Checked
     requires { listingRoom ≤ length text.old }
-    ensures value { result ≡ length (listing (outcome job.now)) }
-    ensures text_after { text.new ≡ listing (outcome job.now) ++ drop result text.old }
-    ensures within { result ≤ length text.new }
+    ensures value { result.count ≡ length (listing (outcome job.now)) }
+    ensures tally_after { result.tally ≡ tallyAfter job.now }
+    ensures text_after { text.new ≡ listing (outcome job.now) ++ drop result.count text.old }
+    ensures within { result.count ≤ length text.new }
 {
     let mut table = [0i64; WorkingTable::NUMBERS];
+    let counted = feedcheck_job(job, &mut table, SUPPLIER, Tally::fresh());
     let answer = feedcheck_listing(job, &mut table, text);
-    answer.count
+    Checked {
+        count: answer.count,
+        tally: counted.tally,
+    }
 }
 
 // How many bytes of its input a program reads, and how many bytes of text it has room for.
@@ -59,8 +76,8 @@ pub fn print_listing(rt: &(impl Input + Print)) -> io::Result<()> {
     let mut job = [0u8; INPUT];
     let n = read_full(&mut input, &mut job)?;
     let mut text = [0u8; TEXT];
-    let count = lines_of(&job[..n], &mut text);
-    io::writer(rt).write_all(&text[..count])
+    let checked = lines_of(&job[..n], &mut text);
+    io::writer(rt).write_all(&text[..checked.count])
 }
 
 // Writes the lines of what the search call answered for a register at the front. Returns their count of bytes.

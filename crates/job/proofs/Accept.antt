@@ -1,11 +1,12 @@
 -- What acceptance of a job means, over all runs of bytes: its four parts are valid, and the job is encodings of them after each other.
-use Prim.Native.Nat.{ℕ, ◌+◌, ◌≤◌}
+use Prim.Native.Nat.{ℕ, ◌+◌, ◌≤◌, ◌<◌}
 use mathlib.Core.Path.{◌≡◌, refl, sym, ◌∙◌, ap, subst}
 use mathlib.Core.Logic.{◌↔◌}
 use mathlib.Core.Bool.{Bool, true, false, cond}
 use mathlib.Core.List.{List, [], ◌∷◌, ◌++◌, append-nil}
 use native.Mathlib.Nat.{zero-add}
 use native.Mathlib.Omega.{arith}
+use native.Mathlib.Decide.{dec_lt}
 use lib.Dec.{ltb}
 use lib.IntN.{ℤ}
 use lib.ListN.{length, take, drop, length-drop, take-append-drop}
@@ -39,9 +40,12 @@ use Rattle.plan.proofs.Accept as PA
 use Rattle.job.specs.Outcome.{Parts, partThree, partFour, outcome}
 use Rattle.job.specs.Rest.{fromPlan, fromCertificate, fromScheme}
 use Rattle.job.specs.declared.Tally.{Tally}
-use Rattle.job.specs.Answer.{refusedAnswer, acceptedAnswer, afterJob, jobAnswer}
+use Rattle.job.specs.declared.JobAnswer.{JobAnswer}
+use Rattle.job.specs.Tally.{suppliers, withAccepted, moved}
+use Rattle.job.specs.Answer.{acceptedAnswer, afterJob, jobAnswer}
 use Rattle.job.specs.Valid.{Valid, Encodes}
 use Rattle.job.proofs.Sound.{Sound, outcome-sound, accepts-at, accepted-valid}
+use Rattle.job.proofs.Suppliers.{unknown, table-short, table-enough}
 use Rattle.wire.proofs.Encoding.{after_first}
 use Rattle.wire.proofs.Fronts.{front-whole}
 
@@ -185,33 +189,37 @@ module _ (p : Parts) (v : Valid p) where
 pub accepted-iff : (s : List ℕ) (p : Parts) → Bytes s → (outcome s ≡ accepts p) ↔ (Valid p × Encodes p s)
 accepted-iff s p b = (job-from s p b, λ h. to-job p h.0 s h.1)
 
--- so is the answer of the call, with a table that is long enough
-module _ (s : List ℕ) (lent : List ℤ) (tally : Tally) where
-  pub answer-accepted : (p : Parts) → tableNumbers ≤ length lent → Valid p → Encodes p s → jobAnswer s lent tally ≡ acceptedAnswer p tally
-  unfolding jobAnswer
-  answer-accepted p l v k = rw (le-ltb (length lent) tableNumbers l, to-job p v s k)
+-- so is the answer of the call, for each supplier, with a table that is long enough
+module _ (s : List ℕ) (lent : List ℤ) (supplier : ℕ) (tally : Tally) where
+  pub answer-accepted : (p : Parts) → supplier < suppliers → tableNumbers ≤ length lent → Valid p → Encodes p s →
+      jobAnswer s lent supplier tally ≡ acceptedAnswer p (moved withAccepted supplier tally)
+  answer-accepted p u l v k = (table-enough s lent supplier tally u l).0 ∙ rw (to-job p v s k)
 
-  -- an answer of no refusal: the table is long enough, and the job has its parts
+  -- an answer of no refusal: there is such a supplier, the table is long enough, and the job has its parts
   pub record Answered : Type 0 where
     pub parts_are : Parts
+    pub there : supplier < suppliers
     pub long : tableNumbers ≤ length lent
     pub leads : outcome s ≡ accepts parts_are
-    pub answers : jobAnswer s lent tally ≡ acceptedAnswer parts_are tally
+    pub answers : jobAnswer s lent supplier tally ≡ acceptedAnswer parts_are (moved withAccepted supplier tally)
 
-  pub answered : (jobAnswer s lent tally).number ≡ 0 → Answered
-  unfolding jobAnswer
-  answered h = by (ltb (length lent) tableNumbers) refl h
+  pub answered : (jobAnswer s lent supplier tally).number ≡ 0 → Answered
+  answered h = by (dec_lt supplier suppliers) (dec_lt (length lent) tableNumbers)
     where
-      go : (x : Outcome Parts) → outcome s ≡ x → Sound x → tableNumbers ≤ length lent → jobAnswer s lent tally ≡ afterJob x tally → (afterJob x tally).number ≡ 0 → Answered
-      go (refuses n part at) e d l a h = absurd (d h)
-      go (accepts p) e d l a h = record { parts_are = p; long = l; leads = e; answers = a }
+      number : {a : JobAnswer} → jobAnswer s lent supplier tally ≡ a → a.number ≡ 0
+      number e = sym (ap (λ (a : JobAnswer). a.number) e) ∙ h
 
-      by : (t : Bool) → ltb (length lent) tableNumbers ≡ t → (cond t (refusedAnswer 11 0 0 tally) (afterJob (outcome s) tally)).number ≡ 0 → Answered
-      by true u h = absurd (omega arith)
-      by false u h = go (outcome s) refl (outcome-sound s) (ltb-false (length lent) tableNumbers u) (rw u) h
+      go : (x : Outcome Parts) → outcome s ≡ x → Sound x → supplier < suppliers → tableNumbers ≤ length lent → jobAnswer s lent supplier tally ≡ afterJob x supplier tally → Answered
+      go (refuses n part at) e d u l a = absurd (d (number a))
+      go (accepts p) e d u l a = record { parts_are = p; there = u; long = l; leads = e; answers = a }
 
-pub accepted-answer : (s : List ℕ) → Bytes s → (lent : List ℤ) (tally : Tally) → (jobAnswer s lent tally).number ≡ 0 →
-    (p : Parts) × ((jobAnswer s lent tally ≡ acceptedAnswer p tally) × (Valid p × Encodes p s))
-accepted-answer s b lent tally h =
-    let a = answered s lent tally h in
+      by : Dec (supplier < suppliers) → Dec (length lent < tableNumbers) → Answered
+      by (no n) m = absurd (omega (arith, number (unknown s lent supplier tally (omega arith)).0))
+      by (yes u) (yes m) = absurd (omega (arith, number (table-short s lent supplier tally u m).0))
+      by (yes u) (no m) = go (outcome s) refl (outcome-sound s) u (omega arith) (table-enough s lent supplier tally u (omega arith)).0
+
+pub accepted-answer : (s : List ℕ) → Bytes s → (lent : List ℤ) (supplier : ℕ) (tally : Tally) → (jobAnswer s lent supplier tally).number ≡ 0 →
+    (p : Parts) × ((jobAnswer s lent supplier tally ≡ acceptedAnswer p (moved withAccepted supplier tally)) × (Valid p × Encodes p s))
+accepted-answer s b lent supplier tally h =
+    let a = answered s lent supplier tally h in
     (a.parts_are, (a.answers, job-from s a.parts_are b a.leads))

@@ -2,8 +2,10 @@
 pub mod Positions
 pub mod Answers
 pub mod Sound
+pub mod Prefix
+pub mod Ranges
+pub mod Suppliers
 pub mod Call
 pub mod Accept
-pub mod Prefix
+pub mod BeforeSuppliers
 pub mod Counting
-pub mod Ranges

@@ -2,14 +2,14 @@
 
 #![tactic(auto)]
 
-ghost use Rattle.std.specs.Prelude.{◌≡◌, ◌≤◌, nat_abs, length};
+ghost use Rattle.std.specs.Prelude.{◌≡◌, ◌≤◌, ◌<◌, nat_abs, length};
 ghost use Rattle.forms.specs.Table.{tableNumbers};
 ghost use Rattle.register.specs.Valid.{Within, Valid as RegisterValid};
 ghost use Rattle.scheme.specs.Valid.{Valid as SchemeValid};
 ghost use Rattle.certificate.specs.Limits.{maxTarget};
 ghost use Rattle.certificate.specs.Certificate.{Certificate};
 ghost use Rattle.bound.specs.Bound.{bound as boundIn};
-ghost use Rattle.job.specs.Tally.{raised as oneMore, withAccepted, withRefused};
+ghost use Rattle.job.specs.Tally.{suppliers, raised as oneMore, withAccepted, withRefused, fresh as freshTally, withPair};
 ghost use Rattle.job.specs.Outcome.{outcome, tableAfter, tableFromCertificate};
 ghost use Rattle.job.specs.Rest.{fromScheme, fromCertificate, fromPlan, tableFromScheme};
 ghost use Rattle.job.specs.Answer.{refusedRead, acceptedRead, jobRead, refusedAnswer, jobAnswer, jobTable};
@@ -20,12 +20,19 @@ use plan::{cost_of, read_plan};
 use register::{Register, read_register};
 use scheme::{Scheme, read_scheme};
 
-// Accepted and refused jobs so far.
+// How many jobs of one supplier were accepted and refused so far.
+#[repr(C)]
+#[derive(Clone, Copy)]
+pub struct Counters {
+    pub accepted: u32,
+    pub refused: u32,
+}
+
+// A pair of counters for each supplier.
 #[repr(C)]
 #[derive(Clone, Copy)]
 pub struct Tally {
-    pub accepted: u32,
-    pub refused: u32,
+    pub pairs: [Counters; Tally::SUPPLIERS],
 }
 
 // What reading a whole job leads to: a refusal's number, part and position, or zeros, the register, the plan, the bound, the
@@ -55,35 +62,62 @@ pub struct JobAnswer {
     pub tally: Tally,
 }
 
-impl Tally {
+impl Counters {
     // Where a count stays.
     pub const MAX_COUNT: u32 = 4_294_967_295;
 
     fn raised(count: u32) -> u32
         ensures { result ≡ oneMore count }
     {
-        if count < Tally::MAX_COUNT {
+        if count < Counters::MAX_COUNT {
             return count + 1;
         }
         count
     }
 
-    fn with_accepted(self) -> Tally
+    fn with_accepted(self) -> Counters
         ensures { result ≡ withAccepted self }
     {
-        Tally {
-            accepted: Tally::raised(self.accepted),
+        Counters {
+            accepted: Counters::raised(self.accepted),
             refused: self.refused,
         }
     }
 
-    fn with_refused(self) -> Tally
+    fn with_refused(self) -> Counters
         ensures { result ≡ withRefused self }
     {
-        Tally {
+        Counters {
             accepted: self.accepted,
-            refused: Tally::raised(self.refused),
+            refused: Counters::raised(self.refused),
         }
+    }
+}
+
+impl Tally {
+    // How many suppliers there are. Their numbers are 0 to 15.
+    pub const SUPPLIERS: usize = 16;
+
+    pub fn fresh() -> Tally
+        ensures { result ≡ freshTally }
+    {
+        let none = Counters {
+            accepted: 0,
+            refused: 0,
+        };
+        Tally {
+            pairs: [none; Tally::SUPPLIERS],
+        }
+    }
+
+    // The same tally with another pair for a supplier.
+    fn with_pair(self, supplier: usize, pair: Counters) -> Tally
+        requires { supplier < suppliers }
+        ensures { result ≡ withPair supplier pair self }
+    {
+        let mut next = self;
+        next.pairs[supplier] = pair;
+        next
     }
 }
 
@@ -127,7 +161,6 @@ impl JobAnswer {
     fn refused(number: u8, part: u8, position: usize, tally: Tally) -> JobAnswer
         ensures { result ≡ refusedAnswer number part position tally }
     {
-        let next = tally.with_refused();
         JobAnswer {
             number: number,
             part: part,
@@ -135,7 +168,7 @@ impl JobAnswer {
             bound: 0,
             cost: 0,
             gap: 0,
-            tally: next,
+            tally: tally,
         }
     }
 }
@@ -216,21 +249,32 @@ pub fn read_job(job: &[u8], table: &mut [i64]) -> JobRead
     from_scheme(job, position, part.register, table)
 }
 
-// A whole job, and the tally with it counted.
+// A whole job, and the tally with it counted for its supplier.
 #[unsafe(no_mangle)]
-pub extern "C" fn feedcheck_job(job: &[u8], table: &mut [i64], tally: Tally) -> JobAnswer
-    ensures value { result ≡ jobAnswer job.now table.old tally }
-    ensures table_after { table.new ≡ jobTable job.now table.old }
+pub extern "C" fn feedcheck_job(
+    job: &[u8],
+    table: &mut [i64],
+    supplier: u8,
+    tally: Tally,
+) -> JobAnswer
+    ensures value { result ≡ jobAnswer job.now table.old supplier tally }
+    ensures table_after { table.new ≡ jobTable job.now table.old supplier }
 {
+    let index = supplier as usize;
+    if index >= Tally::SUPPLIERS {
+        return JobAnswer::refused(17, 0, 0, tally);
+    }
+    let pair = tally.pairs[index];
+    let refused = tally.with_pair(index, pair.with_refused());
     if table.len() < WorkingTable::NUMBERS {
-        return JobAnswer::refused(11, 0, 0, tally);
+        return JobAnswer::refused(11, 0, 0, refused);
     }
     let read = read_job(job, table);
     let number = read.number;
     if number != 0 {
-        return JobAnswer::refused(number, read.part, read.position, tally);
+        return JobAnswer::refused(number, read.part, read.position, refused);
     }
-    let next = tally.with_accepted();
+    let accepted = tally.with_pair(index, pair.with_accepted());
     JobAnswer {
         number: 0,
         part: 0,
@@ -238,6 +282,6 @@ pub extern "C" fn feedcheck_job(job: &[u8], table: &mut [i64], tally: Tally) -> 
         bound: read.bound,
         cost: read.cost,
         gap: read.gap,
-        tally: next,
+        tally: accepted,
     }
 }

@@ -9,7 +9,6 @@ use lib.Dec.{ltb}
 use lib.IntN.{ℤ}
 use lib.Pow.{pow_pos}
 use lib.ListN.{length, drop}
-use borrow.Author.Tests.{le-ltb}
 use Rattle.integers.proofs.Lists.{flag}
 use Rattle.wire.specs.Number.{Bytes}
 use Rattle.wire.specs.Part.{accepted}
@@ -43,9 +42,11 @@ use Rattle.bound.proofs.Accept.{commands-accepted, whole-accepted, whole-valid, 
 use Rattle.bound.proofs.Answers.{afterCertificate, parts-accepted, checked}
 use Rattle.job.specs.declared.Tally.{Tally}
 use Rattle.job.specs.Outcome.{Parts, tableAfter}
-use Rattle.job.specs.Answer.{jobAnswer, jobTable}
+use Rattle.job.specs.Tally.{suppliers}
+use Rattle.job.specs.Answer.{jobAnswer}
 use Rattle.job.specs.Valid.{Valid, Encodes}
 use Rattle.job.proofs.Accept as JA
+use Rattle.job.proofs.Suppliers as JS
 use Rattle.search.specs.Walk.{Best, isLeft, start, visited, walk}
 use Rattle.search.specs.Sum.{sum}
 use Rattle.search.specs.Answer.{search}
@@ -142,14 +143,14 @@ of-check = record {
 
 -- ---- a job, and the table
 
-job-all : (job : List ℕ) (lent : List ℤ) (tally : Tally) (b z : ℤ) → tableNumbers ≤ length lent → OfJob job b z → jobAnswer job lent tally ≡ jobAccepted b z tally
-job-all job lent tally b z l p =
-    JA.answer-accepted job lent tally p.parts l p.conditions p.bytes ∙ ap₂ (λ b z. jobAccepted b z tally) (sym p.bound-is) (sym p.cost-is)
+job-all : (job : List ℕ) (lent : List ℤ) (supplier : ℕ) (tally : Tally) (b z : ℤ) → supplier < suppliers → tableNumbers ≤ length lent → OfJob job b z → jobAnswer job lent supplier tally ≡ jobAccepted b z supplier tally
+job-all job lent supplier tally b z k l p =
+    JA.answer-accepted job lent supplier tally p.parts k l p.conditions p.bytes ∙ ap₂ (λ b z. jobAccepted b z supplier tally) (sym p.bound-is) (sym p.cost-is)
 
 -- the parts are read one after the other, and of the third only its commands
-job-table : (job : List ℕ) (lent : List ℤ) (p : Parts) → tableNumbers ≤ length lent → Valid p → Encodes p job → jobTable job lent ≡ withR p.register p.scheme p.certificate lent
-unfolding jobTable tableAfter
-job-table job lent p l v k =
+job-table : (job : List ℕ) (lent : List ℤ) (p : Parts) → Valid p → Encodes p job → tableAfter job lent ≡ withR p.register p.scheme p.certificate lent
+unfolding tableAfter
+job-table job lent p v k =
     let reg = p.register in
     let sch = p.scheme in
     let one = k.first in
@@ -161,20 +162,21 @@ job-table job lent p l v k =
     let second = SA.scheme-accepted reg v.register sch two (k.third ++ four) v.scheme k.scheme in
     let third = encoding-front reg v.register sch v.scheme (coefficient reg) p.certificate k.third four v.certificate k.certificate in
     let (commands, _) = commands-accepted reg sch (coefficient reg) (k.third ++ four) _ _ third in
-    rw (le-ltb (length lent) tableNumbers l, first, behind-1, second, behind-2, commands)
+    rw (first, behind-1, second, behind-2, commands)
 
-job_only : (job : List ℕ) (lent : List ℤ) (tally : Tally) (b z : ℤ) → Bytes job → jobAnswer job lent tally ≡ jobAccepted b z tally → OfJob job b z
-job_only job lent tally b z bytes e =
-    let (p, (a, (v, k))) = JA.accepted-answer job bytes lent tally (ap (λ a. a.number) e) in
+job_only : (job : List ℕ) (lent : List ℤ) (supplier : ℕ) (tally : Tally) (b z : ℤ) → Bytes job → jobAnswer job lent supplier tally ≡ jobAccepted b z supplier tally → OfJob job b z
+job_only job lent supplier tally b z bytes e =
+    let (p, (a, (v, k))) = JA.accepted-answer job bytes lent supplier tally (ap (λ a. a.number) e) in
     record { parts = p; conditions = v; bytes = k; bound-is = ap (λ a. a.bound) (sym e ∙ a); cost-is = ap (λ a. a.cost) (sym e ∙ a) }
 
 of-job : JobAcceptance jobCall
 of-job = record {
   all = job-all;
-  table-back = λ job lent tally b z l p. job-table job lent p.parts l p.conditions p.bytes;
+  table-back = λ job lent supplier tally b z k l p. (JS.table-enough job lent supplier tally k l).1 ∙ job-table job lent p.parts p.conditions p.bytes;
   only = job_only;
-  number-0 = λ job lent tally z. rw (JA.answered job lent tally z).answers;
-  short = λ job lent tally l z. absurd (omega (arith, (JA.answered job lent tally z).long));
+  number-0 = λ job lent supplier tally z. rw (JA.answered job lent supplier tally z).answers;
+  short = λ job lent supplier tally l z. absurd (omega (arith, (JA.answered job lent supplier tally z).long));
+  unknown-supplier = λ job lent supplier tally l z. absurd (omega (arith, (JA.answered job lent supplier tally z).there));
 }
 
 -- ---- the penalty call

@@ -1,6 +1,7 @@
 -- The day's length, of our calls.
 use Prim.Native.Nat.{ℕ, ◌+◌, ◌^◌, ◌<◌, ◌≤◌}
 use native.Mathlib.Omega.{arith}
+use native.Mathlib.Decide.{dec_lt}
 use mathlib.Core.Path.{◌≡◌, refl, sym, ◌∙◌, ap, subst}
 use mathlib.Core.Logic.{inl, inr}
 use mathlib.Core.Bool.{Bool, true, false, cond}
@@ -38,7 +39,10 @@ use Rattle.plan.specs.Format.{planInJob}
 use Rattle.job.specs.declared.Tally.{Tally}
 use Rattle.job.specs.Outcome.{Parts, ofRegister, withScheme, withCertificate, withPlan, JobPart, partThree, partFour, in_turn, ended, outcome}
 use Rattle.job.specs.Rest.{rest, fromScheme}
-use Rattle.job.specs.Answer.{refusedAnswer, afterJob, jobAnswer}
+use Rattle.job.specs.declared.JobAnswer.{JobAnswer}
+use Rattle.job.specs.Tally.{suppliers}
+use Rattle.job.specs.Answer.{afterJob, jobAnswer}
+use Rattle.job.proofs.Suppliers.{unknown, table-short, table-enough}
 use Rattle.soundness.specs.Calls.{registerCall, costCall, jobCall, listingCall}
 use Rattle.soundness.specs.Jobs.{Accepted}
 use Rattle.soundness.specs.DayLengths.{OfDay, KeepsLength, FeedsOfDay, JobOfDay, UsualDay, ValidBeforeLengths, bytesBeforeLengths, LengthsKept, AsBeforeLengths}
@@ -191,18 +195,18 @@ SaidBy s reg = reg.day_length ≡ lengthIn s
 first-said : (s : List ℕ) → First s (SaidBy s) (outcome s)
 first-said s = first s (SaidBy s) (λ p end. length-said s)
 
-job-of-day : (job : List ℕ) (table : List ℤ) (tally : Tally) → Accepted jobCall listingCall job table tally → JobOfDay jobCall listingCall job table tally
-job-of-day job table tally z =
-    let j = accepted-job job table tally z in
+job-of-day : (job : List ℕ) (table : List ℤ) (supplier : ℕ) (tally : Tally) → Accepted jobCall listingCall job table supplier tally → JobOfDay jobCall listingCall job table supplier tally
+job-of-day job table supplier tally z =
+    let j = accepted-job job table supplier tally z in
     let reg = j.parts.register in
     let v = j.conditions.register in
-    let said : reg.day_length ≡ lengthIn job = rw (accepted-leads job table tally z) at (first-said job) in
+    let said : reg.day_length ≡ lengthIn job = rw (accepted-leads job table supplier tally z) at (first-said job) in
     let feeds = feeds-of-day reg v j.parts.plan in
     record {
       accepted = j;
       keeps = keeps-length reg v job said;
       feeds = feeds;
-      lines = λ lent buffer h t m l. subst (λ n. m < n) said (feeds t m ((fed-lines job table tally j lent buffer h t m).0 l));
+      lines = λ lent buffer h t m l. subst (λ n. m < n) said (feeds t m ((fed-lines job table supplier tally j lent buffer h t m).0 l));
     }
 
 -- ---- what is refused
@@ -213,17 +217,25 @@ register-refused s z =
     let e = opened-refused s (registerCall s) refl (λ n. omega arith) in
     out_of_range s (registerCall s).position (refused-itself s (registerInJob s) (λ n. omega arith) (e ∙ ap (λ n. refused n (registerCall s).position) z))
 
-job-refused : (job : List ℕ) (table : List ℤ) (tally : Tally) → (jobAnswer job table tally).number ≡ 4 → (jobAnswer job table tally).part ≡ 1 → OutOfRange job (jobAnswer job table tally).position
-unfolding jobAnswer
-job-refused job table tally = by (ltb (length table) tableNumbers)
+job-refused : (job : List ℕ) (table : List ℤ) (supplier : ℕ) (tally : Tally) → (jobAnswer job table supplier tally).number ≡ 4 → (jobAnswer job table supplier tally).part ≡ 1 → OutOfRange job (jobAnswer job table supplier tally).position
+job-refused job table supplier tally z one = by (dec_lt supplier suppliers) (dec_lt (length table) tableNumbers)
   where
-    go : (x : Outcome Parts) → outcome job ≡ x → (afterJob x tally).number ≡ 4 → (afterJob x tally).part ≡ 1 → OutOfRange job (afterJob x tally).position
-    go (refuses n part at) e z one = let f : First job (SaidBy job) (refuses n part at) = rw e at (first-said job) in out_of_range job at (f one ∙ ap (λ n. refused n at) z)
-    go (accepts p) e z one = absurd (omega arith)
+    answer : JobAnswer
+    answer = jobAnswer job table supplier tally
 
-    by : (t : Bool) → let a = cond t (refusedAnswer 11 0 0 tally) (afterJob (outcome job) tally) in a.number ≡ 4 → a.part ≡ 1 → OutOfRange job a.position
-    by true z one = absurd (omega arith)
-    by false z one = go (outcome job) refl z one
+    other : {a : JobAnswer} → answer ≡ a → (a.number ≡ 4 → ⊥) → OutOfRange job answer.position
+    other e n = absurd (n (ap (λ (a : JobAnswer). a.number) (sym e) ∙ z))
+
+    go : (x : Outcome Parts) → outcome job ≡ x → answer ≡ afterJob x supplier tally → OutOfRange job answer.position
+    go (refuses n part at) e a =
+        let f : First job (SaidBy job) (refuses n part at) = rw e at (first-said job) in
+        rw a (out_of_range job at (f (rw a at one) ∙ ap (λ n. refused n at) (rw a at z)))
+    go (accepts p) e a = other a (λ z. absurd (omega arith))
+
+    by : Dec (supplier < suppliers) → Dec (length table < tableNumbers) → OutOfRange job answer.position
+    by (no n) m = other (unknown job table supplier tally (omega arith)).0 (λ z. absurd (omega arith))
+    by (yes k) (yes l) = other (table-short job table supplier tally k l).0 (λ z. absurd (omega arith))
+    by (yes k) (no n) = go (outcome job) refl (table-enough job table supplier tally k (omega arith)).0
 
 -- ---- each minute of each day
 

@@ -110,7 +110,7 @@ module _ (r : Register) (v : Valid r) (t plan k : ℕ) (counts : Counts r k t) w
 
 -- ---- of an accepted job
 
-module _ (job : List ℕ) (table : List ℤ) (tally : Tally) (j : AcceptedJob jobCall listingCall job table tally) (k t : ℕ) (counts : Counts j.parts.register k t)
+module _ (job : List ℕ) (table : List ℤ) (supplier : ℕ) (tally : Tally) (j : AcceptedJob jobCall listingCall job table supplier tally) (k t : ℕ) (counts : Counts j.parts.register k t)
     (lent : List ℤ) (buffer : List ℕ) (h : Listed jobCall listingCall job lent buffer) where
   abbrev reg : Register
   reg = j.parts.register
@@ -131,7 +131,7 @@ module _ (job : List ℕ) (table : List ℤ) (tally : Tally) (j : AcceptedJob jo
           many = refl;
           rising = all.rising;
           lines = λ m.
-              let (to, from) = fed-lines job table tally j lent buffer h t m in (
+              let (to, from) = fed-lines job table supplier tally j lent buffer h t m in (
                 (λ l.
                     let f = to l in
                     let c : (isMember f.choice plan && eqb (tank reg f.choice) t) ≡ true = rw (f.fed, eq-eqb (tank reg f.choice) t f.tank-is) in
@@ -176,13 +176,13 @@ module _ (s : List ℕ) where
   none-read : (SaysRow s → ⊥) → (p : Progress Register) (end : ℕ) → registerInJob s ≡ accepted p end → p.parsed.rows ≡ 0
   none-read none p end e = let k : Kept (accepted p end) = rw (sym (as-before-rows-in-job s none) ∙ e) at none-before in k
 
-pub job-fits : (job : List ℕ) (table : List ℤ) (tally : Tally) → Accepted jobCall listingCall job table tally → JobFits jobCall listingCall job table tally
-job-fits job table tally z =
-    let j = accepted-job job table tally z in
+pub job-fits : (job : List ℕ) (table : List ℤ) (supplier : ℕ) (tally : Tally) → Accepted jobCall listingCall job table supplier tally → JobFits jobCall listingCall job table supplier tally
+job-fits job table supplier tally z =
+    let j = accepted-job job table supplier tally z in
     let NoRow : Register → Type 0 = λ reg. reg.rows ≡ 0 in
     record {
       accepted = j;
       fits = j.fits;
-      none-said = λ none. rw (accepted-leads job table tally z) at (first job NoRow (none-read job none));
-      exactly = exactly job table tally j;
+      none-said = λ none. rw (accepted-leads job table supplier tally z) at (first job NoRow (none-read job none));
+      exactly = exactly job table supplier tally j;
     }

@@ -1,12 +1,12 @@
 -- What our job call and our listing call say of a job.
-use Prim.Native.Nat.{ℕ, ◌≤◌}
+use Prim.Native.Nat.{ℕ, ◌≤◌, ◌<◌}
 use native.Mathlib.Omega.{arith}
 use mathlib.Core.Path.{◌≡◌, refl, sym, ◌∙◌, ap}
 use mathlib.Core.List.{List, [], ◌∷◌, ◌++◌}
 use lib.IntN.{ℤ, pos, ◌-ℤ◌}
 use lib.ListN.{length}
 use lib.Signed.{◌≤ℤ◌}
-use borrow.Author.Tests.{le-ltb, eq-eqb, ne_eqb}
+use borrow.Author.Tests.{eq-eqb, ne_eqb}
 use Rattle.integers.specs.Lists.{All}
 use Rattle.integers.proofs.Diff.{diff₂, diffs}
 use Rattle.forms.specs.Table.{tableNumbers}
@@ -18,7 +18,9 @@ use Rattle.job.specs.declared.Tally.{Tally}
 use Rattle.wire.specs.Outcome.{Outcome, refuses, accepts}
 use Rattle.wire.proofs.Outcome.{accepts-one}
 use Rattle.job.specs.Outcome.{Parts, outcome, boundOf, costOf}
+use Rattle.job.specs.Tally.{suppliers}
 use Rattle.job.specs.Answer.{afterJob, jobAnswer}
+use Rattle.job.proofs.Suppliers.{table-enough}
 use Rattle.job.proofs.Sound.{accepted-valid}
 use Rattle.job.proofs.Accept.{accepted-iff}
 use Rattle.job.proofs.Accept as Job
@@ -41,10 +43,10 @@ before-first byte (x ∷ xs) ys h = rw (ne_eqb x byte h.0, before-first byte xs 
 not_negative : (b c : ℤ) → b ≤ℤ c → pos 0 ≤ℤ (c -ℤ b)
 not_negative = diff₂ _ λ p q r s. simp diffs (omega arith)
 
-pub accepted-job : (job : List ℕ) (table : List ℤ) (tally : Tally) → (jobAnswer job table tally).number ≡ 0 → AcceptedJob jobCall listingCall job table tally
+pub accepted-job : (job : List ℕ) (table : List ℤ) (supplier : ℕ) (tally : Tally) → (jobAnswer job table supplier tally).number ≡ 0 → AcceptedJob jobCall listingCall job table supplier tally
 unfolding listing acceptedLines
-accepted-job job table tally z =
-    let r = Job.answered job table tally z in
+accepted-job job table supplier tally z =
+    let r = Job.answered job table supplier tally z in
     let p = r.parts_are in
     let a = r.answers in
     let e = r.leads in
@@ -65,13 +67,13 @@ accepted-job job table tally z =
     }
 
 -- its parts are those that reading it leads to
-pub accepted-leads : (job : List ℕ) (table : List ℤ) (tally : Tally) (z : (jobAnswer job table tally).number ≡ 0) → outcome job ≡ accepts (accepted-job job table tally z).parts
+pub accepted-leads : (job : List ℕ) (table : List ℤ) (supplier : ℕ) (tally : Tally) (z : (jobAnswer job table supplier tally).number ≡ 0) → outcome job ≡ accepts (accepted-job job table supplier tally z).parts
 unfolding accepted-job
-accepted-leads job table tally z = (Job.answered job table tally z).leads
+accepted-leads job table supplier tally z = (Job.answered job table supplier tally z).leads
 
 -- ---- two accepted jobs
 
-module _ (job : List ℕ) (table : List ℤ) (tally : Tally) (j : AcceptedJob jobCall listingCall job table tally)
+module _ (job : List ℕ) (table : List ℤ) (supplier : ℕ) (tally : Tally) (j : AcceptedJob jobCall listingCall job table supplier tally)
     (lent : List ℤ) (buffer : List ℕ) (h : Listed jobCall listingCall job lent buffer) where
   plan-shown : shownPlan jobCall listingCall job lent buffer ≡ planLines j.parts.register j.parts.plan
   unfolding line
@@ -82,28 +84,28 @@ module _ (job : List ℕ) (table : List ℤ) (tally : Tally) (j : AcceptedJob jo
 
 -- ---- a refused job
 
-refusal-shown : (job : List ℕ) (table : List ℤ) (tally : Tally) → tableNumbers ≤ length table → ((jobAnswer job table tally).number ≡ 0 → ⊥) →
-    listing (outcome job) ≡ refusalLine (jobAnswer job table tally).number (jobAnswer job table tally).position
-unfolding jobAnswer listing
-refusal-shown job table tally l d = rw (le-ltb (length table) tableNumbers l) (go (outcome job) (rw (le-ltb (length table) tableNumbers l) at d))
+refusal-shown : (job : List ℕ) (table : List ℤ) (supplier : ℕ) (tally : Tally) → supplier < suppliers → tableNumbers ≤ length table → ((jobAnswer job table supplier tally).number ≡ 0 → ⊥) →
+    listing (outcome job) ≡ refusalLine (jobAnswer job table supplier tally).number (jobAnswer job table supplier tally).position
+unfolding listing
+refusal-shown job table supplier tally k l d = let e = (table-enough job table supplier tally k l).0 in rw e (go (outcome job) (rw e at d))
   where
-    go : (x : Outcome Parts) → ((afterJob x tally).number ≡ 0 → ⊥) → listing x ≡ refusalLine (afterJob x tally).number (afterJob x tally).position
+    go : (x : Outcome Parts) → ((afterJob x supplier tally).number ≡ 0 → ⊥) → listing x ≡ refusalLine (afterJob x supplier tally).number (afterJob x supplier tally).position
     go (refuses number part at) d = refl
     go (accepts p) d = absurd (d refl)
 
 pub jobs-sound : JobsSound jobCall listingCall
 jobs-sound = record {
   accepted = accepted-job;
-  same_lines = λ job job' table table' tally tally' j j' lent lent' buffer buffer' h h'.
+  same_lines = λ job job' table table' supplier supplier' tally tally' j j' lent lent' buffer buffer' h h'.
       let p = j.parts in
       let p' = j'.parts in
       let v = j.conditions.register in
       let v' = j'.conditions.register in
-      let e = plan-shown job table tally j lent buffer h in
-      let e' = plan-shown job' table' tally' j' lent' buffer' h' in (
+      let e = plan-shown job table supplier tally j lent buffer h in
+      let e' = plan-shown job' table' supplier' tally' j' lent' buffer' h' in (
         (λ q. same-plan p.register p'.register v v' p.plan p'.plan (sym e ∙ q ∙ e')),
         (λ q. e ∙ same_lines p.register p'.register v v' p.plan p'.plan q ∙ sym e'),
       );
-  refused = λ job table tally l d lent buffer h. (handed-back job lent buffer h).front ∙ refusal-shown job table tally l d;
+  refused = λ job table supplier tally k l d lent buffer h. (handed-back job lent buffer h).front ∙ refusal-shown job table supplier tally k l d;
   room = λ job lent buffer l m. ap (λ a. a.number) (enough job lent buffer l m (listing-short job)).0;
 }

@@ -15,3 +15,4 @@ pub mod Misfit
 pub mod RowAbsent
 pub mod Feedings
 pub mod Rows
+pub mod Suppliers

@@ -2,6 +2,7 @@
 use Prim.Native.Nat.{ℕ, ◌+◌, ◌-◌, ◌^◌, ◌≤◌, ◌<◌}
 use native.Mathlib.Nat.{zero-add, add-zero}
 use native.Mathlib.Omega.{arith}
+use native.Mathlib.Decide.{dec_lt}
 use mathlib.Core.Path.{◌≡◌, refl, sym, ◌∙◌, ap, subst}
 use mathlib.Core.Logic.{◌⊎◌, inl, inr}
 use mathlib.Core.Bool.{true, true≢false}
@@ -49,9 +50,11 @@ use Rattle.plan.proofs.Fits.{register-fits}
 use Rattle.plan.proofs.Lowest.{plan-refused-by-itself}
 use Rattle.job.specs.declared.Tally.{Tally}
 use Rattle.job.specs.declared.JobAnswer.{JobAnswer}
+use Rattle.job.specs.Tally.{suppliers}
 use Rattle.job.specs.Outcome.{outcome}
 use Rattle.job.specs.Rest.{fromPlan, fromCertificate, fromScheme}
 use Rattle.job.specs.Answer.{jobAnswer}
+use Rattle.job.proofs.Suppliers.{unknown, table-enough}
 use Rattle.soundness.specs.Calls.{costCall, jobCall}
 use Rattle.soundness.specs.Parts.{Part1}
 use Rattle.soundness.specs.Refusals.{InRegister, InPlan, FromRegister, FromScheme, FromCertificate, FromPlan}
@@ -139,9 +142,8 @@ module _ (job : List ℕ) (position : ℕ) (m : MisfitJob job position) where
       let long : position ≡ length m.register + length m.scheme + length m.certificate = m.position-is ∙ length-append (m.register ++ m.scheme) m.certificate ∙ ap (λ n. n + length m.certificate) (length-append m.register m.scheme) in
       rw q (to-scheme (length m.register) d) ∙ ap (refuses 15 4) (sym long)
 
-pub misfit-in-job : (job : List ℕ) (table : List ℤ) (tally : Tally) (position : ℕ) → tableNumbers ≤ length table → MisfitJob job position → jobAnswer job table tally ≡ jobMisfit position tally
-unfolding jobAnswer
-misfit-in-job job table tally position l m = rw (le-ltb (length table) tableNumbers l, to-job job position m)
+pub misfit-in-job : (job : List ℕ) (table : List ℤ) (supplier : ℕ) (tally : Tally) (position : ℕ) → supplier < suppliers → tableNumbers ≤ length table → MisfitJob job position → jobAnswer job table supplier tally ≡ jobMisfit position supplier tally
+misfit-in-job job table supplier tally position k l m = (table-enough job table supplier tally k l).0 ∙ rw (to-job job position m)
 
 -- ---- what is refused 15
 
@@ -304,14 +306,21 @@ only-misfit t s b b' e = go (cost-refusals t s b b' (λ z. absurd (omega arith))
         let (l, d) = there reg s b' h in
         record { reg = reg; part-1 = f.before.part-1; fed = natAt 4 s 1; inside = l; misfit = d; rest = drop 4 (drop 1 s); bytes = bytes-are reg s b' h }
 
-pub only-misfit-in-job : (job : List ℕ) (table : List ℤ) (tally : Tally) → Bytes job → tableNumbers ≤ length table → (jobAnswer job table tally).number ≡ 15 → MisfitJob job (jobAnswer job table tally).position
-only-misfit-in-job s table tally b l e = go (job-refusals.refused s b table l tally (λ z. absurd (omega arith))).4
+pub only-misfit-in-job : (job : List ℕ) (table : List ℤ) (supplier : ℕ) (tally : Tally) → Bytes job → tableNumbers ≤ length table → (jobAnswer job table supplier tally).number ≡ 15 → MisfitJob job (jobAnswer job table supplier tally).position
+only-misfit-in-job s table supplier tally b l e = go (job-refusals.refused s b table l supplier known tally (λ z. absurd (omega arith))).4
   where
     a : JobAnswer
-    a = jobAnswer s table tally
+    a = jobAnswer s table supplier tally
 
     after : List ℤ
-    after = (jobCall s table tally).1
+    after = (jobCall s table supplier tally).1
+
+    known : supplier < suppliers
+    known = by (dec_lt supplier suppliers)
+      where
+        by : Dec (supplier < suppliers) → supplier < suppliers
+        by (yes k) = k
+        by (no n) = absurd (omega (arith, e, ap (λ (a : JobAnswer). a.number) (unknown s table supplier tally (omega arith)).0))
 
     front-bytes : (front rest : List ℕ) → s ≡ front ++ rest → Bytes rest
     front-bytes front rest q = subst Bytes (ap (drop (length front)) q ∙ drop_at front rest (length front) refl) (bytes_drop (length front) s b)

@@ -65,10 +65,11 @@ use Rattle.plan.proofs.Fits.{register-fits}
 use Rattle.plan.proofs.Lowest.{plan-refused, plan-refused-by-itself}
 use Rattle.plain.specs.Answer.{ownBytes, plainAnswer, plainBuffer}
 use Rattle.job.specs.declared.Tally.{Tally}
-use Rattle.job.specs.Tally.{withRefused}
+use Rattle.job.specs.Tally.{withRefused, moved}
 use Rattle.job.specs.Outcome.{Parts, ofRegister, withScheme, withCertificate, withPlan, JobPart, partTwo, partThree, partFour, in_turn, ended, outcome, tableFromCertificate, tableBy, tableAfter}
 use Rattle.job.specs.Rest.{rest, fromPlan, fromCertificate, fromScheme, tableFromScheme}
-use Rattle.job.specs.Answer.{afterJob, jobAnswer, jobTable}
+use Rattle.job.specs.Answer.{afterJob}
+use Rattle.job.proofs.Suppliers.{unknown, table-short, table-enough}
 use Rattle.listing.specs.Listing.{listing}
 use Rattle.listing.specs.Answer.{listingAnswer, listingTable, listingBuffer}
 use Rattle.search.specs.Walk.{Best}
@@ -382,19 +383,19 @@ module _ (s : List ℕ) (b : Bytes s) (n m k : ℕ) (lent table : List ℤ) wher
       e
 
 pub job-refusals : JobRefusals jobCall
-unfolding jobAnswer jobTable
 job-refusals = record {
-  short = λ s lent tally l. rw (lt-ltb (length lent) tableNumbers l) refl;
-  refused = λ s b lent l tally. rw (le-ltb (length lent) tableNumbers l) (go s b lent tally (outcome s) refl);
+  unknown-supplier = λ s lent supplier tally k. let (a, t) = unknown s lent supplier tally k in rw (a, t);
+  short = λ s lent supplier tally k l. let (a, t) = table-short s lent supplier tally k l in rw (a, t);
+  refused = λ s b lent l supplier k tally. let (a, t) = table-enough s lent supplier tally k l in rw (a, t) (go s b lent supplier tally (outcome s) refl);
 }
   where
-    go : (s : List ℕ) → Bytes s → (lent : List ℤ) (tally : Tally) (x : Outcome Parts) → outcome s ≡ x →
-        let a = afterJob x tally in
+    go : (s : List ℕ) → Bytes s → (lent : List ℤ) (supplier : ℕ) (tally : Tally) (x : Outcome Parts) → outcome s ≡ x →
+        let a = afterJob x supplier tally in
         let table = tableAfter s lent in
         (a.number ≡ 0 → ⊥) →
-        (a.bound ≡ pos 0) × (a.cost ≡ pos 0) × (a.gap ≡ pos 0) × (a.tally ≡ withRefused tally) × (FromRegister a.number a.part a.position s lent table ⊎ (FromScheme a.number a.part a.position s lent table ⊎ (FromCertificate a.number a.part a.position s lent table ⊎ FromPlan a.number a.part a.position s lent table)))
-    go s b lent tally (refuses n m k) e h = (refl, refl, refl, refl, from-register s b n m k lent (tableAfter s lent) refl e)
-    go s b lent tally (accepts p) e h = absurd (h refl)
+        (a.bound ≡ pos 0) × (a.cost ≡ pos 0) × (a.gap ≡ pos 0) × (a.tally ≡ moved withRefused supplier tally) × (FromRegister a.number a.part a.position s lent table ⊎ (FromScheme a.number a.part a.position s lent table ⊎ (FromCertificate a.number a.part a.position s lent table ⊎ FromPlan a.number a.part a.position s lent table)))
+    go s b lent supplier tally (refuses n m k) e h = (refl, refl, refl, refl, from-register s b n m k lent (tableAfter s lent) refl e)
+    go s b lent supplier tally (accepts p) e h = absurd (h refl)
 
 -- ---- every call
 

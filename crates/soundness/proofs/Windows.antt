@@ -83,7 +83,7 @@ plan-keeps register plan b z =
 
 -- ---- the `F` lines of an accepted job
 
-module _ (job : List ℕ) (table : List ℤ) (tally : Tally) (j : AcceptedJob jobCall listingCall job table tally)
+module _ (job : List ℕ) (table : List ℤ) (supplier : ℕ) (tally : Tally) (j : AcceptedJob jobCall listingCall job table supplier tally)
     (lent : List ℤ) (buffer : List ℕ) (h : Listed jobCall listingCall job lent buffer) (t m : ℕ) where
   abbrev Fed : ℕ → ℕ → Type 0
   Fed = Feeding j.parts.register j.parts.plan
@@ -104,10 +104,10 @@ module _ (job : List ℕ) (table : List ℤ) (tally : Tally) (j : AcceptedJob jo
           let s = shown-fed j.parts.register j.parts.plan f.choice f.there f.fed _ in
           subst Shows (ap₂ fedLine f.tank-is f.minute-is) (subst (HasLine _) (sym (j.lines lent buffer h)) s)
 
-job-inside : (job : List ℕ) (table : List ℤ) (tally : Tally) → Accepted jobCall listingCall job table tally → JobInside jobCall listingCall job table tally
-job-inside job table tally z =
-    let j = accepted-job job table tally z in
-    record { accepted = j; keeps = keeps j.parts.register j.parts.plan j.conditions.register; lines = fed-lines job table tally j }
+job-inside : (job : List ℕ) (table : List ℤ) (supplier : ℕ) (tally : Tally) → Accepted jobCall listingCall job table supplier tally → JobInside jobCall listingCall job table supplier tally
+job-inside job table supplier tally z =
+    let j = accepted-job job table supplier tally z in
+    record { accepted = j; keeps = keeps j.parts.register j.parts.plan j.conditions.register; lines = fed-lines job table supplier tally j }
 
 -- ---- the same register with other windows
 

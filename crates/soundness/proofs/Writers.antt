@@ -36,7 +36,7 @@ use Rattle.plain.proofs.ReadBack.{plain-encodes}
 use Rattle.plain.proofs.Answers.{parts-accepted}
 use Rattle.plain.proofs.Call as P
 use Rattle.job.specs.Outcome.{outcome}
-use Rattle.job.specs.Answer.{jobTable}
+use Rattle.job.proofs.Suppliers.{known}
 use Rattle.listing.specs.Listing.{listing}
 use Rattle.listing.specs.Answer.{listingRoom, listingAnswer, listingTable, listingBuffer}
 use Rattle.listing.proofs.Outcome.{listing-short}
@@ -171,10 +171,10 @@ of_plain = record { writes = plain-writes; reads-back = plain-reads; checks = pl
 -- ---- the listing
 
 of-listing : ListingWrites listingCall jobCall
-unfolding listingAnswer listingBuffer listingTable jobTable
+unfolding listingAnswer listingBuffer listingTable
 of-listing = record {
   writes = λ job table l. writes_bytes _ (listing (outcome job)) listingRoom (λ lent. rw (le-ltb (length table) tableNumbers l) refl) (listing-short job);
-  table-back = λ job table lent tally. refl;
+  table-back = λ job table lent supplier tally k. sym (known job table supplier tally k).1;
 }
 
 pub writers : Writers buildCall schemeCall plainCall checkCall listingCall jobCall

@@ -20,7 +20,7 @@ use Rattle.job.specs.declared.Tally.{Tally}
 use Rattle.job.specs.declared.JobAnswer.{JobAnswer}
 use Rattle.job.specs.Outcome.{Parts}
 use Rattle.job.specs.Valid.{Valid, Encodes}
-use Rattle.job.specs.Tally.{withAccepted}
+use Rattle.job.specs.Tally.{suppliers, withAccepted, moved}
 use Rattle.search.specs.declared.SearchAnswer.{SearchAnswer}
 use Rattle.search.specs.Answer.{search}
 use Rattle.soundness.specs.Calls.{RegisterCall, SchemeCall, CostCall, PenaltyCall, CheckCall, JobCall, SearchCall}
@@ -84,9 +84,10 @@ costAccepted z = record { number = 0; part = 0; position = 0; cost = z }
 abbrev pub checkAccepted : ℤ → CheckAnswer
 checkAccepted b = record { number = 0; part = 0; position = 0; bound = b }
 
--- the gap is cost − bound, and the tally has one accepted job more
-abbrev pub jobAccepted : ℤ → ℤ → Tally → JobAnswer
-jobAccepted b z tally = record { number = 0; part = 0; position = 0; bound = b; cost = z; gap = z -ℤ b; tally = withAccepted tally }
+-- the gap is cost − bound, and the tally has one accepted job more of this supplier
+abbrev pub jobAccepted : ℤ → ℤ → ℕ → Tally → JobAnswer
+jobAccepted b z supplier tally =
+    record { number = 0; part = 0; position = 0; bound = b; cost = z; gap = z -ℤ b; tally = moved withAccepted supplier tally }
 
 abbrev pub searchAccepted : ℕ → ℤ → ℕ → SearchAnswer
 searchAccepted plan z visits = record { number = 0; part = 0; position = 0; plan = plan; cost = z; visits = visits }
@@ -108,7 +109,8 @@ pub record CostAcceptance (call : CostCall) : Type 0 where
   pub only : (register plan : List ℕ) (z : ℤ) → Bytes register → Bytes plan → call register plan ≡ costAccepted z → OfCost register plan z
   pub number-0 : (register plan : List ℕ) → (call register plan).number ≡ 0 → call register plan ≡ costAccepted (call register plan).cost
 
--- a table of 4,225 numbers is asked, and a shorter one is never accepted
+-- a table of 4,225 numbers is asked, and of a job the number of a supplier that there is; a shorter table is never accepted, nor is
+-- another number
 
 pub record CheckAcceptance (call : CheckCall) : Type 0 where
   pub all : (register scheme certificate : List ℕ) (table : List ℤ) (b : ℤ) → tableNumbers ≤ length table →
@@ -122,13 +124,16 @@ pub record CheckAcceptance (call : CheckCall) : Type 0 where
   pub short : (register scheme certificate : List ℕ) (table : List ℤ) → length table < tableNumbers → (call register scheme certificate table).0.number ≡ 0 → ⊥
 
 pub record JobAcceptance (call : JobCall) : Type 0 where
-  pub all : (job : List ℕ) (table : List ℤ) (tally : Tally) (b z : ℤ) → tableNumbers ≤ length table → OfJob job b z → (call job table tally).0 ≡ jobAccepted b z tally
-  pub table-back : (job : List ℕ) (table : List ℤ) (tally : Tally) (b z : ℤ) → tableNumbers ≤ length table →
-      (p : OfJob job b z) → (call job table tally).1 ≡ withR p.parts.register p.parts.scheme p.parts.certificate table
-  pub only : (job : List ℕ) (table : List ℤ) (tally : Tally) (b z : ℤ) → Bytes job → (call job table tally).0 ≡ jobAccepted b z tally → OfJob job b z
-  pub number-0 : (job : List ℕ) (table : List ℤ) (tally : Tally) → (call job table tally).0.number ≡ 0 →
-      (call job table tally).0 ≡ jobAccepted (call job table tally).0.bound (call job table tally).0.cost tally
-  pub short : (job : List ℕ) (table : List ℤ) (tally : Tally) → length table < tableNumbers → (call job table tally).0.number ≡ 0 → ⊥
+  pub all : (job : List ℕ) (table : List ℤ) (supplier : ℕ) (tally : Tally) (b z : ℤ) → supplier < suppliers → tableNumbers ≤ length table →
+      OfJob job b z → (call job table supplier tally).0 ≡ jobAccepted b z supplier tally
+  pub table-back : (job : List ℕ) (table : List ℤ) (supplier : ℕ) (tally : Tally) (b z : ℤ) → supplier < suppliers → tableNumbers ≤ length table →
+      (p : OfJob job b z) → (call job table supplier tally).1 ≡ withR p.parts.register p.parts.scheme p.parts.certificate table
+  pub only : (job : List ℕ) (table : List ℤ) (supplier : ℕ) (tally : Tally) (b z : ℤ) → Bytes job →
+      (call job table supplier tally).0 ≡ jobAccepted b z supplier tally → OfJob job b z
+  pub number-0 : (job : List ℕ) (table : List ℤ) (supplier : ℕ) (tally : Tally) → (call job table supplier tally).0.number ≡ 0 →
+      (call job table supplier tally).0 ≡ jobAccepted (call job table supplier tally).0.bound (call job table supplier tally).0.cost supplier tally
+  pub short : (job : List ℕ) (table : List ℤ) (supplier : ℕ) (tally : Tally) → length table < tableNumbers → (call job table supplier tally).0.number ≡ 0 → ⊥
+  pub unknown-supplier : (job : List ℕ) (table : List ℤ) (supplier : ℕ) (tally : Tally) → suppliers ≤ supplier → (call job table supplier tally).0.number ≡ 0 → ⊥
 
 -- the penalty form is made, in the table, of parts 1 and 2, and of nothing else
 pub record PenaltyAcceptance (call : PenaltyCall) : Type 0 where

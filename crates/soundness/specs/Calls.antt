@@ -49,9 +49,9 @@ PlainCall = List ℕ → List ℕ → List ℕ → WriterAnswer × List ℕ
 abbrev pub BuildCall : Type 0
 BuildCall = List ℕ → List ℕ → WriterAnswer × List ℕ
 
--- a job, the table and the tally
+-- a job, the table, the supplier's number and the tally
 abbrev pub JobCall : Type 0
-JobCall = List ℕ → List ℤ → Tally → JobAnswer × List ℤ
+JobCall = List ℕ → List ℤ → ℕ → Tally → JobAnswer × List ℤ
 
 -- a job, the table and the byte buffer
 abbrev pub ListingCall : Type 0
@@ -89,7 +89,7 @@ abbrev pub buildCall : BuildCall
 buildCall register lent = (buildAnswer register lent, buildBuffer register lent)
 
 abbrev pub jobCall : JobCall
-jobCall job lent tally = (jobAnswer job lent tally, jobTable job lent)
+jobCall job lent supplier tally = (jobAnswer job lent supplier tally, jobTable job lent supplier)
 
 abbrev pub listingCall : ListingCall
 listingCall job table buffer = (listingAnswer job table buffer, (listingTable job table, listingBuffer job table buffer))

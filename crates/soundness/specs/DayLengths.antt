@@ -42,8 +42,8 @@ abbrev pub FeedsOfDay : Register → (plan : ℕ) → Type 0
 FeedsOfDay reg plan = (t m : ℕ) → Feeding reg plan t m → m < reg.day_length
 
 -- of an accepted job
-pub record JobOfDay (jobCall : JobCall) (listingCall : ListingCall) (job : List ℕ) (table : List ℤ) (tally : Tally) : Type 0 where
-  pub accepted : AcceptedJob jobCall listingCall job table tally
+pub record JobOfDay (jobCall : JobCall) (listingCall : ListingCall) (job : List ℕ) (table : List ℤ) (supplier : ℕ) (tally : Tally) : Type 0 where
+  pub accepted : AcceptedJob jobCall listingCall job table supplier tally
   pub keeps : KeepsLength job accepted.parts.register
   pub feeds : FeedsOfDay accepted.parts.register accepted.parts.plan
   -- each `F` line that a farm reads has a minute of the day
@@ -101,15 +101,15 @@ pub record LengthsKept (registerCall : RegisterCall) (costCall : CostCall) (jobC
   pub of-plan : (register plan : List ℕ) → Bytes plan → (costCall register plan).number ≡ 0 →
       ((registerCall register).number ≡ 0) × (fed : ℕ) × Part4 (registerCall register).register plan fed × FeedsOfDay (registerCall register).register fed
   -- and so does the plan of an accepted job
-  pub of-job : (job : List ℕ) (table : List ℤ) (tally : Tally) → Accepted jobCall listingCall job table tally → JobOfDay jobCall listingCall job table tally
+  pub of-job : (job : List ℕ) (table : List ℤ) (supplier : ℕ) (tally : Tally) → Accepted jobCall listingCall job table supplier tally → JobOfDay jobCall listingCall job table supplier tally
   -- the length refuses nothing more: a register is accepted just where it is with the longest day, its length is one of the three, and
   -- its minutes and windows are of the day
   pub nothing-more : (register : List ℕ) (reg : Register) → Encodes reg register → (registerCall register ≡ registerAccepted reg)
       ↔ ((registerCall (encodeRegister (setLength reg longDay)) ≡ registerAccepted (setLength reg longDay)) × DayLength reg.day_length × OfDay reg.day_length reg)
   -- so no choice and no window is out of range for a minute that the day has, by itself and in a job
   pub refused-for : (register : List ℕ) → (registerCall register).number ≡ 4 → OutOfRange register (registerCall register).position
-  pub refused-in-job : (job : List ℕ) (table : List ℤ) (tally : Tally) →
-      let a = (jobCall job table tally).0 in
+  pub refused-in-job : (job : List ℕ) (table : List ℤ) (supplier : ℕ) (tally : Tally) →
+      let a = (jobCall job table supplier tally).0 in
       a.number ≡ 4 → a.part ≡ 1 → OutOfRange job a.position
   -- and each minute of each day may be a choice's
   pub each-minute : (length t m : ℕ) → DayLength length → 1 ≤ t → t ≤ maxTank → m < length →

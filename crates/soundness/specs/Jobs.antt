@@ -1,6 +1,6 @@
 -- What a farm reads of a job: the numbers that the job call answers and the lines that the listing call writes, as a predicate of
 -- any two such calls. Each may be lent a table of its own.
-use Rattle.std.specs.Prelude.{ℕ, ◌≤◌, ◌≡◌, ◌↔◌, cond, List, [], ◌∷◌, ◌++◌, eqb, ℤ, pos, ◌-ℤ◌, length, take, ◌≤ℤ◌}
+use Rattle.std.specs.Prelude.{ℕ, ◌<◌, ◌≤◌, ◌≡◌, ◌↔◌, cond, List, [], ◌∷◌, ◌++◌, eqb, ℤ, pos, ◌-ℤ◌, length, take, ◌≤ℤ◌}
 use Rattle.wire.specs.Number.{Bytes}
 use Rattle.forms.specs.Table.{tableNumbers}
 use Rattle.register.specs.declared.Register.{Register}
@@ -9,6 +9,7 @@ use Rattle.plan.specs.Plan as P
 use Rattle.plan.specs.Fits.{Fits}
 use Rattle.job.specs.declared.Tally.{Tally}
 use Rattle.job.specs.declared.JobAnswer.{JobAnswer}
+use Rattle.job.specs.Tally.{suppliers}
 use Rattle.job.specs.Outcome.{Parts}
 use Rattle.job.specs.Valid.{Valid, Encodes}
 use Rattle.listing.specs.Listing.{planLines, boundLine, refusalLine}
@@ -28,11 +29,11 @@ before byte (b ∷ bs) = cond (eqb b byte) [] (b ∷ before byte bs)
 module _ (jobCall : JobCall) (listingCall : ListingCall) where
   -- what the job call answers; a job is accepted where this is no refusal
 
-  abbrev pub answered : List ℕ → List ℤ → Tally → JobAnswer
-  answered job table tally = (jobCall job table tally).0
+  abbrev pub answered : List ℕ → List ℤ → ℕ → Tally → JobAnswer
+  answered job table supplier tally = (jobCall job table supplier tally).0
 
-  abbrev pub Accepted : List ℕ → List ℤ → Tally → Type 0
-  Accepted job table tally = (answered job table tally).number ≡ 0
+  abbrev pub Accepted : List ℕ → List ℤ → ℕ → Tally → Type 0
+  Accepted job table supplier tally = (answered job table supplier tally).number ≡ 0
 
   -- a job is listed where the listing call answers no refusal; what it shows are the first bytes of the buffer handed back, as many
   -- as the answer counts
@@ -48,7 +49,7 @@ module _ (jobCall : JobCall) (listingCall : ListingCall) where
   shownPlan job table buffer = before 0x42 (shown job table buffer)
 
   -- of an accepted job
-  pub record AcceptedJob (job : List ℕ) (table : List ℤ) (tally : Tally) : Type 0 where
+  pub record AcceptedJob (job : List ℕ) (table : List ℤ) (supplier : ℕ) (tally : Tally) : Type 0 where
     -- it has four parts that meet their conditions. The job is their bytes, and those of no other four that do
     pub parts : Parts
     pub conditions : Valid parts
@@ -57,28 +58,28 @@ module _ (jobCall : JobCall) (listingCall : ListingCall) where
     -- its plan fits the rows of its register
     pub fits : Fits parts.register parts.plan
     -- no plan of its register that fits costs less than the bound, and without rows none at all
-    pub bounds : (plan : P.Plan parts.register.choices) → Fits parts.register plan.fed → (answered job table tally).bound ≤ℤ planCost parts.register plan.fed
-    pub bounds-every : parts.register.rows ≡ 0 → (plan : P.Plan parts.register.choices) → (answered job table tally).bound ≤ℤ planCost parts.register plan.fed
+    pub bounds : (plan : P.Plan parts.register.choices) → Fits parts.register plan.fed → (answered job table supplier tally).bound ≤ℤ planCost parts.register plan.fed
+    pub bounds-every : parts.register.rows ≡ 0 → (plan : P.Plan parts.register.choices) → (answered job table supplier tally).bound ≤ℤ planCost parts.register plan.fed
     -- the cost is that of its plan
-    pub cost-is : (answered job table tally).cost ≡ planCost parts.register parts.plan
+    pub cost-is : (answered job table supplier tally).cost ≡ planCost parts.register parts.plan
     -- the gap says how far the cost is above the bound
-    pub gap_is : (answered job table tally).gap ≡ (answered job table tally).cost -ℤ (answered job table tally).bound
-    pub gap-not-negative : pos 0 ≤ℤ (answered job table tally).gap
+    pub gap_is : (answered job table supplier tally).gap ≡ (answered job table supplier tally).cost -ℤ (answered job table supplier tally).bound
+    pub gap-not-negative : pos 0 ≤ℤ (answered job table supplier tally).gap
     -- its lines are those of its choices and its plan, and a `B` line of these three numbers
     pub lines : (lent : List ℤ) (buffer : List ℕ) → Listed job lent buffer →
         shown job lent buffer ≡ planLines parts.register parts.plan
-        ++ boundLine (answered job table tally).bound (answered job table tally).cost (answered job table tally).gap
+        ++ boundLine (answered job table supplier tally).bound (answered job table supplier tally).cost (answered job table supplier tally).gap
 
   -- Only what is said of the bytes of the parts asks that those of the job are below 256, as they are in a lent `&[u8]`.
   pub record JobsSound : Type 0 where
-    pub accepted : (job : List ℕ) (table : List ℤ) (tally : Tally) → Accepted job table tally → AcceptedJob job table tally
+    pub accepted : (job : List ℕ) (table : List ℤ) (supplier : ℕ) (tally : Tally) → Accepted job table supplier tally → AcceptedJob job table supplier tally
     -- two accepted jobs show the same bytes before the `B` line just where they have the same choices and feed the same ones
-    pub same_lines : (job job' : List ℕ) (table table' : List ℤ) (tally tally' : Tally) (j : AcceptedJob job table tally) (j' : AcceptedJob job' table' tally') →
+    pub same_lines : (job job' : List ℕ) (table table' : List ℤ) (supplier supplier' : ℕ) (tally tally' : Tally) (j : AcceptedJob job table supplier tally) (j' : AcceptedJob job' table' supplier' tally') →
         (lent lent' : List ℤ) (buffer buffer' : List ℕ) → Listed job lent buffer → Listed job' lent' buffer' →
         (shownPlan job lent buffer ≡ shownPlan job' lent' buffer') ↔ SamePlan j.parts.register j.parts.plan j'.parts.register j'.parts.plan
-    -- a job that is refused, and not for a short table, has only the line of that refusal
-    pub refused : (job : List ℕ) (table : List ℤ) (tally : Tally) → tableNumbers ≤ length table → (Accepted job table tally → ⊥) →
+    -- a job that is refused, and not for a short table or its supplier's number, has only the line of that refusal
+    pub refused : (job : List ℕ) (table : List ℤ) (supplier : ℕ) (tally : Tally) → supplier < suppliers → tableNumbers ≤ length table → (Accepted job table supplier tally → ⊥) →
         (lent : List ℤ) (buffer : List ℕ) → Listed job lent buffer →
-        shown job lent buffer ≡ refusalLine (answered job table tally).number (answered job table tally).position
+        shown job lent buffer ≡ refusalLine (answered job table supplier tally).number (answered job table supplier tally).position
     -- every job is listed, where table and buffer are long enough
     pub room : (job : List ℕ) (lent : List ℤ) (buffer : List ℕ) → tableNumbers ≤ length lent → listingRoom ≤ length buffer → Listed job lent buffer

@@ -1,7 +1,7 @@
 -- What a refusal says and hands back, of every call: which part it is, that the parts before it are right, that number and position
 -- are those of the first command of the part that is not right, and within it the lowest number (`wire/specs/Refused`,
--- `bound/specs/Refused`), that the answer's other fields are 0, and what table and buffer then hold. 10, 11, 12, 14 and
--- 16, which no wrong command causes, have cases of their own. The bytes settle number and position: `refused-iff` in `wire/proofs/Lowest`.
+-- `bound/specs/Refused`), that the answer's other fields are 0, and what table and buffer then hold. 10, 11, 12, 14, 16
+-- and 17, which no wrong command causes, have cases of their own. The bytes settle number and position: `refused-iff` in `wire/proofs/Lowest`.
 use Rattle.std.specs.Prelude.{ℕ, ◌+◌, ◌≤◌, ◌<◌, ◌≡◌, ◌⊎◌, List, ◌++◌, ℤ, pos, length}
 use Rattle.std.proofs.Common.{inl, inr}
 use Rattle.wire.specs.Number.{Bytes}
@@ -24,7 +24,7 @@ use Rattle.bound.specs.Refused.{CertificateRefused, CertificateRefusedByItself}
 use Rattle.plain.specs.Encoding.{encodePlain}
 use Rattle.plan.specs.Format.{planPart}
 use Rattle.job.specs.declared.Tally.{Tally}
-use Rattle.job.specs.Tally.{withRefused}
+use Rattle.job.specs.Tally.{suppliers, withRefused, moved}
 use Rattle.job.specs.Outcome.{outcome, tableAfter}
 use Rattle.listing.specs.Listing.{listing}
 use Rattle.search.specs.Answer.{search}
@@ -244,19 +244,23 @@ PlainRefusals call = (register scheme : List ℕ) → Bytes register → Bytes s
     ⊎ (InScheme a.number a.part a.position register scheme
     ⊎ PlainTooLong a.number a.part a.position register scheme lent))
 
--- the tally is no field that is 0: a refused job is counted, whatever refuses it
+-- the tally is no field that is 0: a refused job is counted for its supplier, whatever refuses it. Where there is no such supplier
+-- nothing is counted, and nothing else is looked at
 pub record JobRefusals (call : JobCall) : Type 0 where
-  pub short : (job : List ℕ) (lent : List ℤ) (tally : Tally) → length lent < tableNumbers →
-      call job lent tally
-      ≡ (record { number = 11; part = 0; position = 0; bound = pos 0; cost = pos 0; gap = pos 0; tally = withRefused tally }, lent)
-  pub refused : (job : List ℕ) → Bytes job → (lent : List ℤ) → tableNumbers ≤ length lent → (tally : Tally) →
-      let a = (call job lent tally).0 in
-      let table = (call job lent tally).1 in
+  pub unknown-supplier : (job : List ℕ) (lent : List ℤ) (supplier : ℕ) (tally : Tally) → suppliers ≤ supplier →
+      call job lent supplier tally
+      ≡ (record { number = 17; part = 0; position = 0; bound = pos 0; cost = pos 0; gap = pos 0; tally = tally }, lent)
+  pub short : (job : List ℕ) (lent : List ℤ) (supplier : ℕ) (tally : Tally) → supplier < suppliers → length lent < tableNumbers →
+      call job lent supplier tally
+      ≡ (record { number = 11; part = 0; position = 0; bound = pos 0; cost = pos 0; gap = pos 0; tally = moved withRefused supplier tally }, lent)
+  pub refused : (job : List ℕ) → Bytes job → (lent : List ℤ) → tableNumbers ≤ length lent → (supplier : ℕ) → supplier < suppliers → (tally : Tally) →
+      let a = (call job lent supplier tally).0 in
+      let table = (call job lent supplier tally).1 in
       (a.number ≡ 0 → ⊥) →
       (a.bound ≡ pos 0)
       × (a.cost ≡ pos 0)
       × (a.gap ≡ pos 0)
-      × (a.tally ≡ withRefused tally)
+      × (a.tally ≡ moved withRefused supplier tally)
       × (FromRegister a.number a.part a.position job lent table
       ⊎ (FromScheme a.number a.part a.position job lent table
       ⊎ (FromCertificate a.number a.part a.position job lent table

@@ -37,7 +37,7 @@ use Rattle.bound.specs.declared.CheckAnswer.{CheckAnswer}
 use Rattle.text.specs.Text.{HasLine}
 use Rattle.job.specs.declared.Tally.{Tally}
 use Rattle.job.specs.declared.JobAnswer.{JobAnswer}
-use Rattle.job.specs.Tally.{withRefused}
+use Rattle.job.specs.Tally.{suppliers, withRefused, moved}
 use Rattle.listing.specs.Listing.{fedLine}
 use Rattle.soundness.specs.Calls.{RegisterCall, CostCall, CheckCall, JobCall, ListingCall}
 use Rattle.soundness.specs.Parts.{Part1, Part2, Part3, Part4}
@@ -70,8 +70,8 @@ pub record Exactly (n t : ℕ) (text : List ℕ) : Type 0 where
   pub lines : (m : ℕ) → HasLine (fedLine t m) text ↔ ((j : ℕ) × (j < length minutes) × (get_or minutes j 0 ≡ m))
 
 -- of an accepted job
-pub record JobFits (jobCall : JobCall) (listingCall : ListingCall) (job : List ℕ) (table : List ℤ) (tally : Tally) : Type 0 where
-  pub accepted : AcceptedJob jobCall listingCall job table tally
+pub record JobFits (jobCall : JobCall) (listingCall : ListingCall) (job : List ℕ) (table : List ℤ) (supplier : ℕ) (tally : Tally) : Type 0 where
+  pub accepted : AcceptedJob jobCall listingCall job table supplier tally
   -- its plan fits the rows
   pub fits : Fits accepted.parts.register accepted.parts.plan
   -- where the job says no row its register has none, so that each plan fits
@@ -110,8 +110,9 @@ pub record MisfitJob (job : List ℕ) (position : ℕ) : Type 0 where
 abbrev pub planRefused : ℕ → CostAnswer
 planRefused number = record { number = number; part = 4; position = 0; cost = pos 0 }
 
-abbrev pub jobMisfit : ℕ → Tally → JobAnswer
-jobMisfit position tally = record { number = 15; part = 4; position = position; bound = pos 0; cost = pos 0; gap = pos 0; tally = withRefused tally }
+abbrev pub jobMisfit : ℕ → ℕ → Tally → JobAnswer
+jobMisfit position supplier tally =
+    record { number = 15; part = 4; position = position; bound = pos 0; cost = pos 0; gap = pos 0; tally = moved withRefused supplier tally }
 
 -- ---- a multiplier `3B`
 
@@ -221,15 +222,15 @@ pub record RowsKept (registerCall : RegisterCall) (costCall : CostCall) (checkCa
   pub of-plan : (register plan : List ℕ) → Bytes plan → (costCall register plan).number ≡ 0 →
       ((registerCall register).number ≡ 0) × (fed : ℕ) × Part4 (registerCall register).register plan fed × Fits (registerCall register).register fed
   -- and so does the plan of an accepted job
-  pub of-job : (job : List ℕ) (table : List ℤ) (tally : Tally) → Accepted jobCall listingCall job table tally → JobFits jobCall listingCall job table tally
+  pub of-job : (job : List ℕ) (table : List ℤ) (supplier : ℕ) (tally : Tally) → Accepted jobCall listingCall job table supplier tally → JobFits jobCall listingCall job table supplier tally
   -- a plan whose choices are all there, and which does not fit, is refused 15 at its command, whatever follows it
   pub misfit : (register plan : List ℕ) → Misfit register plan → costCall register plan ≡ planRefused 15
-  pub misfit-in-job : (job : List ℕ) (table : List ℤ) (tally : Tally) (position : ℕ) → tableNumbers ≤ length table →
-      MisfitJob job position → (jobCall job table tally).0 ≡ jobMisfit position tally
+  pub misfit-in-job : (job : List ℕ) (table : List ℤ) (supplier : ℕ) (tally : Tally) (position : ℕ) → supplier < suppliers → tableNumbers ≤ length table →
+      MisfitJob job position → (jobCall job table supplier tally).0 ≡ jobMisfit position supplier tally
   -- and nothing else is
   pub only-misfit : (register plan : List ℕ) → Bytes register → Bytes plan → (costCall register plan).number ≡ 15 → Misfit register plan
-  pub only-misfit-in-job : (job : List ℕ) (table : List ℤ) (tally : Tally) → Bytes job → tableNumbers ≤ length table →
-      (jobCall job table tally).0.number ≡ 15 → MisfitJob job (jobCall job table tally).0.position
+  pub only-misfit-in-job : (job : List ℕ) (table : List ℤ) (supplier : ℕ) (tally : Tally) → Bytes job → tableNumbers ≤ length table →
+      (jobCall job table supplier tally).0.number ≡ 15 → MisfitJob job (jobCall job table supplier tally).0.position
   -- a choice that is not there is refused 5, whether or not the others fit
   pub names-first : (register rest : List ℕ) (reg : Register) (fed : ℕ) → Part1 register reg → 2 ^ reg.choices ≤ fed → fed < 2 ^ 32 →
       costCall register (encodePlan fed ++ rest) ≡ planRefused 5

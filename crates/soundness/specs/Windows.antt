@@ -50,8 +50,8 @@ abbrev pub KeepsWindows : Register → (plan : ℕ) → Type 0
 KeepsWindows reg plan = (t m : ℕ) → Feeding reg plan t m → InWindow reg t m
 
 -- of an accepted job
-pub record JobInside (jobCall : JobCall) (listingCall : ListingCall) (job : List ℕ) (table : List ℤ) (tally : Tally) : Type 0 where
-  pub accepted : AcceptedJob jobCall listingCall job table tally
+pub record JobInside (jobCall : JobCall) (listingCall : ListingCall) (job : List ℕ) (table : List ℤ) (supplier : ℕ) (tally : Tally) : Type 0 where
+  pub accepted : AcceptedJob jobCall listingCall job table supplier tally
   -- its plan feeds inside the windows
   pub keeps : KeepsWindows accepted.parts.register accepted.parts.plan
   -- the `F` lines that a farm reads show just these feedings
@@ -100,7 +100,7 @@ pub record WindowsKept (registerCall : RegisterCall) (costCall : CostCall) (jobC
   pub of-plan : (register plan : List ℕ) → Bytes plan → (costCall register plan).number ≡ 0 →
       ((registerCall register).number ≡ 0) × (fed : ℕ) × Part4 (registerCall register).register plan fed × KeepsWindows (registerCall register).register fed
   -- and so does the plan of an accepted job
-  pub of-job : (job : List ℕ) (table : List ℤ) (tally : Tally) → Accepted jobCall listingCall job table tally → JobInside jobCall listingCall job table tally
+  pub of-job : (job : List ℕ) (table : List ℤ) (supplier : ℕ) (tally : Tally) → Accepted jobCall listingCall job table supplier tally → JobInside jobCall listingCall job table supplier tally
   -- windows refuse nothing more: with its windows a register is accepted just where it is without them, the windows by themselves
   -- are right, and its choices lie inside
   pub nothing-more : (register : List ℕ) (reg : Register) → Encodes reg register → (registerCall register ≡ registerAccepted reg)

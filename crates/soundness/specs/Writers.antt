@@ -16,6 +16,7 @@ use Rattle.certificate.specs.Certificate.{Certificate}
 use Rattle.bound.specs.Bound.{bound}
 use Rattle.plain.specs.Plain.{plain}
 use Rattle.job.specs.declared.Tally.{Tally}
+use Rattle.job.specs.Tally.{suppliers}
 use Rattle.job.specs.Outcome.{outcome}
 use Rattle.listing.specs.Listing.{listing}
 use Rattle.listing.specs.Answer.{listingRoom}
@@ -90,8 +91,9 @@ pub record ListingWrites (listingCall : ListingCall) (jobCall : JobCall) : Type 
   -- with a table that is long enough: the lines of what the job leads to (`Jobs` says which they are)
   pub writes : (job : List ℕ) (table : List ℤ) → tableNumbers ≤ length table →
       Writes (λ lent. ((listingCall job table lent).0, (listingCall job table lent).1.1)) (listing (outcome job)) listingRoom
-  -- the table is the one that the job call hands back, whatever buffer is lent
-  pub table-back : (job : List ℕ) (table : List ℤ) (lent : List ℕ) (tally : Tally) → (listingCall job table lent).1.0 ≡ (jobCall job table tally).1
+  -- the table is the one that the job call hands back, for each supplier, whatever buffer is lent
+  pub table-back : (job : List ℕ) (table : List ℤ) (lent : List ℕ) (supplier : ℕ) (tally : Tally) → supplier < suppliers →
+      (listingCall job table lent).1.0 ≡ (jobCall job table supplier tally).1
 
 -- of the three calls, and of those that read what two of them write
 pub record Writers (buildCall : BuildCall) (schemeCall : SchemeCall) (plainCall : PlainCall) (checkCall : CheckCall) (listingCall : ListingCall) (jobCall : JobCall) : Type 0 where

@@ -5,6 +5,7 @@
 
 ghost use Rattle.std.specs.Prelude.{◌≡◌};
 ghost use Rattle.wire.specs.Number.{Bytes};
+ghost use Rattle.job.specs.Counting.{Whole};
 ghost use Rattle.soundness.specs.Calls.{registerCall, schemeCall, costCall, penaltyCall, checkCall, plainCall, buildCall, jobCall, listingCall, searchCall};
 
 use bound::CheckAnswer;
@@ -27,7 +28,14 @@ pub fn lent_bytes(bytes: &[u8])
     entered();
 }
 
-// A call, so that what the slice's type says of its elements is at hand.
+// Some statements ask that a tally has a pair for each supplier, which every `Tally` of the code has.
+pub fn lent_tally(tally: Tally)
+    ensures { Whole tally }
+{
+    entered();
+}
+
+// A call, so that what an argument's type says of its elements is at hand.
 fn entered() {}
 
 // One function for each of our calls in `specs/Calls`: it runs the exported function, and its contract says that the answer, and
@@ -84,11 +92,11 @@ pub fn build_call(register: &[u8], buffer: &mut [u8]) -> WriterAnswer
     feedcheck_build(register, buffer)
 }
 
-pub fn job_call(job: &[u8], table: &mut [i64], tally: Tally) -> JobAnswer
-    ensures value { result ≡ (jobCall job.now table.old tally).0 }
-    ensures table_after { table.new ≡ (jobCall job.now table.old tally).1 }
+pub fn job_call(job: &[u8], table: &mut [i64], supplier: u8, tally: Tally) -> JobAnswer
+    ensures value { result ≡ (jobCall job.now table.old supplier tally).0 }
+    ensures table_after { table.new ≡ (jobCall job.now table.old supplier tally).1 }
 {
-    feedcheck_job(job, table, tally)
+    feedcheck_job(job, table, supplier, tally)
 }
 
 pub fn listing_call(job: &[u8], table: &mut [i64], buffer: &mut [u8]) -> WriterAnswer

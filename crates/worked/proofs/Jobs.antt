@@ -1,10 +1,10 @@
 -- The example, 113 bytes, as a job: it is accepted, with T = 1 refused, and one byte more is refused.
 use mathlib.Core.Path.{◌≡◌, refl, ◌∙◌, ap}
 use mathlib.Core.List.{List, [], ◌∷◌, ◌++◌, map, flat_map}
-use Prim.Native.Nat.{ℕ, ◌≤◌}
+use Prim.Native.Nat.{ℕ, ◌≤◌, ◌<◌}
 use lib.IntN.{ℤ, pos}
 use lib.ListN.{length}
-use borrow.Author.Tests.{le-ltb}
+use borrow.Author.Tests.{lt-ltb, le-ltb}
 use Rattle.forms.specs.Table.{tableNumbers}
 use Rattle.certificate.specs.Certificate.{Certificate}
 use Rattle.certificate.proofs.Commands.{command}
@@ -43,7 +43,7 @@ use Rattle.wire.specs.Outcome.{refuses, accepts}
 use Rattle.job.specs.Outcome.{Parts, outcome}
 use Rattle.job.specs.declared.Tally.{Tally}
 use Rattle.job.specs.declared.JobAnswer.{JobAnswer}
-use Rattle.job.specs.Tally.{raised, withAccepted}
+use Rattle.job.specs.Tally.{suppliers, raised, withAccepted, withRefused, pairOf, withPair, moved}
 use Rattle.job.specs.Answer.{refusedAnswer, afterJob, jobAnswer}
 use Rattle.listing.specs.Listing.{choiceLines, fedLines, acceptedLines, listing}
 
@@ -87,33 +87,40 @@ map-map : {A B C : Type 0} (f : B → C) (g : A → B) (xs : List A) → map (λ
 map-map f g [] = refl
 map-map f g (x ∷ xs) = ap (λ l. f (g x) ∷ l) (map-map f g xs)
 
--- what the call answers, with every table long enough
-answers : (lent : List ℤ) (tally : Tally) → tableNumbers ≤ length lent → map (λ s. jobAnswer s lent tally) examples
-    ≡ record { number = 0; part = 0; position = 0; bound = pos 0; cost = pos 0; gap = pos 0; tally = withAccepted tally }
-    ∷ refusedAnswer 9 3 107 tally
-    ∷ refusedAnswer 12 4 113 tally
-    ∷ []
-unfolding jobAnswer bound ceilDiv cost sumBelow isSubset
-answers lent tally l = rw (le-ltb (length lent) tableNumbers l) (map-map (λ o. afterJob o tally) outcome examples ∙ ap (map (λ o. afterJob o tally)) outcomes)
+-- what the call answers to them, for each supplier and with every table long enough
+module _ (lent : List ℤ) (supplier : ℕ) (tally : Tally) (k : supplier < suppliers) (l : tableNumbers ≤ length lent) where
+  answers : map (λ s. jobAnswer s lent supplier tally) examples
+      ≡ record { number = 0; part = 0; position = 0; bound = pos 0; cost = pos 0; gap = pos 0; tally = moved withAccepted supplier tally }
+      ∷ refusedAnswer 9 3 107 (moved withRefused supplier tally)
+      ∷ refusedAnswer 12 4 113 (moved withRefused supplier tally)
+      ∷ []
+  unfolding jobAnswer bound ceilDiv cost sumBelow isSubset
+  answers = rw (lt-ltb supplier suppliers k, le-ltb (length lent) tableNumbers l) (map-map (λ o. afterJob o supplier tally) outcome examples ∙ ap (map (λ o. afterJob o supplier tally)) outcomes)
 
--- with 4 accepted and 7 refused jobs so far
-pub counted : (lent : List ℤ) → tableNumbers ≤ length lent → map (λ s. jobAnswer s lent (record { accepted = 4; refused = 7 })) examples
-    ≡ record { number = 0; part = 0; position = 0; bound = pos 0; cost = pos 0; gap = pos 0; tally = record { accepted = 5; refused = 7 } }
-    ∷ record { number = 9; part = 3; position = 107; bound = pos 0; cost = pos 0; gap = pos 0; tally = record { accepted = 4; refused = 8 } }
-    ∷ record { number = 12; part = 4; position = 113; bound = pos 0; cost = pos 0; gap = pos 0; tally = record { accepted = 4; refused = 8 } }
-    ∷ []
-unfolding raised
-counted lent l = answers lent (record { accepted = 4; refused = 7 }) l
+  -- with 4 accepted and 7 refused jobs so far
+  pub counted : pairOf tally supplier ≡ record { accepted = 4; refused = 7 } → map (λ s. jobAnswer s lent supplier tally) examples
+      ≡ record { number = 0; part = 0; position = 0; bound = pos 0; cost = pos 0; gap = pos 0; tally = withPair supplier (record { accepted = 5; refused = 7 }) tally }
+      ∷ record { number = 9; part = 3; position = 107; bound = pos 0; cost = pos 0; gap = pos 0; tally = withPair supplier (record { accepted = 4; refused = 8 }) tally }
+      ∷ record { number = 12; part = 4; position = 113; bound = pos 0; cost = pos 0; gap = pos 0; tally = withPair supplier (record { accepted = 4; refused = 8 }) tally }
+      ∷ []
+  unfolding raised
+  counted e = rw e at answers
 
--- with as many accepted jobs as are counted, and one fewer refused
-pub counted-last : (lent : List ℤ) → tableNumbers ≤ length lent →
-    map (λ s. (jobAnswer s lent (record { accepted = 4_294_967_295; refused = 4_294_967_294 })).tally) examples
-    ≡ record { accepted = 4_294_967_295; refused = 4_294_967_294 }
-    ∷ record { accepted = 4_294_967_295; refused = 4_294_967_295 }
-    ∷ record { accepted = 4_294_967_295; refused = 4_294_967_295 }
-    ∷ []
-unfolding raised
-counted-last lent l = ap (map (λ (a : JobAnswer). a.tally)) (answers lent (record { accepted = 4_294_967_295; refused = 4_294_967_294 }) l)
+  -- with as many accepted jobs as are counted, and one fewer refused
+  pub counted-last : pairOf tally supplier ≡ record { accepted = 4_294_967_295; refused = 4_294_967_294 } →
+      map (λ s. (jobAnswer s lent supplier tally).tally) examples
+      ≡ withPair supplier (record { accepted = 4_294_967_295; refused = 4_294_967_294 }) tally
+      ∷ withPair supplier (record { accepted = 4_294_967_295; refused = 4_294_967_295 }) tally
+      ∷ withPair supplier (record { accepted = 4_294_967_295; refused = 4_294_967_295 }) tally
+      ∷ []
+  unfolding raised
+  counted-last e = rw e at (ap (map (λ (a : JobAnswer). a.tally)) answers)
+
+-- and for a supplier that there is not, with any table
+pub unknown : (lent : List ℤ) (supplier : ℕ) (tally : Tally) → suppliers ≤ supplier → map (λ s. jobAnswer s lent supplier tally) examples
+    ≡ refusedAnswer 17 0 0 tally ∷ refusedAnswer 17 0 0 tally ∷ refusedAnswer 17 0 0 tally ∷ []
+unfolding jobAnswer
+unknown lent supplier tally k = rw (le-ltb supplier suppliers k)
 
 -- the lines; `R 9 107`; `R 12 113`
 pub jobs : map (λ s. listing (outcome s)) examples

@@ -1,5 +1,5 @@
 -- The paper's rows W1 to W9, with the bytes that they are about. −6 is written neg_ℤ (pos 6).
-use Prim.Native.Nat.{ℕ, ◌+◌, ◌≤◌}
+use Prim.Native.Nat.{ℕ, ◌+◌, ◌≤◌, ◌<◌}
 use mathlib.Core.Path.{◌≡◌, refl}
 use mathlib.Core.Bool.{cond}
 use mathlib.Core.List.{List, [], ◌∷◌, ◌++◌, map}
@@ -38,11 +38,13 @@ use Rattle.plain.specs.Plain.{plain}
 use Rattle.plain.specs.Answer.{ownBytes}
 use Rattle.plain.proofs.Worked as Plain
 use Rattle.job.specs.Outcome.{outcome}
-use Rattle.job.specs.Answer.{jobAnswer}
+use Rattle.job.specs.declared.Tally.{Tally}
+use Rattle.job.specs.Tally.{suppliers, pairOf, withPair}
+use Rattle.job.specs.Answer.{refusedAnswer, jobAnswer}
 use Rattle.listing.specs.Listing.{listing}
 use Rattle.worked.proofs.Alone as Alone
 use Rattle.worked.proofs.Own.{w7-checked}
-use Rattle.worked.proofs.Jobs.{lines, counted, counted-last, jobs}
+use Rattle.worked.proofs.Jobs.{lines, counted, counted-last, unknown, jobs}
 
 -- the example's four parts; the third with T below 256
 
@@ -155,20 +157,25 @@ pub record Worked : Type 0 where
   -- W8, T and s of certificates with no further command
   pub w8 : let ratio : ℤ → ℕ → Certificate = λ T s. record { scale = s; target = T; multipliers = []; squares = [] } in
       map bound (ratio (neg_ℤ (pos 7)) 2 ∷ ratio (pos 7) 2 ∷ ratio (neg_ℤ (pos 1)) 3 ∷ []) ≡ neg_ℤ (pos 3) ∷ pos 4 ∷ pos 0 ∷ []
-  -- W9, by the job's call, after 4 accepted and 7 refused jobs
-  pub w9 : (lent : List ℤ) → tableNumbers ≤ length lent →
-      map (λ s. jobAnswer s lent (record { accepted = 4; refused = 7 })) examples
-      ≡ record { number = 0; part = 0; position = 0; bound = pos 0; cost = pos 0; gap = pos 0; tally = record { accepted = 5; refused = 7 } }
-      ∷ record { number = 9; part = 3; position = 107; bound = pos 0; cost = pos 0; gap = pos 0; tally = record { accepted = 4; refused = 8 } }
-      ∷ record { number = 12; part = 4; position = 113; bound = pos 0; cost = pos 0; gap = pos 0; tally = record { accepted = 4; refused = 8 } }
+  -- W9, by the job's call, for each supplier, after 4 accepted and 7 refused jobs of it
+  pub w9 : (lent : List ℤ) (supplier : ℕ) (tally : Tally) → supplier < suppliers → tableNumbers ≤ length lent → pairOf tally supplier ≡ record { accepted = 4; refused = 7 } →
+      map (λ s. jobAnswer s lent supplier tally) examples
+      ≡ record { number = 0; part = 0; position = 0; bound = pos 0; cost = pos 0; gap = pos 0; tally = withPair supplier (record { accepted = 5; refused = 7 }) tally }
+      ∷ record { number = 9; part = 3; position = 107; bound = pos 0; cost = pos 0; gap = pos 0; tally = withPair supplier (record { accepted = 4; refused = 8 }) tally }
+      ∷ record { number = 12; part = 4; position = 113; bound = pos 0; cost = pos 0; gap = pos 0; tally = withPair supplier (record { accepted = 4; refused = 8 }) tally }
       ∷ []
   -- a count goes up to 4,294,967,295 and stays there
-  pub w9-limit : (lent : List ℤ) → tableNumbers ≤ length lent →
-      map (λ s. (jobAnswer s lent (record { accepted = 4_294_967_295; refused = 4_294_967_294 })).tally) examples
-      ≡ record { accepted = 4_294_967_295; refused = 4_294_967_294 }
-      ∷ record { accepted = 4_294_967_295; refused = 4_294_967_295 }
-      ∷ record { accepted = 4_294_967_295; refused = 4_294_967_295 }
+  pub w9-limit : (lent : List ℤ) (supplier : ℕ) (tally : Tally) → supplier < suppliers → tableNumbers ≤ length lent →
+      pairOf tally supplier ≡ record { accepted = 4_294_967_295; refused = 4_294_967_294 } →
+      map (λ s. (jobAnswer s lent supplier tally).tally) examples
+      ≡ withPair supplier (record { accepted = 4_294_967_295; refused = 4_294_967_294 }) tally
+      ∷ withPair supplier (record { accepted = 4_294_967_295; refused = 4_294_967_295 }) tally
+      ∷ withPair supplier (record { accepted = 4_294_967_295; refused = 4_294_967_295 }) tally
       ∷ []
+  -- with a supplier's number above 15 each is refused 17, and nothing moves
+  pub w9-unknown : (lent : List ℤ) (supplier : ℕ) (tally : Tally) → suppliers ≤ supplier →
+      map (λ s. jobAnswer s lent supplier tally) examples
+      ≡ refusedAnswer 17 0 0 tally ∷ refusedAnswer 17 0 0 tally ∷ refusedAnswer 17 0 0 tally ∷ []
   -- and the lines of the three
   pub w9-lines : map (λ s. listing (outcome s)) examples
       ≡ lines
@@ -200,7 +207,8 @@ worked = record {
   w7 = Plain.w7;
   w7-checked = λ lent l. (Plain.w7-bytes, w7-checked lent l);
   w8 = Certificate.w8;
-  w9 = counted;
-  w9-limit = counted-last;
+  w9 = λ lent supplier tally k l e. counted lent supplier tally k l e;
+  w9-limit = λ lent supplier tally k l e. counted-last lent supplier tally k l e;
+  w9-unknown = unknown;
   w9-lines = jobs;
 }

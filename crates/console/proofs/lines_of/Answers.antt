@@ -4,7 +4,7 @@ use native.Mathlib.Omega.{arith}
 use mathlib.Core.Path.{◌≡◌, ◌∙◌, ap}
 use mathlib.Core.List.{List, ◌++◌}
 use lib.IntN.{ℤ, pos}
-use lib.ListN.{length, drop, replicate, length-replicate}
+use lib.ListN.{length, drop, length-replicate}
 use Rattle.forms.specs.Table.{tableNumbers}
 use Rattle.job.specs.Outcome.{outcome}
 use Rattle.wire.specs.declared.WriterAnswer.{WriterAnswer}
@@ -24,9 +24,10 @@ answered job table text a out l m e d short =
 
 pub returns : goal.returns
 returns c =
+    let counted = c.feedcheck_job-counted.ensures in
     let e = c.feedcheck_listing-answer.ensures in
     let h =
-    answered c.args.job.now (replicate tableNumbers (pos 0)) c.args.text.now c.feedcheck_listing-answer.result _
-    (omega (arith, length-replicate tableNumbers (pos 0))) c.requires e.value e.buffer_after e.job_len_bound
+    answered c.args.job.now c.feedcheck_job-counted.new.table c.args.text.now c.feedcheck_listing-answer.result _
+    (omega (arith, c.feedcheck_job-counted.auto.table, length-replicate tableNumbers (pos 0))) c.requires e.value e.buffer_after e.job_len_bound
     in
-    record { value = h.0; text_after = h.1.0; within = h.1.1 }
+    record { value = h.0; tally_after = rw counted.value (rw c.fresh.ensures); text_after = h.1.0; within = h.1.1 }

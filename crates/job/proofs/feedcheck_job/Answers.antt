@@ -1,4 +1,4 @@
--- By the table's length, then by what reading the job leads to.
+-- By the supplier's number, the table's length, then by what reading the job leads to.
 use mathlib.Core.Path.{◌≡◌, ◌∙◌, ap}
 use native.Mathlib.Omega.{arith}
 use lib.IntN.{ℤ}
@@ -8,7 +8,9 @@ use mir.Facts.{to_z-of_z}
 use borrow.Author.Rules.{rules}
 use Rattle.job.specs.declared.Tally.{Tally}
 use Rattle.job.specs.declared.JobAnswer.{JobAnswer}
-use Rattle.job.proofs.Call.{short, call-refused, call-accepted}
+use Rattle.job.specs.Tally.{withPair}
+use Rattle.job.specs.Answer.{refusedAnswer}
+use Rattle.job.proofs.Call.{none, short, call-refused, call-accepted}
 use Rattle.job.proofs.feedcheck_job.Goals as goal
 
 abbrev filled : ℤ → ℤ → ℤ → Tally → JobAnswer
@@ -19,21 +21,33 @@ read_back : (bound cost gap : ℤ) (tally : Tally) → SFits w64 bound → SFits
     filled (to_z w64 (of_z w64 bound)) (to_z w64 (of_z w64 cost)) (to_z w64 (of_z w64 gap)) tally ≡ filled bound cost gap tally
 read_back bound cost gap tally b z g = rw (to_z-of_z b, to_z-of_z z, to_z-of_z g)
 
+pub returns-then-index-ge-SUPPLIERS-clause-value : goal.returns-then-index-ge-SUPPLIERS-clause-value
+returns-then-index-ge-SUPPLIERS-clause-value c = c.refused.ensures ∙ (none c.args.job.now c.args.table.now c.args.supplier c.args.tally (omega arith)).answers
+
+pub returns-then-index-ge-SUPPLIERS-clause-table_after : goal.returns-then-index-ge-SUPPLIERS-clause-table_after
+returns-then-index-ge-SUPPLIERS-clause-table_after c = (none c.args.job.now c.args.table.now c.args.supplier c.args.tally (omega arith)).holds
+
 pub returns-then-table-lt-NUMBERS-clause-value : goal.returns-then-table-lt-NUMBERS-clause-value
-returns-then-table-lt-NUMBERS-clause-value c = c.refused.ensures ∙ (short c.args.job.now c.args.table.now c.args.tally (omega arith)).answers
+returns-then-table-lt-NUMBERS-clause-value c =
+    c.refused-then-table-lt-NUMBERS.ensures
+    ∙ ap (refusedAnswer 11 0 0) (c.with_pair-refused.ensures ∙ ap (λ pair. withPair c.args.supplier pair c.args.tally) c.with_refused.ensures)
+    ∙ (short c.args.job.now c.args.table.now c.args.supplier c.args.tally (omega arith) (omega arith)).answers
 
 pub returns-then-table-lt-NUMBERS-clause-table_after : goal.returns-then-table-lt-NUMBERS-clause-table_after
-returns-then-table-lt-NUMBERS-clause-table_after c = (short c.args.job.now c.args.table.now c.args.tally (omega arith)).holds
+returns-then-table-lt-NUMBERS-clause-table_after c = (short c.args.job.now c.args.table.now c.args.supplier c.args.tally (omega arith) (omega arith)).holds
 
 pub returns-then-number-ne0-clause-value : goal.returns-then-number-ne0-clause-value
 returns-then-number-ne0-clause-value c =
     let k = c.read_job-read in
-    c.refused-then-number-ne0.ensures ∙ (call-refused c.args.job.now c.args.table.now _ c.args.tally (omega arith) k.result k.ensures.value k.ensures.table_after c.if-number-ne0.true).answers
+    c.refused-then-number-ne0.ensures
+    ∙ ap (refusedAnswer k.result.number k.result.part k.result.position)
+    (c.with_pair-refused.ensures ∙ ap (λ pair. withPair c.args.supplier pair c.args.tally) c.with_refused.ensures)
+    ∙ (call-refused c.args.job.now c.args.table.now c.args.supplier c.args.tally (omega arith) _ (omega arith) k.result k.ensures.value k.ensures.table_after c.if-number-ne0.true).answers
 
 pub returns-then-number-ne0-clause-table_after : goal.returns-then-number-ne0-clause-table_after
 returns-then-number-ne0-clause-table_after c =
     let k = c.read_job-read in
-    (call-refused c.args.job.now c.args.table.now _ c.args.tally (omega arith) k.result k.ensures.value k.ensures.table_after c.if-number-ne0.true).holds
+    (call-refused c.args.job.now c.args.table.now c.args.supplier c.args.tally (omega arith) _ (omega arith) k.result k.ensures.value k.ensures.table_after c.if-number-ne0.true).holds
 
 pub returns-clause-value : goal.returns-clause-value
 returns-clause-value c =
@@ -41,11 +55,11 @@ returns-clause-value c =
     let b : SFits w64 k.result.bound = search rules in
     let z : SFits w64 k.result.cost = search rules in
     let g : SFits w64 k.result.gap = search rules in
-    read_back k.result.bound k.result.cost k.result.gap c.with_accepted-next.result b z g
-    ∙ ap (filled k.result.bound k.result.cost k.result.gap) c.with_accepted-next.ensures
-    ∙ (call-accepted c.args.job.now c.args.table.now _ c.args.tally (omega arith) k.result k.ensures.value k.ensures.table_after c.if-number-ne0.false).answers
+    read_back k.result.bound k.result.cost k.result.gap c.with_pair-accepted.result b z g
+    ∙ ap (filled k.result.bound k.result.cost k.result.gap) (c.with_pair-accepted.ensures ∙ ap (λ pair. withPair c.args.supplier pair c.args.tally) c.with_accepted.ensures)
+    ∙ (call-accepted c.args.job.now c.args.table.now c.args.supplier c.args.tally (omega arith) _ (omega arith) k.result k.ensures.value k.ensures.table_after c.if-number-ne0.false).answers
 
 pub returns-clause-table_after : goal.returns-clause-table_after
 returns-clause-table_after c =
     let k = c.read_job-read in
-    (call-accepted c.args.job.now c.args.table.now _ c.args.tally (omega arith) k.result k.ensures.value k.ensures.table_after c.if-number-ne0.false).holds
+    (call-accepted c.args.job.now c.args.table.now c.args.supplier c.args.tally (omega arith) _ (omega arith) k.result k.ensures.value k.ensures.table_after c.if-number-ne0.false).holds

@@ -2,7 +2,7 @@
 use native.Mathlib.Omega.{arith}
 use borrow.Author.Tests.{lt-ltb, le-ltb}
 use Rattle.job.specs.Tally.{maxCount, raised}
-use Rattle.job.proofs.Tally.raised.Goals as goal
+use Rattle.job.proofs.Counters.raised.Goals as goal
 
 pub returns-then-count-lt-MAX_COUNT : goal.returns-then-count-lt-MAX_COUNT
 unfolding raised
