@@ -1,5 +1,5 @@
-// The example of the scope through include/feedcheck.h, every call, a register with windows, days of each length, and a register
-// with rows. Prints a line and exits 1 where an answer is another than the scope's.
+// The example of the scope through include/feedcheck.h, every call, a register with windows, days of each length, a register with
+// rows, and a tally of several suppliers. Prints a line and exits 1 where an answer is another than the scope's.
 #include <stddef.h>
 #include <stdio.h>
 #include <string.h>
@@ -87,6 +87,49 @@ static void try_rows(void) {
     expect("rows, search, limit passed", s.number == 14 && s.part == 0);
 }
 
+// Unequal counters; those of supplier 15 are at the top and one below it.
+static FeedcheckTally unequal(void) {
+    FeedcheckTally tally;
+    for (uint32_t k = 0; k < FEEDCHECK_SUPPLIERS; k++) {
+        tally.pairs[k].accepted = 1 + 2 * k;
+        tally.pairs[k].refused = 1000 - 2 * k;
+    }
+    tally.pairs[15].accepted = UINT32_MAX;
+    tally.pairs[15].refused = UINT32_MAX - 1;
+    return tally;
+}
+
+static int same_tally(FeedcheckTally a, FeedcheckTally b) {
+    return memcmp(&a, &b, sizeof a) == 0;
+}
+
+// The example, and the example cut off, of each supplier in turn; then suppliers that are not there, and short tables.
+static void try_suppliers(int64_t *table) {
+    const size_t enough = FEEDCHECK_TABLE_NUMBERS;
+    FeedcheckTally before = unequal(), tally = before;
+    for (uint8_t supplier = 0; supplier < FEEDCHECK_SUPPLIERS; supplier++) {
+        FeedcheckJobAnswer j = feedcheck_job(JOB, sizeof JOB, table, enough, supplier, tally);
+        before.pairs[supplier].accepted += supplier < 15;
+        expect("suppliers, accepted", j.number == 0 && j.gap == 0 && same_tally(j.tally, before));
+        j = feedcheck_job(JOB, sizeof JOB - 1, table, enough, supplier, j.tally);
+        before.pairs[supplier].refused += 1;
+        expect("suppliers, refused", j.number == 2 && j.part == 4 && j.position == 108 && same_tally(j.tally, before));
+        tally = j.tally;
+    }
+    table[0] = table[FEEDCHECK_TABLE_NUMBERS - 1] = 77;
+    for (int supplier = FEEDCHECK_SUPPLIERS; supplier <= 255; supplier++) {
+        for (size_t cut = 0; cut < 2; cut++) {
+            FeedcheckJobAnswer j = feedcheck_job(JOB, sizeof JOB - cut, table, enough - cut, (uint8_t)supplier, tally);
+            expect("suppliers, not there", j.number == 17 && j.part == 0 && j.position == 0 && j.bound == 0 && j.cost == 0 &&
+                                               j.gap == 0 && same_tally(j.tally, before));
+        }
+    }
+    FeedcheckJobAnswer j = feedcheck_job(JOB, sizeof JOB, table, enough - 1, 9, tally);
+    before.pairs[9].refused += 1;
+    expect("suppliers, short table", j.number == 11 && j.part == 0 && j.position == 0 && same_tally(j.tally, before));
+    expect("suppliers, table not written", table[0] == 77 && table[FEEDCHECK_TABLE_NUMBERS - 1] == 77);
+}
+
 int main(void) {
     static int64_t table[FEEDCHECK_TABLE_NUMBERS];
     uint8_t buffer[FEEDCHECK_MAX_LISTING];
@@ -140,14 +183,16 @@ int main(void) {
     expect("check, cut", k.number == 2 && k.part == 3 && k.position == 43);
     w = feedcheck_plain(JOB, REGISTER, scheme, SCHEME, buffer, sizeof buffer);
     expect("plain", w.number == 0 && w.count == CERTIFICATE && memcmp(buffer, certificate, CERTIFICATE) == 0);
-    FeedcheckTally tally = {4294967295u, 7};
-    FeedcheckJobAnswer j = feedcheck_job(JOB, sizeof JOB, table, FEEDCHECK_TABLE_NUMBERS, tally);
-    expect("job", j.number == 0 && j.bound == 0 && j.cost == 0 && j.gap == 0 && j.tally.accepted == 4294967295u &&
-                      j.tally.refused == 7);
+    FeedcheckTally tally = {{{4294967295u, 7}}};
+    FeedcheckJobAnswer j = feedcheck_job(JOB, sizeof JOB, table, FEEDCHECK_TABLE_NUMBERS, 0, tally);
+    expect("job", j.number == 0 && j.bound == 0 && j.cost == 0 && j.gap == 0 && same_tally(j.tally, tally));
+    try_suppliers(table);
+    // The places that docs/LINKING.md speaks of.
+    expect("tally", sizeof tally == 128 && sizeof j == 168 && offsetof(FeedcheckJobAnswer, tally) == 40);
     static const char LINES[] = "T 0 4 480\nT 1 4 720\nT 2 7 480\nF 4 480\nF 4 720\nB 0 0 0\n";
     w = feedcheck_listing(JOB, sizeof JOB, table, FEEDCHECK_TABLE_NUMBERS, buffer, sizeof buffer);
     expect("listing", w.number == 0 && w.count == strlen(LINES) && memcmp(buffer, LINES, w.count) == 0);
     if (!failed)
-        printf("header: the example, the windows, the days and the rows are answered as the scope says\n");
+        printf("header: the example, the windows, the days, the rows and the suppliers are answered as the scope says\n");
     return failed;
 }

@@ -7,7 +7,7 @@
 int main(int count, char **words) {
     static uint8_t job[FEEDCHECK_MAX_JOB_READ];
     static int64_t table[FEEDCHECK_TABLE_NUMBERS];
-    FeedcheckTally tally = {0, 0};
+    FeedcheckTally tally = {{{0, 0}}};
     FeedcheckJobAnswer answer;
     FILE *file = count == 2 ? fopen(words[1], "rb") : NULL;
     size_t length;
@@ -23,7 +23,7 @@ int main(int count, char **words) {
     }
     fclose(file);
 
-    answer = feedcheck_job(job, length, table, FEEDCHECK_TABLE_NUMBERS, tally);
+    answer = feedcheck_job(job, length, table, FEEDCHECK_TABLE_NUMBERS, 0, tally);
     if (answer.number != 0) {
         printf("refusal %d in part %d at byte %zu\n", answer.number, answer.part, answer.position);
         return 1;

@@ -4,12 +4,12 @@
  * A lent table or buffer overlaps nothing else that the call is given. A table has at least FEEDCHECK_TABLE_NUMBERS numbers; a
  * shorter one is refused 11 and left as it was, as is a buffer shorter than the bytes to be written.
  *
- * An answer's number is 0, or that of a refusal, 1 to 16; then part and position say which command is refused, and every other
+ * An answer's number is 0, or that of a refusal, 1 to 17; then part and position say which command is refused, and every other
  * field is 0 (a job's tally is carried on all the same). The numbers are explained in docs/REFUSALS.md.
  *
  * Each call stands in a static library of its own, target/staticlib/libNAME.a; the name is given beside each call.
- * tools/libraries makes all ten, tools/libraries NAME one. They can be linked together. include/example.c is a complete program,
- * and docs/LINKING.md has the commands. */
+ * tools/libraries makes all ten, tools/libraries NAME one. They can be linked together. include/example.c and include/suppliers.c
+ * are complete programs, and docs/LINKING.md has the commands. */
 #ifndef FEEDCHECK_H
 #define FEEDCHECK_H
 
@@ -37,6 +37,9 @@ enum {
     FEEDCHECK_MAX_JOB = 26037,      /* no job of more bytes is accepted */
     FEEDCHECK_MAX_JOB_READ = 26166  /* a longer job is answered as its first so many bytes are */
 };
+
+/* How many suppliers a tally counts apart; their numbers begin at 0. A macro, so that #ifdef tells headers without suppliers. */
+#define FEEDCHECK_SUPPLIERS 16
 
 /* day_length is FEEDCHECK_SHORT_DAY, FEEDCHECK_USUAL_DAY or FEEDCHECK_LONG_DAY, and 0 on a refusal; every minute is below it,
  * and no window ends after it.
@@ -67,9 +70,15 @@ typedef struct {
     uint8_t split_lefts[FEEDCHECK_MAX_TERMS], split_rights[FEEDCHECK_MAX_TERMS];
 } FeedcheckScheme;
 
-/* How many jobs were accepted and refused; each count stays at 4,294,967,295. */
+/* How many jobs of one supplier were accepted and refused; each count stays at 4,294,967,295. */
 typedef struct {
     uint32_t accepted, refused;
+} FeedcheckCounters;
+
+/* The counters of each supplier, by its number. A job moves one counter of its own supplier's pair; one that is refused 17 moves
+ * none. */
+typedef struct {
+    FeedcheckCounters pairs[FEEDCHECK_SUPPLIERS];
 } FeedcheckTally;
 
 typedef struct {
@@ -155,9 +164,11 @@ FeedcheckCheckAnswer feedcheck_check(const uint8_t *reg, size_t reg_length, cons
 FeedcheckWriterAnswer feedcheck_plain(const uint8_t *reg, size_t reg_length, const uint8_t *scheme, size_t scheme_length,
                                       uint8_t *buffer, size_t buffer_length);
 
-/* A whole job: the bound, the plan's cost, the gap, and the tally carried on. Refused 15 where its plan does not fit the rows.
- * libjob.a */
-FeedcheckJobAnswer feedcheck_job(const uint8_t *job, size_t job_length, int64_t *table, size_t table_length, FeedcheckTally tally);
+/* A whole job of this supplier: the bound, the plan's cost, the gap, and the tally carried on. Refused 15 where its plan does not
+ * fit the rows. Refused 17, with part and position 0, where the supplier is above 15; that comes before anything else, a short
+ * table too, and leaves the table as it was. libjob.a */
+FeedcheckJobAnswer feedcheck_job(const uint8_t *job, size_t job_length, int64_t *table, size_t table_length, uint8_t supplier,
+                                 FeedcheckTally tally);
 
 /* Writes the lines of a job; a refused job has one line, and is no refusal of this call. liblisting.a */
 FeedcheckWriterAnswer feedcheck_listing(const uint8_t *job, size_t job_length, int64_t *table, size_t table_length,

@@ -5,14 +5,16 @@
 //!
 //! The folders have jobs, `*.job`, of which a part of the inputs is made. Exit status 1: a difference, or a refusal number that
 //! the scope gives a call or a command and that no input led to, or a length of the day or a number of rows that no accepted
-//! register had, or no accepted certificate with `3B`.
+//! register had, or no accepted certificate with `3B`, or a supplier of whom no job was accepted or none refused, or something else
+//! that `report_suppliers` asks for.
 
 use compare::generate::{input, seed, Input, Whole};
 use compare::random::Random;
 use feedcheck::raw;
 use reference::register::{LONG_DAY, MAX_CHOICES, MAX_ROWS, SHORT_DAY, USUAL_DAY};
 use reference::search::Found;
-use reference::{Answer, Refusal};
+use reference::table::NUMBERS as TABLE_NUMBERS;
+use reference::{Answer, Counters, Refusal, Tally, SUPPLIERS};
 use std::collections::BTreeMap;
 
 /// Each call, with the refusal numbers that the scope gives it.
@@ -25,12 +27,12 @@ const CALLS: [(&str, &[u8]); 10] = [
     ("penalty", &[1, 2, 3, 4, 5, 6, 7, 8, 11, 12, 13]),
     ("check", &[1, 2, 3, 4, 5, 6, 7, 8, 9, 11, 12, 13]),
     ("plain", &[1, 2, 3, 4, 5, 6, 7, 8, 11, 12, 13]),
-    ("job", &[1, 2, 3, 4, 5, 6, 7, 8, 9, 11, 12, 13, 15]),
+    ("job", &[1, 2, 3, 4, 5, 6, 7, 8, 9, 11, 12, 13, 15, 17]),
     ("listing", &[11]),
 ];
 
-/// The numbers of an answer: 0, and the refusals 1 to 16.
-const NUMBERS: usize = 17;
+/// The numbers of an answer: 0, and the refusals 1 to 17.
+const NUMBERS: usize = 18;
 
 /// Each command, by its part and byte, with the refusal numbers that the scope gives it there; 1 where it stands out of place.
 const COMMANDS: [(u8, u8, &[u8]); 24] = [
@@ -63,6 +65,12 @@ const COMMANDS: [(u8, u8, &[u8]); 24] = [
 /// The lengths of the day, and whether `18` says them.
 const DAYS: [(u16, bool); 4] = [(USUAL_DAY, false), (SHORT_DAY, true), (USUAL_DAY, true), (LONG_DAY, true)];
 
+/// What a job refused 17 would be of a supplier that is there.
+const NOT_THERE: [&str; 3] = ["accepted otherwise", "refused otherwise", "lent a short table"];
+
+/// The jobs of a list that have one tally.
+const LIST: usize = 20;
+
 /// Numbers or bytes on either side of what is lent.
 const MARGIN: usize = 16;
 
@@ -81,6 +89,14 @@ struct Comparison {
     /// How many jobs were accepted that have rows, and how many certificates that have a `3B`.
     fitting: u64,
     row_forms: u64,
+    /// How many jobs of each supplier were accepted, and refused; and how many of all these left a counter at its limit.
+    suppliers: [[u64; 2]; SUPPLIERS],
+    at_limit: [u64; 2],
+    /// How many jobs were refused 17, by `NOT_THERE`.
+    not_there: [u64; 3],
+    /// The jobs of the next list, and how many lists there were.
+    jobs: Vec<Vec<u8>>,
+    lists: u64,
     /// What lent tables and buffers hold at first.
     contents: Vec<i64>,
 }
@@ -106,11 +122,26 @@ impl<T: Copy + PartialEq> Lent<T> {
     }
 }
 
+/// A job of a list, its supplier, and the table that it is lent.
+struct Listed {
+    job: Vec<u8>,
+    supplier: u8,
+    table: Vec<i64>,
+}
+
 impl Comparison {
-    fn table(&mut self) -> Lent<i64> {
+    fn table_length(&mut self) -> usize {
         let length =
             self.random.pick(&[4_225, 4_225, 4_225, 4_225, 4_225, 4_225, 4_225, 4_225, 4_225, 4_225, 4_226, 5_000, 4_224, 0]);
-        let length = if self.random.chance(1) { self.random.below(4_225) } else { length };
+        if self.random.chance(1) {
+            self.random.below(4_225)
+        } else {
+            length
+        }
+    }
+
+    fn table(&mut self) -> Lent<i64> {
+        let length = self.table_length();
         if self.random.chance(2) {
             let last = self.contents.len();
             let at = self.random.below(last);
@@ -182,6 +213,10 @@ impl Comparison {
             |buffer| reference::plain(part1, part2, buffer),
         );
         self.compare_job(input);
+        self.jobs.push(input.job.clone());
+        if self.jobs.len() == LIST {
+            self.compare_list();
+        }
         self.compare_listing(input);
     }
 
@@ -283,14 +318,32 @@ impl Comparison {
         self.row_forms += (refusal.number == 0 && has_row_form(part1, part2, part3)) as u64;
     }
 
+    /// A supplier, mostly one that is there.
+    fn supplier(&mut self) -> u8 {
+        let above = (SUPPLIERS + self.random.below(256 - SUPPLIERS)) as u8;
+        if self.random.chance(12) {
+            self.random.pick(&[16, 17, 31, 32, 128, 240, 255, above])
+        } else {
+            self.random.below(SUPPLIERS) as u8
+        }
+    }
+
+    /// Counters that differ, mostly; some are at their limit or one below it.
+    fn tally(&mut self) -> Tally {
+        let mut counter = || {
+            let any = self.random.below(1_000_000) as u32;
+            self.random.pick(&[0, any, any, u32::MAX - 1, u32::MAX])
+        };
+        std::array::from_fn(|_| Counters { accepted: counter(), refused: counter() })
+    }
+
     fn compare_job(&mut self, input: &Input) {
-        let few = self.random.below(1_000) as u32;
-        let (accepted, refused) =
-            (self.random.pick(&[0, few, u32::MAX - 1, u32::MAX]), self.random.pick(&[0, few, u32::MAX - 1, u32::MAX]));
+        let (supplier, before) = (self.supplier(), self.tally());
         let mut table = self.table();
         let (ours, theirs) = table.both();
-        let library = raw::job(&input.job, ours, raw::Tally { accepted, refused });
-        let (answer, tally) = reference::job(&input.job, theirs, reference::Tally { accepted, refused });
+        let length = theirs.len();
+        let library = raw::job(&input.job, ours, supplier, raw_tally(before));
+        let (answer, after) = reference::job(&input.job, theirs, supplier, before);
         let (refusal, outcome) = split(answer, reference::Outcome::default());
         let answer = raw::JobAnswer {
             number: refusal.number,
@@ -299,14 +352,63 @@ impl Comparison {
             bound: outcome.bound,
             cost: outcome.cost,
             gap: outcome.gap,
-            tally: raw::Tally { accepted: tally.accepted, refused: tally.refused },
+            tally: raw_tally(after),
         };
         if answer.number == 0 {
             let (register, _) = reference::register::read(&input.job).expect("the register of an accepted job");
             self.fitting += !register.rows.is_empty() as u64;
         }
+        self.count_supplier(&input.job, supplier, length, &before, answer.number);
         let same = library == answer && table.same();
-        self.count_answer("job", answer.number, same, input, || format!("{library:?} {answer:?} tables {}", table.same()));
+        self.count_answer("job", answer.number, same, input, || {
+            format!("supplier {supplier}, tally {before:?}: {library:?} {answer:?} tables {}", table.same())
+        });
+    }
+
+    /// Counts a job by its supplier, or by what it would be if its supplier were there.
+    fn count_supplier(&mut self, job: &[u8], supplier: u8, length: usize, before: &Tally, number: u8) {
+        let refused = (number != 0) as usize;
+        match before.get(supplier as usize) {
+            Some(pair) => {
+                self.suppliers[supplier as usize][refused] += 1;
+                self.at_limit[refused] += ([pair.accepted, pair.refused][refused] == u32::MAX) as u64;
+            }
+            None if length < TABLE_NUMBERS => self.not_there[2] += 1,
+            None => {
+                let (answer, _) = reference::job(job, &mut vec![0; length], 0, *before);
+                self.not_there[answer.is_err() as usize] += 1;
+            }
+        }
+    }
+
+    /// Jobs of at most four suppliers with one tally, on both sides. Then, by the library, the jobs of each supplier by themselves,
+    /// which must leave that supplier's pair as it was with the others; and from counters of 0 the sums over the suppliers must be
+    /// the counts of all jobs that are not refused 17.
+    fn compare_list(&mut self) {
+        let some: [u8; 4] = std::array::from_fn(|_| self.supplier());
+        let jobs = std::mem::take(&mut self.jobs).into_iter();
+        let list: Vec<Listed> = jobs
+            .map(|job| {
+                let length = self.table_length();
+                Listed { job, supplier: self.random.pick(&some), table: self.contents[..length].to_vec() }
+            })
+            .collect();
+        let start = if self.random.chance(50) { Tally::default() } else { self.tally() };
+        let (library, sums) = run_library(list.iter(), start);
+        let same = library == run_reference(list.iter(), start);
+        let alone = (0..SUPPLIERS).all(|k| {
+            let own = list.iter().filter(|listed| listed.supplier as usize == k);
+            run_library(own, start).0[k] == library[k]
+        });
+        let sum = |counter: fn(&Counters) -> u32| library.iter().map(|pair| counter(pair) as u64).sum::<u64>();
+        let summed = start != Tally::default() || [sum(|pair| pair.accepted), sum(|pair| pair.refused)] == sums;
+        self.lists += 1;
+        if !(same && alone && summed) {
+            self.differences += 1;
+            if self.differences <= 10 {
+                println!("difference in the {LIST} jobs up to input {}: same {same}, alone {alone}, sums {summed}", self.inputs);
+            }
+        }
     }
 
     fn compare_listing(&mut self, input: &Input) {
@@ -352,7 +454,7 @@ impl Comparison {
             missing += (count == 0) as usize;
         }
         println!("accepted jobs with rows: {}; accepted certificates with 3B: {}", self.fitting, self.row_forms);
-        missing += (self.fitting == 0) as usize + (self.row_forms == 0) as usize;
+        missing += (self.fitting == 0) as usize + (self.row_forms == 0) as usize + self.report_suppliers();
         println!("commands refused by the check, and those of part 4 by the cost (--: no byte there, or bytes after the end)");
         for ((part, byte), numbers) in &self.commands {
             let byte = byte.map_or("--".to_string(), |byte| format!("{byte:02X}"));
@@ -372,6 +474,44 @@ impl Comparison {
         }
         missing
     }
+
+    /// Prints what was counted of suppliers; how much of it did not occur.
+    fn report_suppliers(&self) -> usize {
+        let none = |counts: &[u64]| counts.iter().filter(|&&count| count == 0).count();
+        println!("jobs accepted and refused, by the supplier");
+        for (supplier, [accepted, refused]) in self.suppliers.iter().enumerate() {
+            println!("{supplier}: {accepted} {refused}");
+        }
+        println!("of these with a counter that stayed at its limit: {} {}", self.at_limit[0], self.at_limit[1]);
+        for (kind, count) in NOT_THERE.iter().zip(self.not_there) {
+            println!("jobs refused 17, {kind}: {count}");
+        }
+        println!("lists of {LIST} jobs with one tally: {}", self.lists);
+        none(self.suppliers.as_flattened()) + none(&self.at_limit) + none(&self.not_there) + none(&[self.lists])
+    }
+}
+
+fn raw_tally(tally: Tally) -> raw::Tally {
+    raw::Tally { pairs: tally.map(|Counters { accepted, refused }| raw::Counters { accepted, refused }) }
+}
+
+/// The tally that the library leaves after the jobs, and how many it accepted, and refused otherwise than 17.
+fn run_library<'a>(list: impl Iterator<Item = &'a Listed>, start: Tally) -> (Tally, [u64; 2]) {
+    let (mut tally, mut counts) = (raw_tally(start), [0; 2]);
+    for Listed { job, supplier, table } in list {
+        let answer = raw::job(job, &mut table.clone(), *supplier, tally);
+        tally = answer.tally;
+        match answer.number {
+            0 => counts[0] += 1,
+            17 => {}
+            _ => counts[1] += 1,
+        }
+    }
+    (tally.pairs.map(|raw::Counters { accepted, refused }| Counters { accepted, refused }), counts)
+}
+
+fn run_reference<'a>(list: impl Iterator<Item = &'a Listed>, start: Tally) -> Tally {
+    list.fold(start, |tally, Listed { job, supplier, table }| reference::job(job, &mut table.clone(), *supplier, tally).1)
 }
 
 fn hexadecimal(bytes: &[u8]) -> String {
@@ -493,6 +633,11 @@ fn main() {
         rows: [0; MAX_ROWS + 1],
         fitting: 0,
         row_forms: 0,
+        suppliers: [[0; 2]; SUPPLIERS],
+        at_limit: [0; 2],
+        not_there: [0; 3],
+        jobs: Vec::new(),
+        lists: 0,
         contents,
     };
     let mut random = Random(start ^ 0x5EED);

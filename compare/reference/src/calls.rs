@@ -26,15 +26,25 @@ impl Refusal {
 
     /// Refusal 16, likewise.
     const NONE_FITS: Refusal = Refusal { number: 16, part: 0, position: 0 };
+
+    /// Refusal 17, likewise.
+    const NO_SUPPLIER: Refusal = Refusal { number: 17, part: 0, position: 0 };
 }
 
 pub type Answer<T> = Result<T, Refusal>;
 
+/// The count of supplier numbers, which begin at 0.
+pub const SUPPLIERS: usize = 16;
+
+/// A supplier's accepted and refused jobs.
 #[derive(Clone, Copy, Debug, Default, PartialEq, Eq)]
-pub struct Tally {
+pub struct Counters {
     pub accepted: u32,
     pub refused: u32,
 }
+
+/// The counters of each supplier, by its number.
+pub type Tally = [Counters; SUPPLIERS];
 
 #[derive(Clone, Copy, Debug, Default, PartialEq, Eq)]
 pub struct Outcome {
@@ -111,13 +121,13 @@ pub fn plain(part1: &[u8], part2: &[u8], buffer: &mut [u8]) -> Answer<usize> {
     write(&own::certificate(&register, &scheme).bytes(), buffer)
 }
 
-pub fn job(bytes: &[u8], lent: &mut [i64], tally: Tally) -> (Answer<Outcome>, Tally) {
-    let answer = whole_job(bytes, lent).map(|(outcome, _, _)| outcome);
-    let Tally { accepted, refused } = tally;
-    let tally = match answer {
-        Ok(_) => Tally { accepted: accepted.saturating_add(1), refused },
-        Err(_) => Tally { accepted, refused: refused.saturating_add(1) },
+pub fn job(bytes: &[u8], lent: &mut [i64], supplier: u8, mut tally: Tally) -> (Answer<Outcome>, Tally) {
+    let Some(Counters { accepted, refused }) = tally.get_mut(supplier as usize) else {
+        return (Err(Refusal::NO_SUPPLIER), tally);
     };
+    let answer = whole_job(bytes, lent).map(|(outcome, _, _)| outcome);
+    let counter = if answer.is_ok() { accepted } else { refused };
+    *counter = counter.saturating_add(1);
     (answer, tally)
 }
 

@@ -4,7 +4,7 @@
 //! A line of a vector file: name, what is given, what is expected, separated by spaces; a table of 77 and a buffer of AA are lent.
 
 use reference::register::Row;
-use reference::{Answer, Refusal, Tally};
+use reference::{Answer, Counters, Refusal, SUPPLIERS};
 use std::fs;
 use std::path::PathBuf;
 
@@ -188,11 +188,18 @@ fn job() {
     each("job.txt", |f| {
         let job = f.bytes();
         let mut table = vec![77; f.number() as usize];
-        let tally = Tally { accepted: f.number() as u32, refused: f.number() as u32 };
-        let (answer, tally) = reference::job(&job, &mut table, tally);
+        let supplier = f.number() as u8;
+        // Every pair before the call; the expected pair of a supplier that is not there is the same again.
+        let pair = Counters { accepted: f.number() as u32, refused: f.number() as u32 };
+        let (answer, tally) = reference::job(&job, &mut table, supplier, [pair; SUPPLIERS]);
         let (refusal, outcome) = split(answer);
-        let values = [outcome.bound, outcome.cost, outcome.gap, tally.accepted as i64, tally.refused as i64];
-        refusal == f.refusal() && values.iter().all(|&value| value == f.number()) && f.table(&table)
+        let Counters { accepted, refused } = tally.get(supplier as usize).copied().unwrap_or(pair);
+        let moved: Vec<usize> = (0..SUPPLIERS).filter(|&k| tally[k] != pair).collect();
+        let values = [outcome.bound, outcome.cost, outcome.gap, accepted as i64, refused as i64, moved.len() as i64];
+        refusal == f.refusal()
+            && values.iter().all(|&value| value == f.number())
+            && f.table(&table)
+            && moved.iter().all(|&k| k == supplier as usize)
     });
 }
 

@@ -10,7 +10,7 @@
 
 pub mod raw;
 
-pub use raw::{Register, Scheme, Tally};
+pub use raw::{Counters, Register, Scheme, Tally};
 
 /// The most choices of a register.
 pub const MAX_CHOICES: usize = 32;
@@ -38,6 +38,9 @@ pub const LONG_DAY: u16 = 1_500;
 
 /// The most products of a scheme.
 pub const MAX_PRODUCTS: usize = 32;
+
+/// How many suppliers a tally counts apart. Their numbers begin at 0.
+pub const SUPPLIERS: usize = 16;
 
 /// How many numbers a lent table must have.
 pub const TABLE_NUMBERS: usize = 4_225;
@@ -96,6 +99,7 @@ impl Refusal {
             14 => "the search takes more visits than its limit",
             15 => "the plan does not fit the rows",
             16 => "no plan fits the rows",
+            17 => "a supplier number is above 15",
             _ => "no refusal",
         }
     }
@@ -180,9 +184,11 @@ pub fn plain(register: &[u8], scheme: &[u8], buffer: &mut [u8]) -> Result<usize,
     result(answer.number, answer.part, answer.position, answer.count)
 }
 
-/// A whole job, and its tally moved on. Refused 15 where its plan does not fit the register's rows.
-pub fn job(job: &[u8], table: &mut [i64], tally: &mut Tally) -> Result<Outcome, Refusal> {
-    let answer = raw::job(job, table, *tally);
+/// A whole job of this supplier, 0 to 15, and the supplier's pair of the tally moved on; every other pair stays. Refused 15 where
+/// the plan does not fit the register's rows. Refused 17, before anything else, where there is no such supplier; tally and table
+/// then stay as they were.
+pub fn job(job: &[u8], table: &mut [i64], supplier: u8, tally: &mut Tally) -> Result<Outcome, Refusal> {
+    let answer = raw::job(job, table, supplier, *tally);
     *tally = answer.tally;
     let outcome = Outcome { bound: answer.bound, cost: answer.cost, gap: answer.gap };
     result(answer.number, answer.part, answer.position, outcome)

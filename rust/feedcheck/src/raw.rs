@@ -2,7 +2,7 @@
 //!
 //! A Rust slice's pointer is never null and is aligned, and a lent slice overlaps nothing else, which is all that the calls ask.
 
-use crate::{MAX_CHOICES, MAX_PRODUCTS, MAX_ROWS, MAX_TERMS, MAX_WINDOWS, ROW_ENTRIES};
+use crate::{MAX_CHOICES, MAX_PRODUCTS, MAX_ROWS, MAX_TERMS, MAX_WINDOWS, ROW_ENTRIES, SUPPLIERS};
 
 /// The record of a register. Its day_length is SHORT_DAY, USUAL_DAY or LONG_DAY, and 0 on a refusal; every minute is below
 /// it, and no window ends after it.
@@ -45,12 +45,20 @@ pub struct Scheme {
     pub split_rights: [u8; MAX_TERMS],
 }
 
-/// How many jobs were accepted and refused; each count stays at 4,294,967,295.
+/// How many jobs of one supplier were accepted and refused; each count stays at 4,294,967,295.
+#[derive(Clone, Copy, Debug, Default, PartialEq, Eq)]
+#[repr(C)]
+pub struct Counters {
+    pub accepted: u32,
+    pub refused: u32,
+}
+
+/// The counters of each supplier, by its number. A job moves one counter of its own supplier's pair; one that is refused 17 moves
+/// none.
 #[derive(Clone, Copy, Debug, Default, PartialEq, Eq)]
 #[repr(C)]
 pub struct Tally {
-    pub accepted: u32,
-    pub refused: u32,
+    pub pairs: [Counters; SUPPLIERS],
 }
 
 #[derive(Clone, Copy, Debug, PartialEq, Eq)]
@@ -176,7 +184,14 @@ mod linked {
             buffer: *mut u8,
             buffer_length: usize,
         ) -> WriterAnswer;
-        pub fn feedcheck_job(job: *const u8, job_length: usize, table: *mut i64, table_length: usize, tally: Tally) -> JobAnswer;
+        pub fn feedcheck_job(
+            job: *const u8,
+            job_length: usize,
+            table: *mut i64,
+            table_length: usize,
+            supplier: u8,
+            tally: Tally,
+        ) -> JobAnswer;
         pub fn feedcheck_listing(
             job: *const u8,
             job_length: usize,
@@ -249,8 +264,8 @@ pub fn plain(register: &[u8], scheme: &[u8], buffer: &mut [u8]) -> WriterAnswer 
     }
 }
 
-pub fn job(job: &[u8], table: &mut [i64], tally: Tally) -> JobAnswer {
-    unsafe { linked::feedcheck_job(job.as_ptr(), job.len(), table.as_mut_ptr(), table.len(), tally) }
+pub fn job(job: &[u8], table: &mut [i64], supplier: u8, tally: Tally) -> JobAnswer {
+    unsafe { linked::feedcheck_job(job.as_ptr(), job.len(), table.as_mut_ptr(), table.len(), supplier, tally) }
 }
 
 pub fn listing(job: &[u8], table: &mut [i64], buffer: &mut [u8]) -> WriterAnswer {

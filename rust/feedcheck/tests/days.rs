@@ -150,7 +150,7 @@ fn longest() {
     assert_eq!((record.rows, record.terms), (8, 256));
     let mut table = vec![0; feedcheck::TABLE_NUMBERS];
     let mut refused = |job: &[u8]| {
-        let refusal = feedcheck::job(job, &mut table, &mut feedcheck::Tally::default()).unwrap_err();
+        let refusal = feedcheck::job(job, &mut table, 0, &mut feedcheck::Tally::default()).unwrap_err();
         (refusal.number, refusal.part, refusal.position)
     };
     // Right up to `3F`, where R falls short.

@@ -99,11 +99,11 @@ fn whole() -> Vec<u8> {
 #[test]
 fn job() {
     let mut table = vec![0; feedcheck::TABLE_NUMBERS];
-    let mut tally = feedcheck::Tally { accepted: u32::MAX, refused: 0 };
-    assert_eq!(feedcheck::job(&whole(), &mut table, &mut tally), Ok(feedcheck::Outcome { bound: 0, cost: 0, gap: 0 }));
-    let refusal = feedcheck::job(&[whole(), vec![0]].concat(), &mut table, &mut tally).unwrap_err();
+    let mut tally = feedcheck::Tally::default();
+    assert_eq!(feedcheck::job(&whole(), &mut table, 0, &mut tally), Ok(feedcheck::Outcome { bound: 0, cost: 0, gap: 0 }));
+    let refusal = feedcheck::job(&[whole(), vec![0]].concat(), &mut table, 0, &mut tally).unwrap_err();
     assert_eq!((refusal.number, refusal.part, refusal.position), (12, 4, 113));
-    assert_eq!(tally, feedcheck::Tally { accepted: u32::MAX, refused: 1 });
+    assert_eq!(tally.pairs[0], feedcheck::Counters { accepted: 1, refused: 1 });
 }
 
 #[test]

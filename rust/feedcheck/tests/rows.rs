@@ -202,11 +202,11 @@ fn rows_not_looked_at() {
 fn jobs() {
     let mut table = vec![0; feedcheck::TABLE_NUMBERS];
     let mut tally = feedcheck::Tally::default();
-    let outcome = feedcheck::job(&job(0b10011), &mut table, &mut tally);
+    let outcome = feedcheck::job(&job(0b10011), &mut table, 0, &mut tally);
     assert_eq!(outcome, Ok(feedcheck::Outcome { bound: 10, cost: 10, gap: 0 }));
-    assert_eq!(refused(feedcheck::job(&job(0b10001), &mut table, &mut tally)), (15, 4, 347));
-    assert_eq!(refused(feedcheck::job(&[job(0b10001), vec![0]].concat(), &mut table, &mut tally)), (15, 4, 347));
-    assert_eq!(tally, feedcheck::Tally { accepted: 1, refused: 2 });
+    assert_eq!(refused(feedcheck::job(&job(0b10001), &mut table, 0, &mut tally)), (15, 4, 347));
+    assert_eq!(refused(feedcheck::job(&[job(0b10001), vec![0]].concat(), &mut table, 0, &mut tally)), (15, 4, 347));
+    assert_eq!(tally.pairs[0], feedcheck::Counters { accepted: 1, refused: 2 });
 
     let mut buffer = [0; feedcheck::MAX_LISTING];
     let mut listed = |job: &[u8]| {

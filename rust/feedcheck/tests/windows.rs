@@ -101,11 +101,11 @@ fn job(register: &[u8]) -> Vec<u8> {
 fn jobs() {
     let (mut table, mut buffer) = (vec![0; feedcheck::TABLE_NUMBERS], [0; feedcheck::MAX_LISTING]);
     let mut tally = feedcheck::Tally::default();
-    let outcome = feedcheck::job(&job(&REGISTER), &mut table, &mut tally);
+    let outcome = feedcheck::job(&job(&REGISTER), &mut table, 0, &mut tally);
     assert_eq!(outcome, Ok(feedcheck::Outcome { bound: 10, cost: 10, gap: 0 }));
-    let refusal = feedcheck::job(&job(&with(&[(8, 0xE1)])), &mut table, &mut tally).unwrap_err();
+    let refusal = feedcheck::job(&job(&with(&[(8, 0xE1)])), &mut table, 0, &mut tally).unwrap_err();
     assert_eq!((refusal.number, refusal.part, refusal.position), (13, 1, 26));
-    assert_eq!(tally, feedcheck::Tally { accepted: 1, refused: 1 });
+    assert_eq!(tally.pairs[0], feedcheck::Counters { accepted: 1, refused: 1 });
 
     let count = feedcheck::listing(&job(&REGISTER), &mut table, &mut buffer).unwrap();
     assert_eq!(&buffer[..count], b"T 0 4 480\nT 1 4 720\nT 2 7 480\nF 4 480\nF 7 480\nB 10 10 0\n");
