@@ -6,7 +6,6 @@ use mathlib.Core.Bool.{Bool, true, false, cond}
 use mathlib.Core.List.{List, [], ◌∷◌, ◌++◌, append-nil}
 use native.Mathlib.Nat.{zero-add}
 use native.Mathlib.Omega.{arith}
-use native.Mathlib.Decide.{dec_lt}
 use lib.Dec.{ltb}
 use lib.IntN.{ℤ}
 use lib.ListN.{length, take, drop, length-drop, take-append-drop}
@@ -45,7 +44,7 @@ use Rattle.job.specs.Tally.{suppliers, withAccepted, moved}
 use Rattle.job.specs.Answer.{acceptedAnswer, afterJob, jobAnswer}
 use Rattle.job.specs.Valid.{Valid, Encodes}
 use Rattle.job.proofs.Sound.{Sound, outcome-sound, accepts-at, accepted-valid}
-use Rattle.job.proofs.Suppliers.{unknown, table-short, table-enough}
+use Rattle.job.proofs.Suppliers.{table-enough, of-three}
 use Rattle.wire.proofs.Encoding.{after_first}
 use Rattle.wire.proofs.Fronts.{front-whole}
 
@@ -204,19 +203,15 @@ module _ (s : List ℕ) (lent : List ℤ) (supplier : ℕ) (tally : Tally) where
     pub answers : jobAnswer s lent supplier tally ≡ acceptedAnswer parts_are (moved withAccepted supplier tally)
 
   pub answered : (jobAnswer s lent supplier tally).number ≡ 0 → Answered
-  answered h = by (dec_lt supplier suppliers) (dec_lt (length lent) tableNumbers)
+  answered h = of-three s lent supplier tally (λ a. jobAnswer s lent supplier tally ≡ a → Answered)
+      (λ l e. absurd (omega (arith, number e))) (λ l m e. absurd (omega (arith, number e))) (go (outcome s) refl (outcome-sound s)) refl
     where
       number : {a : JobAnswer} → jobAnswer s lent supplier tally ≡ a → a.number ≡ 0
       number e = sym (ap (λ (a : JobAnswer). a.number) e) ∙ h
 
       go : (x : Outcome Parts) → outcome s ≡ x → Sound x → supplier < suppliers → tableNumbers ≤ length lent → jobAnswer s lent supplier tally ≡ afterJob x supplier tally → Answered
-      go (refuses n part at) e d u l a = absurd (d (number a))
-      go (accepts p) e d u l a = record { parts_are = p; there = u; long = l; leads = e; answers = a }
-
-      by : Dec (supplier < suppliers) → Dec (length lent < tableNumbers) → Answered
-      by (no n) m = absurd (omega (arith, number (unknown s lent supplier tally (omega arith)).0))
-      by (yes u) (yes m) = absurd (omega (arith, number (table-short s lent supplier tally u m).0))
-      by (yes u) (no m) = go (outcome s) refl (outcome-sound s) u (omega arith) (table-enough s lent supplier tally u (omega arith)).0
+      go (refuses n part at) e d l m a = absurd (d (number a))
+      go (accepts p) e d l m a = record { parts_are = p; there = l; long = m; leads = e; answers = a }
 
 pub accepted-answer : (s : List ℕ) → Bytes s → (lent : List ℤ) (supplier : ℕ) (tally : Tally) → (jobAnswer s lent supplier tally).number ≡ 0 →
     (p : Parts) × ((jobAnswer s lent supplier tally ≡ acceptedAnswer p (moved withAccepted supplier tally)) × (Valid p × Encodes p s))

@@ -1,11 +1,9 @@
 -- The call by its supplier: with a number above 15 nothing moves, else that supplier's pair does, by what the job comes to.
 use Prim.Native.Nat.{ℕ, ◌≤◌, ◌<◌}
-use mathlib.Core.Path.{◌≡◌, refl, ◌∙◌, ap}
-use mathlib.Core.Bool.{Bool, true, false, cond}
+use mathlib.Core.Path.{◌≡◌, refl, sym, ◌∙◌, ap, subst}
 use mathlib.Core.List.{List}
 use native.Mathlib.Omega.{arith}
 use native.Mathlib.Decide.{dec_lt}
-use lib.Dec.{ltb}
 use lib.IntN.{ℤ}
 use lib.ListN.{length, get_or, length-set}
 use lib.Seq.{get_or-set_same, get_or-set_other}
@@ -61,6 +59,17 @@ module _ (job : List ℕ) (lent : List ℤ) (supplier : ℕ) (tally : Tally) whe
       let e = le-ltb (length lent) tableNumbers m in
       (rw (a, e), rw (t, e))
 
+  -- so what holds of the three answers holds of the call's
+  pub of-three : (P : JobAnswer → Type 0) → (suppliers ≤ supplier → P (refusedAnswer 17 0 0 tally)) →
+      (supplier < suppliers → length lent < tableNumbers → P (refusedAnswer 11 0 0 (moved withRefused supplier tally))) →
+      (supplier < suppliers → tableNumbers ≤ length lent → P (afterJob (outcome job) supplier tally)) → P answer
+  of-three P none short long = by (dec_lt supplier suppliers) (dec_lt (length lent) tableNumbers)
+    where
+      by : Dec (supplier < suppliers) → Dec (length lent < tableNumbers) → P answer
+      by (no n) m = subst P (sym (unknown (omega arith)).0) (none (omega arith))
+      by (yes l) (yes m) = subst P (sym (table-short l m).0) (short l m)
+      by (yes l) (no m) = subst P (sym (table-enough l (omega arith)).0) (long l (omega arith))
+
   pub tally-moved : supplier < suppliers → answer.tally ≡ moved (pairAfter (outcomeWith job lent)) supplier tally
   tally-moved l = ap (λ (a : JobAnswer). a.tally) (known l).0 ∙ tally-after (outcomeWith job lent) supplier tally
 
@@ -80,16 +89,11 @@ module _ (job : List ℕ) (lent : List ℤ) (supplier : ℕ) (tally : Tally) whe
       by (yes l) = ap (λ (t : Tally). length t.pairs) (tally-moved l) ∙ length-set tally.pairs supplier _
       by (no n) = ap (λ (a : JobAnswer). length a.tally.pairs) (unknown (omega arith)).0
 
--- ---- numbers
-
--- a job of a supplier that there is has another number than 17
-pub below-17 : (job : List ℕ) (lent : List ℤ) (supplier : ℕ) (tally : Tally) → supplier < suppliers → (jobAnswer job lent supplier tally).number < 17
-below-17 job lent supplier tally l = rw (known job lent supplier tally l).0 (by (ltb (length lent) tableNumbers))
+-- 17 is the answer where there is no such supplier, and nowhere else
+pub only-17 : (job : List ℕ) (lent : List ℤ) (supplier : ℕ) (tally : Tally) → (jobAnswer job lent supplier tally).number ≡ 17 → suppliers ≤ supplier
+only-17 job lent supplier tally =
+    of-three job lent supplier tally (λ a. a.number ≡ 17 → suppliers ≤ supplier) (λ l e. l) (λ l m e. absurd (omega arith)) (λ l m. below (outcome job) (outcome-ranged job))
   where
-    of : (x : Outcome Parts) → Ranged jobReach x → (afterJob x supplier tally).number < 17
-    of (refuses number part at) h = omega (arith, h.0)
-    of (accepts p) h = omega arith
-
-    by : (short : Bool) → (afterJob (cond short (refuses 11 0 0) (outcome job)) supplier tally).number < 17
-    by true = omega arith
-    by false = of (outcome job) (outcome-ranged job)
+    below : (x : Outcome Parts) → Ranged jobReach x → (afterJob x supplier tally).number ≡ 17 → suppliers ≤ supplier
+    below (refuses number part at) h e = absurd (omega (arith, h.0, e))
+    below (accepts p) h e = absurd (omega arith)

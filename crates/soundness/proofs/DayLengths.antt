@@ -1,7 +1,6 @@
 -- The day's length, of our calls.
 use Prim.Native.Nat.{ℕ, ◌+◌, ◌^◌, ◌<◌, ◌≤◌}
 use native.Mathlib.Omega.{arith}
-use native.Mathlib.Decide.{dec_lt}
 use mathlib.Core.Path.{◌≡◌, refl, sym, ◌∙◌, ap, subst}
 use mathlib.Core.Logic.{inl, inr}
 use mathlib.Core.Bool.{Bool, true, false, cond}
@@ -16,7 +15,6 @@ use Rattle.wire.specs.Rows.{Progress}
 use Rattle.wire.specs.Outcome.{Outcome, refuses, accepts, next, and_then, startingAt, addedBy}
 use Rattle.wire.proofs.Encoding.{byItself-accepted}
 use Rattle.wire.proofs.Outcome.{next-by, next-at, itself-refused, refused-itself}
-use Rattle.forms.specs.Table.{tableNumbers}
 use Rattle.register.specs.declared.Register.{Register}
 use Rattle.register.specs.Limits.{maxBase, maxTank, usualDay, longDay}
 use Rattle.register.specs.Register.{tank, minute, coefficient, fresh, setLength, withBase, withLength, withChoice}
@@ -39,10 +37,8 @@ use Rattle.plan.specs.Format.{planInJob}
 use Rattle.job.specs.declared.Tally.{Tally}
 use Rattle.job.specs.Outcome.{Parts, ofRegister, withScheme, withCertificate, withPlan, JobPart, partThree, partFour, in_turn, ended, outcome}
 use Rattle.job.specs.Rest.{rest, fromScheme}
-use Rattle.job.specs.declared.JobAnswer.{JobAnswer}
-use Rattle.job.specs.Tally.{suppliers}
 use Rattle.job.specs.Answer.{afterJob, jobAnswer}
-use Rattle.job.proofs.Suppliers.{unknown, table-short, table-enough}
+use Rattle.job.proofs.Suppliers.{of-three}
 use Rattle.soundness.specs.Calls.{registerCall, costCall, jobCall, listingCall}
 use Rattle.soundness.specs.Jobs.{Accepted}
 use Rattle.soundness.specs.DayLengths.{OfDay, KeepsLength, FeedsOfDay, JobOfDay, UsualDay, ValidBeforeLengths, bytesBeforeLengths, LengthsKept, AsBeforeLengths}
@@ -218,24 +214,13 @@ register-refused s z =
     out_of_range s (registerCall s).position (refused-itself s (registerInJob s) (λ n. omega arith) (e ∙ ap (λ n. refused n (registerCall s).position) z))
 
 job-refused : (job : List ℕ) (table : List ℤ) (supplier : ℕ) (tally : Tally) → (jobAnswer job table supplier tally).number ≡ 4 → (jobAnswer job table supplier tally).part ≡ 1 → OutOfRange job (jobAnswer job table supplier tally).position
-job-refused job table supplier tally z one = by (dec_lt supplier suppliers) (dec_lt (length table) tableNumbers)
+job-refused job table supplier tally =
+    of-three job table supplier tally (λ a. a.number ≡ 4 → a.part ≡ 1 → OutOfRange job a.position)
+    (λ l z one. absurd (omega arith)) (λ l m z one. absurd (omega arith)) (λ l m. go (outcome job) refl)
   where
-    answer : JobAnswer
-    answer = jobAnswer job table supplier tally
-
-    other : {a : JobAnswer} → answer ≡ a → (a.number ≡ 4 → ⊥) → OutOfRange job answer.position
-    other e n = absurd (n (ap (λ (a : JobAnswer). a.number) (sym e) ∙ z))
-
-    go : (x : Outcome Parts) → outcome job ≡ x → answer ≡ afterJob x supplier tally → OutOfRange job answer.position
-    go (refuses n part at) e a =
-        let f : First job (SaidBy job) (refuses n part at) = rw e at (first-said job) in
-        rw a (out_of_range job at (f (rw a at one) ∙ ap (λ n. refused n at) (rw a at z)))
-    go (accepts p) e a = other a (λ z. absurd (omega arith))
-
-    by : Dec (supplier < suppliers) → Dec (length table < tableNumbers) → OutOfRange job answer.position
-    by (no n) m = other (unknown job table supplier tally (omega arith)).0 (λ z. absurd (omega arith))
-    by (yes k) (yes l) = other (table-short job table supplier tally k l).0 (λ z. absurd (omega arith))
-    by (yes k) (no n) = go (outcome job) refl (table-enough job table supplier tally k (omega arith)).0
+    go : (x : Outcome Parts) → outcome job ≡ x → let a = afterJob x supplier tally in a.number ≡ 4 → a.part ≡ 1 → OutOfRange job a.position
+    go (refuses n part at) e z one = let f : First job (SaidBy job) (refuses n part at) = rw e at (first-said job) in out_of_range job at (f one ∙ ap (λ n. refused n at) z)
+    go (accepts p) e z one = absurd (omega arith)
 
 -- ---- each minute of each day
 

@@ -2,7 +2,6 @@
 use Prim.Native.Nat.{ℕ, ◌+◌, ◌-◌, ◌^◌, ◌≤◌, ◌<◌}
 use native.Mathlib.Nat.{zero-add, add-zero}
 use native.Mathlib.Omega.{arith}
-use native.Mathlib.Decide.{dec_lt}
 use mathlib.Core.Path.{◌≡◌, refl, sym, ◌∙◌, ap, subst}
 use mathlib.Core.Logic.{◌⊎◌, inl, inr}
 use mathlib.Core.Bool.{true, true≢false}
@@ -54,7 +53,7 @@ use Rattle.job.specs.Tally.{suppliers}
 use Rattle.job.specs.Outcome.{outcome}
 use Rattle.job.specs.Rest.{fromPlan, fromCertificate, fromScheme}
 use Rattle.job.specs.Answer.{jobAnswer}
-use Rattle.job.proofs.Suppliers.{unknown, table-enough}
+use Rattle.job.proofs.Suppliers.{table-enough, of-three}
 use Rattle.soundness.specs.Calls.{costCall, jobCall}
 use Rattle.soundness.specs.Parts.{Part1}
 use Rattle.soundness.specs.Refusals.{InRegister, InPlan, FromRegister, FromScheme, FromCertificate, FromPlan}
@@ -316,11 +315,7 @@ only-misfit-in-job s table supplier tally b l e = go (job-refusals.refused s b t
     after = (jobCall s table supplier tally).1
 
     known : supplier < suppliers
-    known = by (dec_lt supplier suppliers)
-      where
-        by : Dec (supplier < suppliers) → supplier < suppliers
-        by (yes k) = k
-        by (no n) = absurd (omega (arith, e, ap (λ (a : JobAnswer). a.number) (unknown s table supplier tally (omega arith)).0))
+    known = of-three s table supplier tally (λ a. a.number ≡ 15 → supplier < suppliers) (λ l z. absurd (omega arith)) (λ l m z. l) (λ l m z. l) e
 
     front-bytes : (front rest : List ℕ) → s ≡ front ++ rest → Bytes rest
     front-bytes front rest q = subst Bytes (ap (drop (length front)) q ∙ drop_at front rest (length front) refl) (bytes_drop (length front) s b)

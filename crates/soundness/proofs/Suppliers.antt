@@ -1,11 +1,14 @@
 -- The promises on tallies by supplier hold of our job call.
 use Prim.Native.Nat.{ℕ, suc, ◌+◌, ◌≤◌, ◌<◌}
-use mathlib.Core.Path.{◌≡◌, refl, sym, ◌∙◌, ap, subst}
+use mathlib.Core.Path.{◌≡◌, refl, sym, ◌∙◌, ap, ap₂, subst}
 use mathlib.Core.List.{List, [], ◌∷◌}
 use native.Mathlib.Omega.{arith}
 use native.Mathlib.Decide.{ℕ_discrete, dec_lt}
 use lib.IntN.{ℤ}
-use lib.ListN.{length}
+use lib.ListN.{length, get_or}
+use lib.Dec.{ltb, eqb}
+use Rattle.integers.proofs.Lists.{flag}
+use mathlib.Core.Bool.{cond, ◌&&◌}
 use borrow.Author.Tests.{eq-eqb, ne_eqb, lt-ltb, le-ltb}
 use Rattle.std.specs.Prelude.{sum_by}
 use Rattle.std.proofs.lemmas.List.Sums.{sum_by-set, get_or-le-sum_by}
@@ -27,13 +30,6 @@ use Rattle.soundness.specs.Suppliers.{Sent, own, answerTo, after, not17, afterBe
 
 -- ---- one call
 
-only-17 : (job : List ℕ) (table : List ℤ) (supplier : ℕ) (tally : Tally) → (jobAnswer job table supplier tally).number ≡ 17 → suppliers ≤ supplier
-only-17 job table supplier tally e = by (dec_lt supplier suppliers)
-  where
-    by : Dec (supplier < suppliers) → suppliers ≤ supplier
-    by (yes l) = absurd (omega (arith, e, Job.below-17 job table supplier tally l))
-    by (no n) = omega arith
-
 -- all that an answer says beside the tally
 alike-after : (x : Outcome Parts) (supplier supplier' : ℕ) (tally tally' : Tally) →
     let a = afterJob x supplier tally in
@@ -51,91 +47,69 @@ alike job table supplier supplier' tally tally' l l' =
 
 -- ---- each pair by its own jobs
 
--- two tallies that agree on a supplier's pair and on how many pairs there are
-record Alike (supplier : ℕ) (t u : Tally) : Type 0 where
-  pair : pairOf t supplier ≡ pairOf u supplier
-  pairs : length t.pairs ≡ length u.pairs
-
--- agree after a job of this supplier
-module _ (s : Sent) (t u : Tally) (h : Alike s.supplier t u) where
-  abbrev change : Counters → Counters
-  change = pairAfter (outcomeWith s.job s.table)
-
-  moved-alike : pairOf (moved change s.supplier t) s.supplier ≡ pairOf (moved change s.supplier u) s.supplier
-  moved-alike = by (dec_lt s.supplier (length t.pairs))
-    where
-      by : Dec (s.supplier < length t.pairs) → pairOf (moved change s.supplier t) s.supplier ≡ pairOf (moved change s.supplier u) s.supplier
-      by (yes l) = Job.pair-moved change t freshPair s.supplier l ∙ ap change h.pair ∙ sym (Job.pair-moved change u freshPair s.supplier (omega (arith, l, h.pairs)))
-      by (no n) = rw (set_past t.pairs s.supplier (change (pairOf t s.supplier)) (omega arith), set_past u.pairs s.supplier (change (pairOf u s.supplier)) (omega (arith, h.pairs))) h.pair
-
-  alike-own : Alike s.supplier (answerTo jobCall t s).tally (answerTo jobCall u s).tally
-  alike-own = record {
-    pair = by (dec_lt s.supplier suppliers);
-    pairs = Job.pairs-kept s.job s.table s.supplier t ∙ h.pairs ∙ sym (Job.pairs-kept s.job s.table s.supplier u);
-  }
-    where
-      at : Tally → Counters
-      at t = pairOf t s.supplier
-
-      by : Dec (s.supplier < suppliers) → at (answerTo jobCall t s).tally ≡ at (answerTo jobCall u s).tally
-      by (yes l) = ap at (Job.tally-moved s.job s.table s.supplier t l) ∙ moved-alike ∙ sym (ap at (Job.tally-moved s.job s.table s.supplier u l))
-      by (no n) =
-          let none : (t : Tally) → at (answerTo jobCall t s).tally ≡ at t = λ t. ap (λ (a : JobAnswer). at a.tally) (Job.unknown s.job s.table s.supplier t (omega arith)).0 in
-          none t ∙ h.pair ∙ sym (none u)
+-- there are as many pairs after a list as before it
+pairs-after : (sent : List Sent) (t : Tally) → length (after jobCall t sent).pairs ≡ length t.pairs
+unfolding after
+pairs-after [] t = refl
+pairs-after (s ∷ sent) t = pairs-after sent (answerTo jobCall t s).tally ∙ Job.pairs-kept s.job s.table s.supplier t
 
 module _ (supplier : ℕ) where
-  -- and after one of another that only the first counts
-  alike-other : (s : Sent) (t u : Tally) → (s.supplier ≡ supplier → ⊥) → Alike supplier t u → Alike supplier (answerTo jobCall t s).tally u
-  alike-other s t u d h = record {
-    pair = Job.others-kept s.job s.table s.supplier t freshPair supplier (λ e. d (sym e)) ∙ h.pair;
-    pairs = Job.pairs-kept s.job s.table s.supplier t ∙ h.pairs;
-  }
+  -- what a job of this supplier makes of its pair, where there are so many pairs; past them, and for a number above 15, nothing
+  abbrev pairNext : ℕ → Counters → Sent → Counters
+  pairNext pairs pair s = cond (ltb supplier suppliers && ltb supplier pairs) (pairAfter (outcomeWith s.job s.table) pair) pair
 
-  by_own : (sent : List Sent) (t u : Tally) → Alike supplier t u → pairOf (after jobCall t sent) supplier ≡ pairOf (after jobCall u (own supplier sent)) supplier
-  unfolding after
-  by_own [] t u h = h.pair
-  by_own (s ∷ sent) t u h = by (ℕ_discrete s.supplier supplier) (by_own sent)
+  -- and a list of its jobs
+  pairRun : ℕ → Counters → List Sent → Counters
+  pairRun pairs pair [] = pair
+  pairRun pairs pair (s ∷ sent) = pairRun pairs (pairNext pairs pair s) sent
+
+pair-next : (s : Sent) (t : Tally) → pairOf (answerTo jobCall t s).tally s.supplier ≡ pairNext s.supplier (length t.pairs) (pairOf t s.supplier) s
+pair-next s t = by (dec_lt s.supplier suppliers) (dec_lt s.supplier (length t.pairs))
+  where
+    moves : s.supplier < suppliers → pairOf (answerTo jobCall t s).tally s.supplier ≡ pairOf (moved (pairAfter (outcomeWith s.job s.table)) s.supplier t) s.supplier
+    moves l = ap (λ t. pairOf t s.supplier) (Job.tally-moved s.job s.table s.supplier t l)
+
+    by : Dec (s.supplier < suppliers) → Dec (s.supplier < length t.pairs) → pairOf (answerTo jobCall t s).tally s.supplier ≡ pairNext s.supplier (length t.pairs) (pairOf t s.supplier) s
+    by (yes l) (yes m) = rw (lt-ltb s.supplier suppliers l, lt-ltb s.supplier (length t.pairs) m) (moves l ∙ Job.pair-moved (pairAfter (outcomeWith s.job s.table)) t freshPair s.supplier m)
+    by (yes l) (no n) = rw (lt-ltb s.supplier suppliers l, le-ltb s.supplier (length t.pairs) (omega arith)) (moves l ∙ ap (λ pairs. get_or pairs s.supplier freshPair) (set_past t.pairs s.supplier _ (omega arith)))
+    by (no n) m = rw (le-ltb s.supplier suppliers (omega arith)) (ap (λ (a : JobAnswer). pairOf a.tally s.supplier) (Job.unknown s.job s.table s.supplier t (omega arith)).0)
+
+module _ (supplier : ℕ) where
+  -- of a list, a supplier's own jobs alone bear on its pair
+  pair-run : (sent : List Sent) (t : Tally) → pairOf (after jobCall t sent) supplier ≡ pairRun supplier (length t.pairs) (pairOf t supplier) (own supplier sent)
+  unfolding after pairRun
+  pair-run [] t = refl
+  pair-run (s ∷ sent) t = by (ℕ_discrete s.supplier supplier) (pair-run sent (answerTo jobCall t s).tally)
     where
-      next : Tally → Tally
-      next t = (answerTo jobCall t s).tally
+      next : Tally
+      next = (answerTo jobCall t s).tally
 
-      by : Dec (s.supplier ≡ supplier) → ((t u : Tally) → Alike supplier t u → pairOf (after jobCall t sent) supplier ≡ pairOf (after jobCall u (own supplier sent)) supplier) →
-          pairOf (after jobCall t (s ∷ sent)) supplier ≡ pairOf (after jobCall u (own supplier (s ∷ sent))) supplier
-      by (yes e) more =
-          let k = alike-own s t u (subst (λ k. Alike k t u) (sym e) h) in
-          rw (eq-eqb s.supplier supplier e) (more (next t) (next u) (subst (λ k. Alike k (next t) (next u)) e k))
-      by (no d) more = rw (ne_eqb s.supplier supplier d) (more (next t) u (alike-other s t u d h))
+      then : {pair : Counters} → pairOf next supplier ≡ pair →
+          pairRun supplier (length next.pairs) (pairOf next supplier) (own supplier sent) ≡ pairRun supplier (length t.pairs) pair (own supplier sent)
+      then e = ap₂ (λ n p. pairRun supplier n p (own supplier sent)) (Job.pairs-kept s.job s.table s.supplier t) e
 
-whole : (sent : List Sent) (t : Tally) → Whole t → Whole (after jobCall t sent)
-unfolding after
-whole [] t w = w
-whole (s ∷ sent) t w = whole sent (answerTo jobCall t s).tally (Job.pairs-kept s.job s.table s.supplier t ∙ w)
+      by : Dec (s.supplier ≡ supplier) → pairOf (after jobCall next sent) supplier ≡ pairRun supplier (length next.pairs) (pairOf next supplier) (own supplier sent) →
+          pairOf (after jobCall t (s ∷ sent)) supplier ≡ pairRun supplier (length t.pairs) (pairOf t supplier) (own supplier (s ∷ sent))
+      by (yes e) more = rw (eq-eqb s.supplier supplier e) (more ∙ then (subst (λ k. pairOf next k ≡ pairNext k (length t.pairs) (pairOf t k) s) e (pair-next s t)))
+      by (no d) more = rw (ne_eqb s.supplier supplier d) (more ∙ then (Job.others-kept s.job s.table s.supplier t freshPair supplier (λ e. d (sym e))))
 
--- what a job makes of its supplier's pair
-pair-next : (s : Sent) (t : Tally) → s.supplier < suppliers → Whole t →
-    pairOf (answerTo jobCall t s).tally s.supplier ≡ (answerBeforeSuppliers s.job s.table (pairOf t s.supplier)).tally
-pair-next s t l w =
-    ap (λ t. pairOf t s.supplier) (Job.tally-moved s.job s.table s.supplier t l)
-    ∙ Job.pair-moved (pairAfter (outcomeWith s.job s.table)) t freshPair s.supplier (omega (arith, w, l))
-    ∙ sym (pair-before s.job s.table (pairOf t s.supplier))
+  own-own : (sent : List Sent) → own supplier (own supplier sent) ≡ own supplier sent
+  own-own [] = refl
+  own-own (s ∷ sent) = let more = own-own sent in flag (eqb s.supplier supplier) (λ e. rw (e, e, more)) (λ e. rw (e, more))
 
--- a supplier's pair as before, with its own jobs
-module _ (supplier : ℕ) (l : supplier < suppliers) where
-  as-before : (sent : List Sent) (t : Tally) → Whole t → pairOf (after jobCall t sent) supplier ≡ afterBeforeSuppliers (pairOf t supplier) (own supplier sent)
-  unfolding after afterBeforeSuppliers
-  as-before [] t w = refl
-  as-before (s ∷ sent) t w = by (ℕ_discrete s.supplier supplier) (as-before sent (answerTo jobCall t s).tally (Job.pairs-kept s.job s.table s.supplier t ∙ w))
-    where
-      next : Counters
-      next = pairOf (answerTo jobCall t s).tally supplier
+  by_own : (sent : List Sent) (t : Tally) → pairOf (after jobCall t sent) supplier ≡ pairOf (after jobCall t (own supplier sent)) supplier
+  by_own sent t = pair-run sent t ∙ ap (pairRun supplier (length t.pairs) (pairOf t supplier)) (sym (own-own sent)) ∙ sym (pair-run (own supplier sent) t)
 
-      by : Dec (s.supplier ≡ supplier) → pairOf (after jobCall (answerTo jobCall t s).tally sent) supplier ≡ afterBeforeSuppliers next (own supplier sent) →
-          pairOf (after jobCall t (s ∷ sent)) supplier ≡ afterBeforeSuppliers (pairOf t supplier) (own supplier (s ∷ sent))
-      by (yes e) more =
-          let own-next : next ≡ (answerBeforeSuppliers s.job s.table (pairOf t supplier)).tally
-          = subst (λ k. pairOf (answerTo jobCall t s).tally k ≡ (answerBeforeSuppliers s.job s.table (pairOf t k)).tally) e (pair-next s t (rw e l) w) in
-          rw (eq-eqb s.supplier supplier e) (more ∙ ap (λ p. afterBeforeSuppliers p (own supplier sent)) own-next)
-      by (no d) more = rw (ne_eqb s.supplier supplier d) (more ∙ ap (λ p. afterBeforeSuppliers p (own supplier sent)) (Job.others-kept s.job s.table s.supplier t freshPair supplier (λ e. d (sym e))))
+  -- as before there were suppliers
+  run-before : supplier < suppliers → (sent : List Sent) (pair : Counters) → pairRun supplier suppliers pair sent ≡ afterBeforeSuppliers pair sent
+  unfolding pairRun afterBeforeSuppliers
+  run-before l [] pair = refl
+  run-before l (s ∷ sent) pair =
+      let next : pairNext supplier suppliers pair s ≡ (answerBeforeSuppliers s.job s.table pair).tally = rw (lt-ltb supplier suppliers l) (sym (pair-before s.job s.table pair)) in
+      ap (λ p. pairRun supplier suppliers p sent) next ∙ run-before l sent (answerBeforeSuppliers s.job s.table pair).tally
+
+  as-before : supplier < suppliers → (sent : List Sent) (t : Tally) → Whole t → pairOf (after jobCall t sent) supplier ≡ afterBeforeSuppliers (pairOf t supplier) (own supplier sent)
+  as-before l sent t w = pair-run sent t ∙ ap (λ n. pairRun supplier n (pairOf t supplier) (own supplier sent)) w ∙ run-before l (own supplier sent) (pairOf t supplier)
 
 -- ---- the totals
 
@@ -196,7 +170,7 @@ totals-on (s ∷ sent) t w = by (dec_lt s.supplier suppliers) (totals-on sent (a
     by : Dec (s.supplier < suppliers) → totals (after jobCall next sent) ≡ afterBeforeSuppliers (totals next) (not17 jobCall next sent) →
         totals (after jobCall t (s ∷ sent)) ≡ afterBeforeSuppliers (totals t) (not17 jobCall t (s ∷ sent))
     by (yes l) more =
-        let n = ne_eqb (answerTo jobCall t s).number 17 (λ e. absurd (omega (arith, l, only-17 s.job s.table s.supplier t e))) in
+        let n = ne_eqb (answerTo jobCall t s).number 17 (λ e. absurd (omega (arith, l, Job.only-17 s.job s.table s.supplier t e))) in
         rw n (more ∙ ap (λ p. afterBeforeSuppliers p (not17 jobCall next sent)) (totals-next s t w l ∙ sym (pair-before s.job s.table (totals t))))
     by (no n) more =
         let u = (Job.unknown s.job s.table s.supplier t (omega arith)).0 in
@@ -213,7 +187,7 @@ without-17 (s ∷ sent) t = by (dec_lt s.supplier suppliers) (without-17 sent (a
     next = (answerTo jobCall t s).tally
 
     by : Dec (s.supplier < suppliers) → after jobCall next (not17 jobCall next sent) ≡ after jobCall next sent → after jobCall t (not17 jobCall t (s ∷ sent)) ≡ after jobCall next sent
-    by (yes l) more = rw (ne_eqb (answerTo jobCall t s).number 17 (λ e. absurd (omega (arith, l, only-17 s.job s.table s.supplier t e)))) more
+    by (yes l) more = rw (ne_eqb (answerTo jobCall t s).number 17 (λ e. absurd (omega (arith, l, Job.only-17 s.job s.table s.supplier t e)))) more
     by (no n) more =
         let u = (Job.unknown s.job s.table s.supplier t (omega arith)).0 in
         rw (eq-eqb (answerTo jobCall t s).number 17 (ap (λ (a : JobAnswer). a.number) u))
@@ -223,14 +197,14 @@ pub suppliers-kept : SuppliersKept jobCall
 suppliers-kept = record {
   known = λ job table supplier tally l. rw (answer-before job table supplier tally l, table-before job table supplier tally l);
   alike = alike;
-  refused-17 = λ job table supplier tally. (only-17 job table supplier tally, λ l. ap (λ (a : JobAnswer). a.number) (Job.unknown job table supplier tally l).0);
+  refused-17 = λ job table supplier tally. (Job.only-17 job table supplier tally, λ l. ap (λ (a : JobAnswer). a.number) (Job.unknown job table supplier tally l).0);
   nothing-moves = λ job table supplier tally e.
-      let (a, t) = Job.unknown job table supplier tally (only-17 job table supplier tally e) in
+      let (a, t) = Job.unknown job table supplier tally (Job.only-17 job table supplier tally e) in
       (ap (λ (a : JobAnswer). a.tally) a, t);
   counted = λ job table supplier tally l w none. counting-holds.of-every-job job table supplier tally l w none;
   others = λ job table supplier other tally d none. counting-holds.of-no-other job table supplier other tally d none;
-  whole = λ tally w sent. whole sent tally w;
-  by_themselves = λ tally sent supplier. by_own supplier sent tally tally (record { pair = refl; pairs = refl });
+  whole = λ tally w sent. pairs-after sent tally ∙ w;
+  by_themselves = λ tally sent supplier. by_own supplier sent tally;
   as-before = λ tally w sent supplier l. as-before supplier l sent tally w;
   totals-fresh = λ sent. totals-on sent fresh refl;
   totals-on = λ tally w sent. totals-on sent tally w;
