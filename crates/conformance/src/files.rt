@@ -1,5 +1,6 @@
 // A vector file, line by line.
 use crate::in_files::Program;
+use crate::listings::Lines;
 use crate::{
     builds, checks, costs, in_files, jobs, listings, outputs, penalties, plains, registers,
     schemes, searches,
@@ -20,9 +21,11 @@ pub enum Group {
     Plain,
     Job,
     Listing,
+    SupplierListing,
     Search,
     Output,
     JobInFile,
+    ViewInFile,
     RegisterInFile,
 }
 
@@ -44,10 +47,12 @@ fn agrees(rt: &(impl Files + AllocGlobal), group: Group, line: &[u8]) -> io::Res
         Group::Check => Ok(checks::agrees(line)),
         Group::Plain => Ok(plains::agrees(line)),
         Group::Job => Ok(jobs::agrees(line)),
-        Group::Listing => Ok(listings::agrees(line)),
+        Group::Listing => Ok(listings::agrees(Lines::Farm, line)),
+        Group::SupplierListing => Ok(listings::agrees(Lines::Supplier, line)),
         Group::Search => Ok(searches::agrees(line)),
         Group::Output => Ok(outputs::agrees(line)),
         Group::JobInFile => in_files::agrees(rt, Program::OfJob, line),
+        Group::ViewInFile => in_files::agrees(rt, Program::OfSupplier, line),
         Group::RegisterInFile => in_files::agrees(rt, Program::OfRegister, line),
     }
 }

@@ -1,5 +1,5 @@
-// examples.txt, suppliers.txt: JOB OUT; cheapest.txt: REGISTER OUT. The names of two files: the first holds what a program reads,
-// the second what it prints for it.
+// examples.txt, suppliers.txt: JOB OUT; views.txt: JOB SUPPLIER; cheapest.txt: REGISTER OUT. The names of two files: the first holds
+// what a program reads, the second what it prints for it.
 ghost use Rattle.std.specs.Prelude.{◌≤◌, length};
 ghost use Rattle.listing.specs.Answer.{listingRoom};
 
@@ -7,10 +7,11 @@ use console::MAX_VISITS;
 use std::rt::Files;
 use std::{fs, io, str};
 
-// A program, by what it reads.
+// A program: `feedcheck`, `supplier_view`, `cheapest`.
 #[derive(Clone, Copy)]
 pub enum Program {
     OfJob,
+    OfSupplier,
     OfRegister,
 }
 
@@ -24,6 +25,7 @@ fn printed(program: Program, bytes: &[u8], text: &mut [u8]) -> usize
             let checked = console::lines_of(bytes, text);
             checked.count
         }
+        Program::OfSupplier => console::supplier_lines(bytes, text),
         Program::OfRegister => console::cheapest_lines(bytes, MAX_VISITS, text),
     }
 }

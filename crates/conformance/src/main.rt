@@ -32,10 +32,17 @@ fn main(rt: HostRuntime) -> io::Result<()> {
     files::run(&rt, Group::Plain, "plain", "plain.txt")?;
     files::run(&rt, Group::Job, "job", "job.txt")?;
     files::run(&rt, Group::Listing, "listing", "listing.txt")?;
+    files::run(
+        &rt,
+        Group::SupplierListing,
+        "supplier listing",
+        "supplier.txt",
+    )?;
     files::run(&rt, Group::Search, "search", "search.txt")?;
     files::run(&rt, Group::Output, "feedcheck", "feedcheck.txt")?;
     files::run(&rt, Group::JobInFile, "examples", "examples.txt")?;
     files::run(&rt, Group::JobInFile, "suppliers", "suppliers.txt")?;
+    files::run(&rt, Group::ViewInFile, "views", "views.txt")?;
     files::run(&rt, Group::RegisterInFile, "cheapest", "cheapest.txt")?;
     lists::run(
         &rt,

@@ -1,4 +1,5 @@
-// What the programs do: `feedcheck` reads a job and prints its lines, `cheapest` reads a register and prints its cheapest plan.
+// What the programs do: `feedcheck` reads a job and prints its lines, `supplier_view` reads a job and prints the lines that its
+// supplier may read, and `cheapest` reads a register and prints its cheapest plan.
 
 #![tactic(auto)]
 
@@ -6,14 +7,14 @@ ghost use Rattle.std.specs.Prelude.{◌≡◌, ◌++◌, ◌^◌, ◌≤◌, ◌
 ghost use Rattle.wire.specs.Number.{written};
 ghost use Rattle.register.specs.Limits.{maxChoices};
 ghost use Rattle.job.specs.Outcome.{outcome};
-ghost use Rattle.listing.specs.Listing.{listing};
+ghost use Rattle.listing.specs.Listing.{listing, supplierListing};
 ghost use Rattle.listing.specs.Answer.{listingRoom};
 ghost use Rattle.console.specs.Feedcheck.{tallyAfter};
 ghost use Rattle.console.specs.Cheapest.{searchLines, cheapestLines, cheapestRoom};
 
 use forms::WorkingTable;
 use job::{Tally, feedcheck_job};
-use listing::{feedcheck_listing, put_choices, put_refusal};
+use listing::{feedcheck_listing, feedcheck_supplier_listing, put_choices, put_refusal};
 use register::{Register, feedcheck_register};
 use search::{SearchAnswer, feedcheck_search};
 use std::io;
@@ -49,6 +50,18 @@ pub fn lines_of(job: &[u8], text: &mut [u8]) -> Checked
     }
 }
 
+// Writes the lines of a job that its supplier may read at the front of the lent text. Returns their count of bytes.
+pub fn supplier_lines(job: &[u8], text: &mut [u8]) -> usize
+    requires { listingRoom ≤ length text.old }
+    ensures value { result ≡ length (supplierListing (outcome job.now)) }
+    ensures text_after { text.new ≡ supplierListing (outcome job.now) ++ drop result text.old }
+    ensures within { result ≤ length text.new }
+{
+    let mut table = [0i64; WorkingTable::NUMBERS];
+    let answer = feedcheck_supplier_listing(job, &mut table, text);
+    answer.count
+}
+
 // How many bytes of its input a program reads, and how many bytes of text it has room for.
 pub const INPUT: usize = 65_536;
 
@@ -78,6 +91,16 @@ pub fn print_listing(rt: &(impl Input + Print)) -> io::Result<()> {
     let mut text = [0u8; TEXT];
     let checked = lines_of(&job[..n], &mut text);
     io::writer(rt).write_all(&text[..checked.count])
+}
+
+// Reads a job and prints the lines that its supplier may read. What stands past the bytes read makes no difference to these either.
+pub fn print_supplier_listing(rt: &(impl Input + Print)) -> io::Result<()> {
+    let mut input = rt.reader();
+    let mut job = [0u8; INPUT];
+    let n = read_full(&mut input, &mut job)?;
+    let mut text = [0u8; TEXT];
+    let count = supplier_lines(&job[..n], &mut text);
+    io::writer(rt).write_all(&text[..count])
 }
 
 // Writes the lines of what the search call answered for a register at the front. Returns their count of bytes.

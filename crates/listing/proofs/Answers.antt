@@ -1,4 +1,4 @@
--- What the listing call answers and leaves, from what reading the job gave.
+-- What a listing call answers and leaves, from what reading the job gave, whatever its lines of a register and a plan.
 use Prim.Native.Nat.{ℕ, ◌≤◌, ◌<◌}
 use mathlib.Core.Path.{◌≡◌, refl, sym, ap, ◌∙◌}
 use mathlib.Core.Bool.{true}
@@ -17,8 +17,8 @@ use Rattle.wire.specs.Number.{written}
 use Rattle.wire.specs.Writer.{refusedAnswer, writtenAnswer, bytesAnswer, withFront}
 use Rattle.wire.proofs.Written.{written-front}
 use Rattle.wire.proofs.Writer.{HandedBack, bytes-short, bytes_fit, bytes_back}
-use Rattle.listing.specs.Listing.{listing}
-use Rattle.listing.specs.Answer.{listingRoom, listingAnswer, listingTable, listingBuffer}
+use Rattle.listing.specs.Listing.{PlanLines, listed}
+use Rattle.listing.specs.Answer.{listingRoom, answerWith, bufferWith, listingTable}
 
 -- ---- bytes and a lent buffer
 
@@ -40,38 +40,38 @@ module _ (bytes lent : List ℕ) where
 
 -- ---- the call
 
-module _ (job : List ℕ) (table : List ℤ) (buffer : List ℕ) where
+module _ (lines : PlanLines) (job : List ℕ) (table : List ℤ) (buffer : List ℕ) where
   abbrev Answered : WriterAnswer → List ℤ → List ℕ → Type 0
-  Answered a table' buffer' = (a ≡ listingAnswer job table buffer) × ((table' ≡ listingTable job table) × (buffer' ≡ listingBuffer job table buffer))
+  Answered a table' buffer' = (a ≡ answerWith lines job table buffer) × ((table' ≡ listingTable job table) × (buffer' ≡ bufferWith lines job table buffer))
 
   pub short-table : length table < tableNumbers → Answered (refusedAnswer 11 0 0) table buffer
-  unfolding listingAnswer listingTable listingBuffer
+  unfolding answerWith listingTable bufferWith
   short-table l = let t = lt-ltb (length table) tableNumbers l in (rw t, (rw t, rw t))
 
-  pub long-table : tableNumbers ≤ length table → (bytes : List ℕ) → bytes ≡ listing (outcome job) → (a : WriterAnswer) (table' : List ℤ) (buffer' : List ℕ) →
+  pub long-table : tableNumbers ≤ length table → (bytes : List ℕ) → bytes ≡ listed lines (outcome job) → (a : WriterAnswer) (table' : List ℤ) (buffer' : List ℕ) →
       table' ≡ tableAfter job table → (a ≡ bytesAnswer bytes buffer) × (buffer' ≡ withFront bytes buffer) → Answered a table' buffer'
-  unfolding listingAnswer listingTable listingBuffer
+  unfolding answerWith listingTable bufferWith
   long-table l bytes e a table' buffer' d w =
       let t = le-ltb (length table) tableNumbers l in
       (w.0 ∙ rw (t, e), (d ∙ rw t, w.1 ∙ rw (t, e)))
 
   -- where the call answers 0, it hands the lines back
-  pub handed-back : (listingAnswer job table buffer).number ≡ 0 → HandedBack (listing (outcome job)) buffer (listingAnswer job table buffer) (listingBuffer job table buffer)
-  unfolding listingAnswer listingBuffer
-  handed-back z = flag (ltb (length table) tableNumbers) short λ t. bytes_back (listing (outcome job)) buffer _ _ (rw t) (rw t) z
+  pub handed-back : (answerWith lines job table buffer).number ≡ 0 → HandedBack (listed lines (outcome job)) buffer (answerWith lines job table buffer) (bufferWith lines job table buffer)
+  unfolding answerWith bufferWith
+  handed-back z = flag (ltb (length table) tableNumbers) short λ t. bytes_back (listed lines (outcome job)) buffer _ _ (rw t) (rw t) z
     where
-      short : ltb (length table) tableNumbers ≡ true → HandedBack (listing (outcome job)) buffer (listingAnswer job table buffer) (listingBuffer job table buffer)
+      short : ltb (length table) tableNumbers ≡ true → HandedBack (listed lines (outcome job)) buffer (answerWith lines job table buffer) (bufferWith lines job table buffer)
       short t =
-          let w : listingAnswer job table buffer ≡ refusedAnswer 11 0 0 = rw t in
+          let w : answerWith lines job table buffer ≡ refusedAnswer 11 0 0 = rw t in
           let n : ◌≡◌ {A = ℕ} 11 0 = ap (λ x. x.number) (sym w) ∙ z in
           absurd (omega arith)
 
   -- a buffer that has room for every listing
-  pub enough : tableNumbers ≤ length table → listingRoom ≤ length buffer → length (listing (outcome job)) ≤ listingRoom →
-      (listingAnswer job table buffer ≡ writtenAnswer (length (listing (outcome job)))) × (listingBuffer job table buffer ≡ listing (outcome job) ++ drop (length (listing (outcome job))) buffer)
-  unfolding listingAnswer listingBuffer
+  pub enough : tableNumbers ≤ length table → listingRoom ≤ length buffer → length (listed lines (outcome job)) ≤ listingRoom →
+      (answerWith lines job table buffer ≡ writtenAnswer (length (listed lines (outcome job)))) × (bufferWith lines job table buffer ≡ listed lines (outcome job) ++ drop (length (listed lines (outcome job))) buffer)
+  unfolding answerWith bufferWith
   enough l m k =
       let t = le-ltb (length table) tableNumbers l in
-      let fit : length (listing (outcome job)) ≤ length buffer = omega arith in
-      let w = bytes_fit (listing (outcome job)) buffer fit in
-      (rw t (sym w.0), rw t (sym w.1 ∙ written-front buffer (listing (outcome job)) fit))
+      let fit : length (listed lines (outcome job)) ≤ length buffer = omega arith in
+      let w = bytes_fit (listed lines (outcome job)) buffer fit in
+      (rw t (sym w.0), rw t (sym w.1 ∙ written-front buffer (listed lines (outcome job)) fit))

@@ -3,12 +3,14 @@ use Prim.Native.Nat.{ℕ, zero, suc, ◌+◌, ◌*◌, ◌-◌, ◌^◌, ◌≤�
 use native.Mathlib.Nat.{suc-mul}
 use native.Mathlib.Omega.{arith}
 use mathlib.Core.Path.{◌≡◌, refl, ap, ◌∙◌}
+use mathlib.Core.Bool.{Bool, true, false}
 use mathlib.Core.List.{List, [], ◌∷◌, ◌++◌, flat_map}
 use lib.IntN.{ℤ, pos, nat_abs}
 use lib.ListN.{length, length-append}
 use lib.Dec.{eqb}
 use mir.Syntax.{w64}
 use mir.Val.{SFits}
+use Rattle.integers.specs.Integer.{bit}
 use Rattle.integers.specs.Lists.{joinBelow}
 use Rattle.integers.proofs.Lists.{flag, cond_cases}
 use Rattle.integers.proofs.Machine.{signed-small}
@@ -21,11 +23,11 @@ use Rattle.sets.specs.Sets.{isMember}
 use Rattle.text.specs.Text.{digitsTo, digits, decimal, line}
 use Rattle.text.proofs.Lines.{line-no-longer, natural-no-longer, integer-no-longer}
 use Rattle.job.specs.declared.JobRead.{JobRead}
-use Rattle.listing.specs.Listing.{choiceLine, choiceLines, fedLine, fedLines, boundLine, acceptedLines}
-use Rattle.listing.specs.ByLetter.{linesUnder}
+use Rattle.listing.specs.Listing.{PlanLines, choiceLine, choiceLines, fedLine, fedLines, supplierLines, boundLine, acceptedLines}
+use Rattle.listing.specs.ByLetter.{linesUnder, linesFor}
 use Rattle.listing.specs.Answer.{longestNumber, longestListing, listingRoom, lines_of}
 
--- the lines under `T` and under `F`
+-- the lines under `T`, under `F` and under `C`
 module _ (r : Register) (plan : ℕ) where
   pub choice-lines : linesUnder 0x54 r plan ≡ choiceLines r
   unfolding linesUnder choiceLines
@@ -35,16 +37,17 @@ module _ (r : Register) (plan : ℕ) where
   unfolding linesUnder fedLines
   fed-lines = refl
 
-module _ (r : Register) (plan : ℕ) (bound cost gap : ℤ) where
-  pub accepted-is : acceptedLines r plan bound cost gap ≡ (choiceLines r ++ fedLines r plan) ++ boundLine bound cost gap
+  pub supplier-lines : linesUnder 0x43 r plan ≡ supplierLines r plan
+  unfolding linesUnder supplierLines
+  supplier-lines = refl
+
+module _ (lines : PlanLines) (r : Register) (plan : ℕ) (bound cost gap : ℤ) where
+  pub accepted-is : acceptedLines lines r plan bound cost gap ≡ lines r plan ++ boundLine bound cost gap
   unfolding acceptedLines
   accepted-is = refl
 
-  pub length-accepted : length (acceptedLines r plan bound cost gap) ≡ length (choiceLines r) + length (fedLines r plan) + length (boundLine bound cost gap)
-  length-accepted =
-      ap length accepted-is
-      ∙ length-append (choiceLines r ++ fedLines r plan) (boundLine bound cost gap)
-      ∙ ap (λ k. k + length (boundLine bound cost gap)) (length-append (choiceLines r) (fedLines r plan))
+  pub length-accepted : length (acceptedLines lines r plan bound cost gap) ≡ length (lines r plan) + length (boundLine bound cost gap)
+  length-accepted = ap length accepted-is ∙ length-append (lines r plan) (boundLine bound cost gap)
 
 -- ---- bounds
 
@@ -76,21 +79,36 @@ module _ (r : Register) (w : Within r) where
       (λ _. omega arith))
       maxChoices w.choices.few
 
+  supplier-short : (plan : ℕ) → length (supplierLines r plan) ≤ maxChoices * length (choiceLine maxChoices maxTank (longDay - 1))
+  unfolding supplierLines
+  supplier-short plan = joins-short r.choices _ _ (λ i l.
+      line-no-longer 0x43 0x54 (pos i ∷ bit (isMember i plan) ∷ []) (pos maxChoices ∷ pos maxTank ∷ pos (longDay - 1) ∷ [])
+      (natural-no-longer _ _ (omega (arith, w.choices.few)), (bit-short (isMember i plan), tt)))
+      maxChoices w.choices.few
+    where
+      bit-short : (b : Bool) → length (decimal (bit b)) ≤ length (decimal (pos maxTank))
+      bit-short true = natural-no-longer 1 maxTank (omega arith)
+      bit-short false = natural-no-longer 0 maxTank (omega arith)
+
+  -- for a supplier and for a farm
+  plan-short : (supplier : Bool) (plan : ℕ) → length (linesFor supplier r plan) ≤ maxChoices * (length (choiceLine maxChoices maxTank (longDay - 1)) + length (fedLine maxTank (longDay - 1)))
+  plan-short true plan = omega (arith, supplier-short plan)
+  plan-short false plan = omega (arith, length-append (choiceLines r) (fedLines r plan), choices-short, fed-short plan)
+
 -- numbers of 64 bits
 pub small-no-longer : (z : ℤ) → nat_abs z ≤ 2 ^ 63 → length (decimal z) ≤ length (decimal longestNumber)
 small-no-longer z h = integer-no-longer z (2 ^ 63 - 1) h
 
-pub lines-short : (read : JobRead) → Within read.register → read.number < 2 ^ 8 → read.position < 2 ^ 63 →
-    SFits w64 read.bound → SFits w64 read.cost → SFits w64 read.gap → length (lines_of read) ≤ longestListing
+pub lines-short : (supplier : Bool) (read : JobRead) → Within read.register → read.number < 2 ^ 8 → read.position < 2 ^ 63 →
+    SFits w64 read.bound → SFits w64 read.cost → SFits w64 read.gap → length (lines_of (linesFor supplier) read) ≤ longestListing
 unfolding lines_of longestListing
-lines-short read w n p b c g =
+lines-short supplier read w n p b c g =
     let r = read.register in
     flag (eqb read.number 0)
     (λ t. rw t (omega (
       arith,
-      length-accepted r read.plan read.bound read.cost read.gap,
-      choices-short r w,
-      fed-short r w read.plan,
+      length-accepted (linesFor supplier) r read.plan read.bound read.cost read.gap,
+      plan-short r w supplier read.plan,
       line-no-longer 0x42 0x42 (read.bound ∷ read.cost ∷ read.gap ∷ []) (longestNumber ∷ longestNumber ∷ longestNumber ∷ [])
           (small-no-longer _ (signed-small w64 read.bound b), (small-no-longer _ (signed-small w64 read.cost c), (small-no-longer _ (signed-small w64 read.gap g), tt))),
     )))

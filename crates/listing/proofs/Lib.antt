@@ -2,4 +2,6 @@
 pub mod Lengths
 pub mod Outcome
 pub mod Answers
+pub mod Lettered
 pub mod Lines
+pub mod SupplierLines

@@ -1,6 +1,5 @@
 -- Equal `T` and `F` lines stand for the same choices, the same ones fed; and the `F` lines are those of the fed choices.
-use Prim.Native.Nat.{ℕ, zero, suc, ◌+◌, ◌*◌, ◌<◌}
-use native.Mathlib.Nat.{mul-one}
+use Prim.Native.Nat.{ℕ, zero, suc, ◌<◌}
 use native.Mathlib.Omega.{arith}
 use mathlib.Core.Path.{◌≡◌, refl, sym, ap, ap₂, ◌∙◌, subst}
 use mathlib.Core.Logic.{◌↔◌, inl, inr, ⊎_elim}
@@ -8,11 +7,11 @@ use mathlib.Core.Bool.{Bool, true, false, cond, true≢false}
 use mathlib.Core.List.{List, [], ◌∷◌, ◌++◌}
 use lib.Dec.{ltb}
 use lib.IntN.{ℤ, pos, nat_abs}
-use lib.ListN.{length, get_or, drop}
+use lib.ListN.{get_or}
 use borrow.Author.Tests.{ltb-true, ltb-false}
 use Rattle.integers.specs.Lists.{All, joinBelow}
 use Rattle.integers.proofs.Lists.{flag, cond_cases, All-append, All-join}
-use Rattle.integers.proofs.Join.{join-cong, length-join, getD-join}
+use Rattle.integers.proofs.Join.{join-cong}
 use Rattle.integers.proofs.Entries.{below-or-last}
 use Rattle.sets.specs.Sets.{isMember}
 use Rattle.text.specs.Text.{line, Starts, HasLine}
@@ -31,21 +30,10 @@ use Rattle.job.proofs.Accept.{accepted-iff}
 use Rattle.job.specs.Outcome.{Parts, outcome}
 use Rattle.listing.specs.Listing.{choiceLine, choiceLines, fedLine, fedLines, planLines}
 use Rattle.listing.specs.Same.{SamePlan}
+use Rattle.listing.proofs.Lettered.{Line, Has, apart, count, each}
 use Rattle.job.proofs.Sound.{accepted-valid}
 
--- ---- a line as its letter and its fields
-
-abbrev Line : Type 0
-Line = ℕ × List ℤ
-
-abbrev none : Line
-none = (0, [])
-
-head-line : {x y : Line} {xs ys : List Line} → ◌≡◌ {A = List Line} (x ∷ xs) (y ∷ ys) → x ≡ y
-head-line e = ap (λ l. get_or l 0 none) e
-
-tail-line : {x y : Line} {xs ys : List Line} → ◌≡◌ {A = List Line} (x ∷ xs) (y ∷ ys) → xs ≡ ys
-tail-line e = ap (λ l. drop 1 l) e
+-- ---- the lines, each as its letter and its fields
 
 abbrev choice : Register → ℕ → Line
 choice r i = (0x54, pos i ∷ pos (tank r i) ∷ pos (minute r i) ∷ [])
@@ -74,39 +62,11 @@ plan-lines r plan = texts-append (choices r) (feeds r plan) ∙ ap₂ ◌++◌ (
 
 -- ---- `T` and `F` lines are told apart by their letters
 
-abbrev Has : ℕ → Line → Type 0
-Has letter l = l.0 ≡ letter
-
-apart : (a a' b b' : List Line) → All (Has 0x54) a → All (Has 0x54) a' → All (Has 0x46) b → All (Has 0x46) b' → a ++ b ≡ a' ++ b' → (a ≡ a') × (b ≡ b')
-apart [] [] b b' h h' k k' e = (refl, e)
-apart [] (y ∷ a') [] b' h h' k k' e = absurd (omega (arith, ap length e))
-apart [] (y ∷ a') (x ∷ b) b' h h' k k' e = absurd (omega (arith, ap (λ l. l.0) (head-line e), h'.0, k.0))
-apart (x ∷ a) [] b [] h h' k k' e = absurd (omega (arith, ap length e))
-apart (x ∷ a) [] b (y ∷ b') h h' k k' e = absurd (omega (arith, ap (λ l. l.0) (head-line e), h.0, k'.0))
-apart (x ∷ a) (y ∷ a') b b' h h' k k' e =
-    let (f, g) = apart a a' b b' h.1 h'.1 k k' (tail-line e) in
-    (ap₂ ◌∷◌ (head-line e) f, g)
-
 choices-have : (r : Register) → All (Has 0x54) (choices r)
 choices-have r = All-join (Has 0x54) r.choices _ (λ i l. (refl, tt))
 
 feeds-have : (r : Register) (plan : ℕ) → All (Has 0x46) (feeds r plan)
 feeds-have r plan = All-join (Has 0x46) r.choices _ (λ i l. cond_cases (All (Has 0x46)) (isMember i plan) (feed r i ∷ []) [] (λ _. (refl, tt)) (λ _. tt))
-
--- ---- the choices of equal `T` lines
-
-module _ (r r' : Register) (e : choices r ≡ choices r') where
-  count : r.choices ≡ r'.choices
-  count =
-      sym (mul-one r.choices) ∙ sym (length-join r.choices 1 (λ i. choice r i ∷ []) (λ i. refl))
-      ∙ ap length e
-      ∙ length-join r'.choices 1 (λ i. choice r' i ∷ []) (λ i. refl) ∙ mul-one r'.choices
-
-  each : (i : ℕ) → i < r.choices → choice r i ≡ choice r' i
-  each i l =
-      sym (getD-join r.choices 1 (λ i. choice r i ∷ []) (λ i. refl) i 0 none l (omega arith))
-      ∙ ap (λ x. get_or x (i * 1 + 0) none) e
-      ∙ getD-join r'.choices 1 (λ i. choice r' i ∷ []) (λ i. refl) i 0 none (omega (arith, count)) (omega arith)
 
 -- ---- different choices differ in tank or minute: each comes before all later ones
 
@@ -187,10 +147,10 @@ module _ (r r' : Register) (v : Valid r) (v' : Valid r') (plan plan' : ℕ) wher
   pub same-plan : planLines r plan ≡ planLines r' plan' → SamePlan r plan r' plan'
   same-plan e =
       let lines = texts-determine (choices r ++ feeds r plan) (choices r' ++ feeds r' plan') (plan-lines r plan ∙ e ∙ sym (plan-lines r' plan')) in
-      let (c, f) = apart (choices r) (choices r') (feeds r plan) (feeds r' plan') (choices-have r) (choices-have r') (feeds-have r plan) (feeds-have r' plan') lines in
-      let n = count r r' c in
-      let t : (i : ℕ) → i < r.choices → tank r i ≡ tank r' i = λ i l. field_is 1 (each r r' c i l) in
-      let m : (i : ℕ) → i < r.choices → minute r i ≡ minute r' i = λ i l. field_is 2 (each r r' c i l) in
+      let (c, f) = apart 0x54 0x46 (λ e. omega arith) (choices r) (choices r') (feeds r plan) (feeds r' plan') (choices-have r) (choices-have r') (feeds-have r plan) (feeds-have r' plan') lines in
+      let n = count r.choices r'.choices (choice r) (choice r') c in
+      let t : (i : ℕ) → i < r.choices → tank r i ≡ tank r' i = λ i l. field_is 1 (each r.choices r'.choices (choice r) (choice r') c i l) in
+      let m : (i : ℕ) → i < r.choices → minute r i ≡ minute r' i = λ i l. field_is 2 (each r.choices r'.choices (choice r) (choice r') c i l) in
       record {
         choices = n;
         tanks = t;

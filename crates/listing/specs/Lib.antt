@@ -1,6 +1,6 @@
--- The lines of a job, the listing call's answer, table and buffer, and what equal lines stand for.
+-- The lines of a job, the two listing calls' answers, table and buffers, and what equal lines stand for.
 pub mod Listing
 pub mod Answer
 pub mod Same
--- not the paper's: the lines of choices as the code writes them
+-- not the paper's: the lines of choices as the code writes them, for a farm or for a supplier
 pub mod ByLetter

@@ -1,4 +1,4 @@
--- What two equal listings of plans stand for.
+-- What two equal listings stand for: a farm's, and a supplier's.
 use Rattle.std.specs.Prelude.{ℕ, ◌<◌, ◌≡◌}
 use Rattle.sets.specs.Sets.{isMember}
 use Rattle.register.specs.declared.Register.{Register}
@@ -9,4 +9,9 @@ pub record SamePlan (r : Register) (plan : ℕ) (r' : Register) (plan' : ℕ) : 
   pub choices : r.choices ≡ r'.choices
   pub tanks : (i : ℕ) → i < r.choices → tank r i ≡ tank r' i
   pub minutes : (i : ℕ) → i < r.choices → minute r i ≡ minute r' i
+  pub fed : (i : ℕ) → i < r.choices → isMember i plan ≡ isMember i plan'
+
+-- as many choices, and the same ones fed
+pub record SameFed (r : Register) (plan : ℕ) (r' : Register) (plan' : ℕ) : Type 0 where
+  pub choices : r.choices ≡ r'.choices
   pub fed : (i : ℕ) → i < r.choices → isMember i plan ≡ isMember i plan'

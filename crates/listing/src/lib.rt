@@ -1,4 +1,4 @@
-// The lines of a job, written into a lent buffer.
+// The lines of a job, as a farm and as a supplier reads them, written into a lent buffer.
 
 #![tactic(auto)]
 
@@ -8,9 +8,9 @@ ghost use Rattle.register.specs.Limits.{maxChoices};
 ghost use Rattle.register.specs.Valid.{Within};
 ghost use Rattle.wire.specs.Number.{written};
 ghost use Rattle.wire.specs.Writer.{bytesAnswer, withFront};
-ghost use Rattle.listing.specs.Listing.{acceptedLines, refusalLine, listing};
-ghost use Rattle.listing.specs.ByLetter.{lineUnder, linesUnder};
-ghost use Rattle.listing.specs.Answer.{listingRoom, lines_of, listingAnswer, listingTable, listingBuffer};
+ghost use Rattle.listing.specs.Listing.{acceptedLines, refusalLine, listed, listing, supplierListing};
+ghost use Rattle.listing.specs.ByLetter.{lineUnder, linesUnder, linesFor};
+ghost use Rattle.listing.specs.Answer.{listingRoom, lines_of, answerWith, bufferWith, listingAnswer, listingTable, listingBuffer, supplierAnswer, supplierBuffer};
 
 use forms::WorkingTable;
 use job::{JobRead, read_job};
@@ -26,7 +26,7 @@ impl Listing {
     pub const MAX_BYTES: usize = 4096;
 }
 
-// Writes the line of a choice with a letter: `T`, or `F` where it is fed. Returns the position after it.
+// Writes the line of a choice with a letter: `T`, `C`, or `F` where it is fed. Returns the position after it.
 fn put_choice(
     out: &mut [u8],
     at: usize,
@@ -44,6 +44,10 @@ fn put_choice(
     if letter == 0x54 {
         let numbers = [choice as i64, tank as i64, minute as i64];
         return text::put_line(out, at, 0x54, &numbers);
+    }
+    if letter == 0x43 {
+        let numbers = [choice as i64, fed as i64];
+        return text::put_line(out, at, 0x43, &numbers);
     }
     if fed {
         let numbers = [tank as i64, minute as i64];
@@ -77,22 +81,36 @@ pub fn put_choices(register: Register, plan: u32, letter: u8, out: &mut [u8], st
     at
 }
 
+// Writes the lines of the choices at the front, those of a supplier or those of a farm. Returns their count of bytes.
+fn put_plan(register: Register, plan: u32, supplier: bool, out: &mut [u8]) -> usize
+    requires choices_le_max_choices { register.choices ≤ maxChoices }
+    requires plan_in_bounds { length (linesFor supplier register plan) ≤ length out.old }
+    ensures value { result ≡ length (linesFor supplier register plan) }
+    ensures out_after { out.new ≡ written out.old 0 (linesFor supplier register plan) }
+{
+    if supplier {
+        return put_choices(register, plan, 0x43, out, 0);
+    }
+    let middle = put_choices(register, plan, 0x54, out, 0);
+    put_choices(register, plan, 0x46, out, middle)
+}
+
 // Writes the lines of an accepted job at the front. Returns their count of bytes.
 fn put_accepted(
     register: Register,
     plan: u32,
+    supplier: bool,
     bound: i64,
     cost: i64,
     gap: i64,
     out: &mut [u8],
 ) -> usize
     requires choices_le_max_choices { register.choices ≤ maxChoices }
-    requires gap_in_bounds { length (acceptedLines register plan bound cost gap) ≤ length out.old }
-    ensures value { result ≡ length (acceptedLines register plan bound cost gap) }
-    ensures out_after { out.new ≡ written out.old 0 (acceptedLines register plan bound cost gap) }
+    requires gap_in_bounds { length (acceptedLines (linesFor supplier) register plan bound cost gap) ≤ length out.old }
+    ensures value { result ≡ length (acceptedLines (linesFor supplier) register plan bound cost gap) }
+    ensures out_after { out.new ≡ written out.old 0 (acceptedLines (linesFor supplier) register plan bound cost gap) }
 {
-    let middle = put_choices(register, plan, 0x54, out, 0);
-    let end = put_choices(register, plan, 0x46, out, middle);
+    let end = put_plan(register, plan, supplier, out);
     let numbers = [bound, cost, gap];
     text::put_line(out, end, 0x42, &numbers)
 }
@@ -122,12 +140,12 @@ fn copy_front(from: &[u8], count: usize, out: &mut [u8])
 }
 
 // Writes the lines of what reading a job gave at the front. Returns their count of bytes.
-fn put_lines(read: JobRead, out: &mut [u8]) -> usize
+fn put_lines(read: JobRead, supplier: bool, out: &mut [u8]) -> usize
     requires choices_le_max_choices { read.register.choices ≤ maxChoices }
     requires position_bound { read.position < 2 ^ 63 }
-    requires read_in_bounds { length (lines_of read) ≤ length out.old }
-    ensures value { result ≡ length (lines_of read) }
-    ensures out_after { out.new ≡ written out.old 0 (lines_of read) }
+    requires read_in_bounds { length (lines_of (linesFor supplier) read) ≤ length out.old }
+    ensures value { result ≡ length (lines_of (linesFor supplier) read) }
+    ensures out_after { out.new ≡ written out.old 0 (lines_of (linesFor supplier) read) }
 {
     let number = read.number;
     if number != 0 {
@@ -136,6 +154,7 @@ fn put_lines(read: JobRead, out: &mut [u8]) -> usize
     put_accepted(
         read.register,
         read.plan,
+        supplier,
         read.bound,
         read.cost,
         read.gap,
@@ -144,14 +163,14 @@ fn put_lines(read: JobRead, out: &mut [u8]) -> usize
 }
 
 // Writes the lines into the lent buffer, if it is long enough. They are put together in an array of our own first.
-fn write_lines(read: JobRead, buffer: &mut [u8]) -> WriterAnswer
+fn write_lines(read: JobRead, supplier: bool, buffer: &mut [u8]) -> WriterAnswer
     requires within { Within read.register }
     requires position_bound { read.position < 2 ^ 63 }
-    ensures value { result ≡ bytesAnswer (lines_of read) buffer.old }
-    ensures buffer_after { buffer.new ≡ withFront (lines_of read) buffer.old }
+    ensures value { result ≡ bytesAnswer (lines_of (linesFor supplier) read) buffer.old }
+    ensures buffer_after { buffer.new ≡ withFront (lines_of (linesFor supplier) read) buffer.old }
 {
     let mut lines = [0u8; Listing::MAX_BYTES];
-    let count = put_lines(read, &mut lines);
+    let count = put_lines(read, supplier, &mut lines);
     if buffer.len() < count {
         return WriterAnswer::refused(11, 0, 0);
     }
@@ -159,8 +178,22 @@ fn write_lines(read: JobRead, buffer: &mut [u8]) -> WriterAnswer
     WriterAnswer::written(count)
 }
 
-// The listing of a job. The table is as after the job itself. The last clause is for callers: with a table long enough and a
-// buffer of 4,096 bytes nothing is refused.
+// Reads a job and writes its lines, those of a supplier or those of a farm.
+fn write_listing(job: &[u8], table: &mut [i64], supplier: bool, buffer: &mut [u8]) -> WriterAnswer
+    ensures value { result ≡ answerWith (linesFor supplier) job.now table.old buffer.old }
+    ensures table_after { table.new ≡ listingTable job.now table.old }
+    ensures buffer_after { buffer.new ≡ bufferWith (linesFor supplier) job.now table.old buffer.old }
+    ensures job_len_bound { length (listed (linesFor supplier) (outcome job.now)) ≤ listingRoom }
+{
+    if table.len() < WorkingTable::NUMBERS {
+        return WriterAnswer::refused(11, 0, 0);
+    }
+    let read = read_job(job, table);
+    write_lines(read, supplier, buffer)
+}
+
+// The listing of a job that a farm reads. The table is as after the job itself. The last clause is for callers: with a table long
+// enough and a buffer of 4,096 bytes nothing is refused.
 #[unsafe(no_mangle)]
 pub extern "C" fn feedcheck_listing(
     job: &[u8],
@@ -172,9 +205,20 @@ pub extern "C" fn feedcheck_listing(
     ensures buffer_after { buffer.new ≡ listingBuffer job.now table.old buffer.old }
     ensures job_len_bound { length (listing (outcome job.now)) ≤ listingRoom }
 {
-    if table.len() < WorkingTable::NUMBERS {
-        return WriterAnswer::refused(11, 0, 0);
-    }
-    let read = read_job(job, table);
-    write_lines(read, buffer)
+    write_listing(job, table, false, buffer)
+}
+
+// The listing of a job that its supplier may read, lent and refused as the farm's is, with the same table after it.
+#[unsafe(no_mangle)]
+pub extern "C" fn feedcheck_supplier_listing(
+    job: &[u8],
+    table: &mut [i64],
+    buffer: &mut [u8],
+) -> WriterAnswer
+    ensures value { result ≡ supplierAnswer job.now table.old buffer.old }
+    ensures table_after { table.new ≡ listingTable job.now table.old }
+    ensures buffer_after { buffer.new ≡ supplierBuffer job.now table.old buffer.old }
+    ensures job_len_bound { length (supplierListing (outcome job.now)) ≤ listingRoom }
+{
+    write_listing(job, table, true, buffer)
 }

@@ -2,6 +2,7 @@
 use Prim.Native.Nat.{ℕ, ◌≤◌, ◌<◌}
 use native.Mathlib.Omega.{arith}
 use mathlib.Core.Path.{◌≡◌, refl, sym, ◌∙◌, ap}
+use mathlib.Core.Bool.{false}
 use mathlib.Core.List.{List, [], ◌∷◌, ◌++◌}
 use lib.IntN.{ℤ, pos, ◌-ℤ◌}
 use lib.ListN.{length}
@@ -17,14 +18,14 @@ use Rattle.text.specs.Text.{line}
 use Rattle.job.specs.declared.Tally.{Tally}
 use Rattle.wire.specs.Outcome.{Outcome, refuses, accepts}
 use Rattle.wire.proofs.Outcome.{accepts-one}
-use Rattle.job.specs.Outcome.{Parts, outcome, boundOf, costOf}
+use Rattle.job.specs.Outcome.{Parts, outcome, boundOf, costOf, gap_of}
 use Rattle.job.specs.Tally.{suppliers}
 use Rattle.job.specs.Answer.{afterJob, jobAnswer}
 use Rattle.job.proofs.Suppliers.{table-enough}
 use Rattle.job.proofs.Sound.{accepted-valid}
 use Rattle.job.proofs.Accept.{accepted-iff}
 use Rattle.job.proofs.Accept as Job
-use Rattle.listing.specs.Listing.{planLines, refusalLine, acceptedLines, listing}
+use Rattle.listing.specs.Listing.{PlanLines, planLines, refusalLine, acceptedLines, listed}
 use Rattle.listing.proofs.Outcome.{listing-short}
 use Rattle.listing.proofs.Answers.{enough, handed-back}
 use Rattle.listing.proofs.Lines.{lines-without, same-plan, same_lines}
@@ -44,7 +45,7 @@ not_negative : (b c : ℤ) → b ≤ℤ c → pos 0 ≤ℤ (c -ℤ b)
 not_negative = diff₂ _ λ p q r s. simp diffs (omega arith)
 
 pub accepted-job : (job : List ℕ) (table : List ℤ) (supplier : ℕ) (tally : Tally) → (jobAnswer job table supplier tally).number ≡ 0 → AcceptedJob jobCall listingCall job table supplier tally
-unfolding listing acceptedLines
+unfolding listed acceptedLines
 accepted-job job table supplier tally z =
     let r = Job.answered job table supplier tally z in
     let p = r.parts_are in
@@ -63,13 +64,21 @@ accepted-job job table supplier tally z =
       cost-is = rw a;
       gap_is = rw a;
       gap-not-negative = rw a (not_negative (boundOf p) (costOf p) (bounds p.plan v.plan.fits));
-      lines = λ lent buffer h. (handed-back job lent buffer h).front ∙ ap listing e ∙ rw a;
+      lines = λ lent buffer h. (handed-back planLines job lent buffer h).front ∙ ap (listed planLines) e ∙ rw a;
     }
 
 -- its parts are those that reading it leads to
 pub accepted-leads : (job : List ℕ) (table : List ℤ) (supplier : ℕ) (tally : Tally) (z : (jobAnswer job table supplier tally).number ≡ 0) → outcome job ≡ accepts (accepted-job job table supplier tally z).parts
 unfolding accepted-job
 accepted-leads job table supplier tally z = (Job.answered job table supplier tally z).leads
+
+-- and the numbers that are answered are those of these parts
+pub accepted-numbers : (job : List ℕ) (table : List ℤ) (supplier : ℕ) (tally : Tally) (z : (jobAnswer job table supplier tally).number ≡ 0) →
+    let p = (accepted-job job table supplier tally z).parts in
+    let a = jobAnswer job table supplier tally in
+    (boundOf p ≡ a.bound) × ((costOf p ≡ a.cost) × (gap_of p ≡ a.gap))
+unfolding accepted-job
+accepted-numbers job table supplier tally z = let a = (Job.answered job table supplier tally z).answers in rw a (refl, (refl, refl))
 
 -- ---- two accepted jobs
 
@@ -84,12 +93,14 @@ module _ (job : List ℕ) (table : List ℤ) (supplier : ℕ) (tally : Tally) (j
 
 -- ---- a refused job
 
-refusal-shown : (job : List ℕ) (table : List ℤ) (supplier : ℕ) (tally : Tally) → supplier < suppliers → tableNumbers ≤ length table → ((jobAnswer job table supplier tally).number ≡ 0 → ⊥) →
-    listing (outcome job) ≡ refusalLine (jobAnswer job table supplier tally).number (jobAnswer job table supplier tally).position
-unfolding listing
-refusal-shown job table supplier tally k l d = let e = (table-enough job table supplier tally k l).0 in rw e (go (outcome job) (rw e at d))
+-- whatever lines it would have
+
+pub refusal-shown : (lines : PlanLines) (job : List ℕ) (table : List ℤ) (supplier : ℕ) (tally : Tally) → supplier < suppliers → tableNumbers ≤ length table → ((jobAnswer job table supplier tally).number ≡ 0 → ⊥) →
+    listed lines (outcome job) ≡ refusalLine (jobAnswer job table supplier tally).number (jobAnswer job table supplier tally).position
+unfolding listed
+refusal-shown lines job table supplier tally k l d = let e = (table-enough job table supplier tally k l).0 in rw e (go (outcome job) (rw e at d))
   where
-    go : (x : Outcome Parts) → ((afterJob x supplier tally).number ≡ 0 → ⊥) → listing x ≡ refusalLine (afterJob x supplier tally).number (afterJob x supplier tally).position
+    go : (x : Outcome Parts) → ((afterJob x supplier tally).number ≡ 0 → ⊥) → listed lines x ≡ refusalLine (afterJob x supplier tally).number (afterJob x supplier tally).position
     go (refuses number part at) d = refl
     go (accepts p) d = absurd (d refl)
 
@@ -106,6 +117,6 @@ jobs-sound = record {
         (λ q. same-plan p.register p'.register v v' p.plan p'.plan (sym e ∙ q ∙ e')),
         (λ q. e ∙ same_lines p.register p'.register v v' p.plan p'.plan q ∙ sym e'),
       );
-  refused = λ job table supplier tally k l d lent buffer h. (handed-back job lent buffer h).front ∙ refusal-shown job table supplier tally k l d;
-  room = λ job lent buffer l m. ap (λ a. a.number) (enough job lent buffer l m (listing-short job)).0;
+  refused = λ job table supplier tally k l d lent buffer h. (handed-back planLines job lent buffer h).front ∙ refusal-shown planLines job table supplier tally k l d;
+  room = λ job lent buffer l m. ap (λ a. a.number) (enough planLines job lent buffer l m (listing-short false job)).0;
 }

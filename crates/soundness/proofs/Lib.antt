@@ -16,3 +16,4 @@ pub mod RowAbsent
 pub mod Feedings
 pub mod Rows
 pub mod Suppliers
+pub mod SupplierListing

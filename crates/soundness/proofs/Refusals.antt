@@ -70,12 +70,12 @@ use Rattle.job.specs.Outcome.{Parts, ofRegister, withScheme, withCertificate, wi
 use Rattle.job.specs.Rest.{rest, fromPlan, fromCertificate, fromScheme, tableFromScheme}
 use Rattle.job.specs.Answer.{afterJob}
 use Rattle.job.proofs.Suppliers.{unknown, table-short, table-enough}
-use Rattle.listing.specs.Listing.{listing}
-use Rattle.listing.specs.Answer.{listingAnswer, listingTable, listingBuffer}
+use Rattle.listing.specs.Listing.{PlanLines, planLines, supplierLines, listed}
+use Rattle.listing.specs.Answer.{answerWith, bufferWith, listingTable}
 use Rattle.search.specs.Walk.{Best}
 use Rattle.search.specs.Answer.{search, searchOutcome, refusedSearch, acceptedSearch, searchAnswer}
 use Rattle.search.proofs.Cheapest.{found-none}
-use Rattle.soundness.specs.Calls.{registerCall, schemeCall, costCall, penaltyCall, checkCall, plainCall, buildCall, jobCall, listingCall, searchCall}
+use Rattle.soundness.specs.Calls.{registerCall, schemeCall, costCall, penaltyCall, checkCall, plainCall, buildCall, jobCall, listingWith, listingCall, supplierListingCall, searchCall}
 use Rattle.soundness.specs.Parts.{withR}
 use Rattle.soundness.specs.Refusals.{Before2, Before3, Before4, tableRefused, tableRefusedByItself, InRegister, InScheme, InCertificate, InPlan, InTerm, ShortBuffer, SchemeTooLong, PlainTooLong, PastLimit, NoneFits, Behind, FromRegister, FromScheme, FromCertificate, FromPlan, RegisterRefusals, SchemeRefusals, BuildRefusals, CostRefusals, PenaltyRefusals, CheckRefusals, PlainRefusals, JobRefusals, ListingRefusals, SearchRefusals, Refusals}
 
@@ -218,12 +218,12 @@ plain-refusals t s b b' lent = go (openParts t s) refl
         let (z, u, r) = short-buffer (ownBytes reg sch) lent h in
         (z, u, inr (inr (record { before = before3 t s b reg sch e; buffer = r })))
 
-pub listing-refusals : ListingRefusals listingCall
-unfolding listingAnswer listingTable listingBuffer
-listing-refusals = record {
+pub listing-refusals : (lines : PlanLines) → ListingRefusals lines (listingWith lines)
+unfolding answerWith listingTable bufferWith
+listing-refusals lines = record {
   short = λ s table buffer l. rw (lt-ltb (length table) tableNumbers l) refl;
   refused = λ s table l buffer. rw (le-ltb (length table) tableNumbers l) λ h.
-      let (z, u, r) = short-buffer (listing (outcome s)) buffer h in
+      let (z, u, r) = short-buffer (listed lines (outcome s)) buffer h in
       (z, ap (λ x. (tableAfter s table, x)) u, r);
 }
 
@@ -399,7 +399,7 @@ job-refusals = record {
 
 -- ---- every call
 
-pub refusals : Refusals registerCall schemeCall buildCall costCall penaltyCall checkCall plainCall jobCall listingCall searchCall
+pub refusals : Refusals registerCall schemeCall buildCall costCall penaltyCall checkCall plainCall jobCall listingCall supplierListingCall searchCall
 refusals = record {
   of-register = register-refusals;
   of-scheme = scheme-refusals;
@@ -409,6 +409,7 @@ refusals = record {
   of-check = check-refusals;
   of_plain = plain-refusals;
   of-job = job-refusals;
-  of-listing = listing-refusals;
+  of-listing = listing-refusals planLines;
+  of-supplier-listing = listing-refusals supplierLines;
   of-search = search-refusals;
 }

@@ -3,6 +3,7 @@ use Prim.Native.Nat.{ℕ, ◌≤◌, ◌<◌}
 use native.Mathlib.Omega.{arith}
 use native.Mathlib.Decide.{dec_lt}
 use mathlib.Core.Path.{◌≡◌, refl, sym, ◌∙◌, ap, ap₂}
+use mathlib.Core.Bool.{Bool, true, false}
 use mathlib.Core.List.{List}
 use lib.Dec.{ltb}
 use lib.IntN.{ℤ}
@@ -37,10 +38,11 @@ use Rattle.plain.proofs.Answers.{parts-accepted}
 use Rattle.plain.proofs.Call as P
 use Rattle.job.specs.Outcome.{outcome}
 use Rattle.job.proofs.Suppliers.{known}
-use Rattle.listing.specs.Listing.{listing}
-use Rattle.listing.specs.Answer.{listingRoom, listingAnswer, listingTable, listingBuffer}
+use Rattle.listing.specs.Listing.{listed}
+use Rattle.listing.specs.ByLetter.{linesFor}
+use Rattle.listing.specs.Answer.{listingRoom, answerWith, listingTable, bufferWith}
 use Rattle.listing.proofs.Outcome.{listing-short}
-use Rattle.soundness.specs.Calls.{front, schemeCall, checkCall, plainCall, buildCall, jobCall, listingCall}
+use Rattle.soundness.specs.Calls.{front, schemeCall, checkCall, plainCall, buildCall, jobCall, listingWith, listingCall, supplierListingCall}
 use Rattle.soundness.specs.Parts.{Part1, Part2, Part3, withR}
 use Rattle.soundness.specs.Acceptance.{OfScheme, OfCheck, schemeAccepted, checkAccepted}
 use Rattle.soundness.specs.Writers.{Writer, handedBack, Writes, KeepsRefused, OfBuild, BuildWrites, ownCertificate, PlainWrites, ListingWrites, Writers}
@@ -168,14 +170,14 @@ plain-keeps t s lent = go (openParts t s)
 of_plain : PlainWrites plainCall checkCall
 of_plain = record { writes = plain-writes; reads-back = plain-reads; checks = plain-checks; only = plain-only; keeps = plain-keeps }
 
--- ---- the listing
+-- ---- the listings
 
-of-listing : ListingWrites listingCall jobCall
-unfolding listingAnswer listingBuffer listingTable
-of-listing = record {
-  writes = λ job table l. writes_bytes _ (listing (outcome job)) listingRoom (λ lent. rw (le-ltb (length table) tableNumbers l) refl) (listing-short job);
+of-listing : (supplier : Bool) → ListingWrites (linesFor supplier) (listingWith (linesFor supplier)) jobCall
+unfolding answerWith bufferWith listingTable
+of-listing supplier = record {
+  writes = λ job table l. writes_bytes _ (listed (linesFor supplier) (outcome job)) listingRoom (λ lent. rw (le-ltb (length table) tableNumbers l) refl) (listing-short supplier job);
   table-back = λ job table lent supplier tally k. sym (known job table supplier tally k).1;
 }
 
-pub writers : Writers buildCall schemeCall plainCall checkCall listingCall jobCall
-writers = record { of-build = of-build; of_plain = of_plain; of-listing = of-listing }
+pub writers : Writers buildCall schemeCall plainCall checkCall listingCall supplierListingCall jobCall
+writers = record { of-build = of-build; of_plain = of_plain; of-listing = of-listing false; of-supplier-listing = of-listing true }

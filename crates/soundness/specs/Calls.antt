@@ -17,7 +17,8 @@ use Rattle.plain.specs.Answer.{plainAnswer, plainBuffer}
 use Rattle.job.specs.declared.Tally.{Tally}
 use Rattle.job.specs.declared.JobAnswer.{JobAnswer}
 use Rattle.job.specs.Answer.{jobAnswer, jobTable}
-use Rattle.listing.specs.Answer.{listingAnswer, listingTable, listingBuffer}
+use Rattle.listing.specs.Listing.{PlanLines, planLines, supplierLines}
+use Rattle.listing.specs.Answer.{answerWith, listingTable, bufferWith}
 use Rattle.search.specs.declared.SearchAnswer.{SearchAnswer}
 use Rattle.search.specs.Answer.{searchAnswer}
 
@@ -53,7 +54,7 @@ BuildCall = List ℕ → List ℕ → WriterAnswer × List ℕ
 abbrev pub JobCall : Type 0
 JobCall = List ℕ → List ℤ → ℕ → Tally → JobAnswer × List ℤ
 
--- a job, the table and the byte buffer
+-- a job, the table and the byte buffer: the farm's listing, and the supplier's
 abbrev pub ListingCall : Type 0
 ListingCall = List ℕ → List ℤ → List ℕ → WriterAnswer × (List ℤ × List ℕ)
 
@@ -91,8 +92,16 @@ buildCall register lent = (buildAnswer register lent, buildBuffer register lent)
 abbrev pub jobCall : JobCall
 jobCall job lent supplier tally = (jobAnswer job lent supplier tally, jobTable job lent supplier)
 
+-- the two listing calls, by the lines that each writes of a register and a plan
+
+abbrev pub listingWith : PlanLines → ListingCall
+listingWith lines job table buffer = (answerWith lines job table buffer, (listingTable job table, bufferWith lines job table buffer))
+
 abbrev pub listingCall : ListingCall
-listingCall job table buffer = (listingAnswer job table buffer, (listingTable job table, listingBuffer job table buffer))
+listingCall = listingWith planLines
+
+abbrev pub supplierListingCall : ListingCall
+supplierListingCall = listingWith supplierLines
 
 abbrev pub searchCall : SearchCall
 searchCall register limit = searchAnswer register limit

@@ -26,7 +26,7 @@ use Rattle.plan.specs.Format.{planPart}
 use Rattle.job.specs.declared.Tally.{Tally}
 use Rattle.job.specs.Tally.{suppliers, withRefused, moved}
 use Rattle.job.specs.Outcome.{outcome, tableAfter}
-use Rattle.listing.specs.Listing.{listing}
+use Rattle.listing.specs.Listing.{PlanLines, planLines, supplierLines, listed}
 use Rattle.search.specs.Answer.{search}
 use Rattle.soundness.specs.Calls.{RegisterCall, SchemeCall, CostCall, PenaltyCall, CheckCall, PlainCall, BuildCall, JobCall, ListingCall, SearchCall}
 use Rattle.soundness.specs.Parts.{Part1, Part2, Part3, NoneFit, withR}
@@ -266,8 +266,9 @@ pub record JobRefusals (call : JobCall) : Type 0 where
       ⊎ (FromCertificate a.number a.part a.position job lent table
       ⊎ FromPlan a.number a.part a.position job lent table)))
 
--- its only refusal is 11; a buffer below the lines is found after the job is read, and the table is then the one after the job
-pub record ListingRefusals (call : ListingCall) : Type 0 where
+-- of a listing with these lines of a register and a plan the only refusal is 11; a buffer below the lines is found after the job is
+-- read, and the table is then the one after the job
+pub record ListingRefusals (lines : PlanLines) (call : ListingCall) : Type 0 where
   pub short : (job : List ℕ) (table : List ℤ) (buffer : List ℕ) → length table < tableNumbers →
       call job table buffer ≡ (record { number = 11; part = 0; position = 0; count = 0 }, (table, buffer))
   pub refused : (job : List ℕ) (table : List ℤ) → tableNumbers ≤ length table → (buffer : List ℕ) →
@@ -275,7 +276,7 @@ pub record ListingRefusals (call : ListingCall) : Type 0 where
       (a.number ≡ 0 → ⊥) →
       (a.count ≡ 0)
       × ((call job table buffer).1 ≡ (tableAfter job table, buffer))
-      × ShortBuffer a.number a.part a.position (listing (outcome job)) buffer
+      × ShortBuffer a.number a.part a.position (listed lines (outcome job)) buffer
 
 abbrev pub SearchRefusals : SearchCall → Type 0
 SearchRefusals call = (register : List ℕ) → Bytes register → (limit : ℕ) →
@@ -289,7 +290,7 @@ SearchRefusals call = (register : List ℕ) → Bytes register → (limit : ℕ)
     ⊎ NoneFits a.number a.part a.position register limit))
 
 -- every call
-pub record Refusals (register : RegisterCall) (scheme : SchemeCall) (builder : BuildCall) (cost : CostCall) (penalty : PenaltyCall) (check : CheckCall) (plain : PlainCall) (job : JobCall) (lines : ListingCall) (cheapest : SearchCall) : Type 0 where
+pub record Refusals (register : RegisterCall) (scheme : SchemeCall) (builder : BuildCall) (cost : CostCall) (penalty : PenaltyCall) (check : CheckCall) (plain : PlainCall) (job : JobCall) (lines supplier : ListingCall) (cheapest : SearchCall) : Type 0 where
   pub of-register : RegisterRefusals register
   pub of-scheme : SchemeRefusals scheme
   pub of-builder : BuildRefusals builder
@@ -298,5 +299,6 @@ pub record Refusals (register : RegisterCall) (scheme : SchemeCall) (builder : B
   pub of-check : CheckRefusals check
   pub of_plain : PlainRefusals plain
   pub of-job : JobRefusals job
-  pub of-listing : ListingRefusals lines
+  pub of-listing : ListingRefusals planLines lines
+  pub of-supplier-listing : ListingRefusals supplierLines supplier
   pub of-search : SearchRefusals cheapest

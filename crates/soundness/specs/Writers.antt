@@ -18,7 +18,7 @@ use Rattle.plain.specs.Plain.{plain}
 use Rattle.job.specs.declared.Tally.{Tally}
 use Rattle.job.specs.Tally.{suppliers}
 use Rattle.job.specs.Outcome.{outcome}
-use Rattle.listing.specs.Listing.{listing}
+use Rattle.listing.specs.Listing.{PlanLines, planLines, supplierLines, listed}
 use Rattle.listing.specs.Answer.{listingRoom}
 use Rattle.plain.specs.Answer.{ownBytes, ownRoom}
 use Rattle.soundness.specs.Calls.{SchemeCall, CheckCall, PlainCall, BuildCall, JobCall, ListingCall, front}
@@ -85,18 +85,20 @@ pub record PlainWrites (plainCall : PlainCall) (checkCall : CheckCall) : Type 0 
   pub only : (register scheme lent : List ℕ) → Bytes register → (plainCall register scheme lent).0.number ≡ 0 → (sch : Scheme) × OfScheme register scheme sch
   pub keeps : (register scheme : List ℕ) → KeepsRefused (plainCall register scheme)
 
--- ---- the listing
+-- ---- the listings
 
-pub record ListingWrites (listingCall : ListingCall) (jobCall : JobCall) : Type 0 where
-  -- with a table that is long enough: the lines of what the job leads to (`Jobs` says which they are)
+-- one that has these lines of a register and a plan before the last line
+pub record ListingWrites (lines : PlanLines) (listingCall : ListingCall) (jobCall : JobCall) : Type 0 where
+  -- with a table that is long enough: the lines of what the job leads to (`Jobs` and `SupplierListing` say which they are)
   pub writes : (job : List ℕ) (table : List ℤ) → tableNumbers ≤ length table →
-      Writes (λ lent. ((listingCall job table lent).0, (listingCall job table lent).1.1)) (listing (outcome job)) listingRoom
+      Writes (λ lent. ((listingCall job table lent).0, (listingCall job table lent).1.1)) (listed lines (outcome job)) listingRoom
   -- the table is the one that the job call hands back, for each supplier, whatever buffer is lent
   pub table-back : (job : List ℕ) (table : List ℤ) (lent : List ℕ) (supplier : ℕ) (tally : Tally) → supplier < suppliers →
       (listingCall job table lent).1.0 ≡ (jobCall job table supplier tally).1
 
--- of the three calls, and of those that read what two of them write
-pub record Writers (buildCall : BuildCall) (schemeCall : SchemeCall) (plainCall : PlainCall) (checkCall : CheckCall) (listingCall : ListingCall) (jobCall : JobCall) : Type 0 where
+-- of the four calls, and of those that read what two of them write
+pub record Writers (buildCall : BuildCall) (schemeCall : SchemeCall) (plainCall : PlainCall) (checkCall : CheckCall) (listingCall supplierCall : ListingCall) (jobCall : JobCall) : Type 0 where
   pub of-build : BuildWrites buildCall schemeCall
   pub of_plain : PlainWrites plainCall checkCall
-  pub of-listing : ListingWrites listingCall jobCall
+  pub of-listing : ListingWrites planLines listingCall jobCall
+  pub of-supplier-listing : ListingWrites supplierLines supplierCall jobCall

@@ -6,13 +6,13 @@
 ghost use Rattle.std.specs.Prelude.{◌≡◌};
 ghost use Rattle.wire.specs.Number.{Bytes};
 ghost use Rattle.job.specs.Counting.{Whole};
-ghost use Rattle.soundness.specs.Calls.{registerCall, schemeCall, costCall, penaltyCall, checkCall, plainCall, buildCall, jobCall, listingCall, searchCall};
+ghost use Rattle.soundness.specs.Calls.{registerCall, schemeCall, costCall, penaltyCall, checkCall, plainCall, buildCall, jobCall, listingCall, supplierListingCall, searchCall};
 
 use bound::CheckAnswer;
 use bound::check::feedcheck_check;
 use builder::feedcheck_build;
 use job::{JobAnswer, Tally, feedcheck_job};
-use listing::feedcheck_listing;
+use listing::{feedcheck_listing, feedcheck_supplier_listing};
 use penalty::{PenaltyAnswer, feedcheck_penalty};
 use plain::feedcheck_plain;
 use plan::{CostAnswer, feedcheck_cost};
@@ -105,6 +105,14 @@ pub fn listing_call(job: &[u8], table: &mut [i64], buffer: &mut [u8]) -> WriterA
     ensures buffer_after { buffer.new ≡ (listingCall job.now table.old buffer.old).1.1 }
 {
     feedcheck_listing(job, table, buffer)
+}
+
+pub fn supplier_listing_call(job: &[u8], table: &mut [i64], buffer: &mut [u8]) -> WriterAnswer
+    ensures value { result ≡ (supplierListingCall job.now table.old buffer.old).0 }
+    ensures table_after { table.new ≡ (supplierListingCall job.now table.old buffer.old).1.0 }
+    ensures buffer_after { buffer.new ≡ (supplierListingCall job.now table.old buffer.old).1.1 }
+{
+    feedcheck_supplier_listing(job, table, buffer)
 }
 
 pub fn search_call(register: &[u8], limit: u32) -> SearchAnswer

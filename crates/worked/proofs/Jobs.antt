@@ -45,7 +45,7 @@ use Rattle.job.specs.declared.Tally.{Tally}
 use Rattle.job.specs.declared.JobAnswer.{JobAnswer}
 use Rattle.job.specs.Tally.{suppliers, raised, withAccepted, withRefused, pairOf, withPair, moved}
 use Rattle.job.specs.Answer.{refusedAnswer, afterJob, jobAnswer}
-use Rattle.listing.specs.Listing.{choiceLines, fedLines, acceptedLines, listing}
+use Rattle.listing.specs.Listing.{choiceLines, fedLines, supplierLines, acceptedLines, listed, listing, supplierListing}
 
 -- parts 1 and 2
 abbrev pub front : List ℕ
@@ -128,5 +128,15 @@ pub jobs : map (λ s. listing (outcome s)) examples
     ∷ (0x52 ∷ 0x20 ∷ 0x39 ∷ 0x20 ∷ 0x31 ∷ 0x30 ∷ 0x37 ∷ 0x0A ∷ [])
     ∷ (0x52 ∷ 0x20 ∷ 0x31 ∷ 0x32 ∷ 0x20 ∷ 0x31 ∷ 0x31 ∷ 0x33 ∷ 0x0A ∷ [])
     ∷ []
-unfolding listing acceptedLines choiceLines fedLines line decimal digits digitsTo flat_map joinBelow isMember isSubset bound ceilDiv cost sumBelow
+unfolding listed acceptedLines choiceLines fedLines line decimal digits digitsTo flat_map joinBelow isMember isSubset bound ceilDiv cost sumBelow
 jobs = map-map listing outcome examples ∙ ap (map listing) outcomes
+
+-- and the lines of a supplier: `C 0 1`, `C 1 1`, `C 2 0`, `B 0 0 0`; the same of a refusal
+pub supplier-jobs : map (λ s. supplierListing (outcome s)) examples
+    ≡ (0x43 ∷ 0x20 ∷ 0x30 ∷ 0x20 ∷ 0x31 ∷ 0x0A ∷ 0x43 ∷ 0x20 ∷ 0x31 ∷ 0x20 ∷ 0x31 ∷ 0x0A ∷ 0x43 ∷ 0x20 ∷ 0x32 ∷ 0x20 ∷ 0x30 ∷ 0x0A
+    ∷ 0x42 ∷ 0x20 ∷ 0x30 ∷ 0x20 ∷ 0x30 ∷ 0x20 ∷ 0x30 ∷ 0x0A ∷ [])
+    ∷ (0x52 ∷ 0x20 ∷ 0x39 ∷ 0x20 ∷ 0x31 ∷ 0x30 ∷ 0x37 ∷ 0x0A ∷ [])
+    ∷ (0x52 ∷ 0x20 ∷ 0x31 ∷ 0x32 ∷ 0x20 ∷ 0x31 ∷ 0x31 ∷ 0x33 ∷ 0x0A ∷ [])
+    ∷ []
+unfolding listed acceptedLines supplierLines line decimal digits digitsTo flat_map joinBelow isMember isSubset bound ceilDiv cost sumBelow
+supplier-jobs = map-map supplierListing outcome examples ∙ ap (map supplierListing) outcomes

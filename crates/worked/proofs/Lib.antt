@@ -1,4 +1,5 @@
 pub mod Alone
 pub mod Own
 pub mod Jobs
+pub mod Told
 pub mod Table

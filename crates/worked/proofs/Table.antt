@@ -41,10 +41,10 @@ use Rattle.job.specs.Outcome.{outcome}
 use Rattle.job.specs.declared.Tally.{Tally}
 use Rattle.job.specs.Tally.{suppliers, pairOf, withPair}
 use Rattle.job.specs.Answer.{refusedAnswer, jobAnswer}
-use Rattle.listing.specs.Listing.{listing}
+use Rattle.listing.specs.Listing.{listing, supplierListing}
 use Rattle.worked.proofs.Alone as Alone
 use Rattle.worked.proofs.Own.{w7-checked}
-use Rattle.worked.proofs.Jobs.{lines, counted, counted-last, unknown, jobs}
+use Rattle.worked.proofs.Jobs.{lines, counted, counted-last, unknown, jobs, supplier-jobs}
 
 -- the example's four parts; the third with T below 256
 
@@ -182,6 +182,13 @@ pub record Worked : Type 0 where
       ∷ (0x52 ∷ 0x20 ∷ 0x39 ∷ 0x20 ∷ 0x31 ∷ 0x30 ∷ 0x37 ∷ 0x0A ∷ [])
       ∷ (0x52 ∷ 0x20 ∷ 0x31 ∷ 0x32 ∷ 0x20 ∷ 0x31 ∷ 0x31 ∷ 0x33 ∷ 0x0A ∷ [])
       ∷ []
+  -- a supplier's: `C 0 1`, `C 1 1`, `C 2 0`, `B 0 0 0`, and the same of a refusal
+  pub w9-supplier-lines : map (λ s. supplierListing (outcome s)) examples
+      ≡ (0x43 ∷ 0x20 ∷ 0x30 ∷ 0x20 ∷ 0x31 ∷ 0x0A ∷ 0x43 ∷ 0x20 ∷ 0x31 ∷ 0x20 ∷ 0x31 ∷ 0x0A ∷ 0x43 ∷ 0x20 ∷ 0x32 ∷ 0x20 ∷ 0x30 ∷ 0x0A
+      ∷ 0x42 ∷ 0x20 ∷ 0x30 ∷ 0x20 ∷ 0x30 ∷ 0x20 ∷ 0x30 ∷ 0x0A ∷ [])
+      ∷ (0x52 ∷ 0x20 ∷ 0x39 ∷ 0x20 ∷ 0x31 ∷ 0x30 ∷ 0x37 ∷ 0x0A ∷ [])
+      ∷ (0x52 ∷ 0x20 ∷ 0x31 ∷ 0x32 ∷ 0x20 ∷ 0x31 ∷ 0x31 ∷ 0x33 ∷ 0x0A ∷ [])
+      ∷ []
 
 pub worked : Worked
 unfolding joinBelow
@@ -211,4 +218,5 @@ worked = record {
   w9-limit = λ lent supplier tally k l e. counted-last lent supplier tally k l e;
   w9-unknown = unknown;
   w9-lines = jobs;
+  w9-supplier-lines = supplier-jobs;
 }

@@ -1,0 +1,9 @@
+// Reads a job from standard input and prints the lines that its supplier may read.
+
+#![tactic(auto)]
+
+use std::io;
+
+fn main(rt: HostRuntime) -> io::Result<()> {
+    console::print_supplier_listing(&rt)
+}
