@@ -1,5 +1,6 @@
 // The example of the scope through include/feedcheck.h, every call, a register with windows, days of each length, a register with
-// rows, and a tally of several suppliers. Prints a line and exits 1 where an answer is another than the scope's.
+// rows, a tally of several suppliers, and what a supplier may read. Prints a line and exits 1 where an answer is another than the
+// scope's.
 #include <stddef.h>
 #include <stdio.h>
 #include <string.h>
@@ -130,6 +131,39 @@ static void try_suppliers(int64_t *table) {
     expect("suppliers, table not written", table[0] == 77 && table[FEEDCHECK_TABLE_NUMBERS - 1] == 77);
 }
 
+// Whether the supplier is shown just these lines of a job.
+static int shown(const uint8_t *job, size_t length, int64_t *table, const char *lines) {
+    uint8_t buffer[64];
+    size_t count = strlen(lines);
+    memset(buffer, 0xAA, sizeof buffer);
+    FeedcheckWriterAnswer w = feedcheck_supplier_listing(job, length, table, FEEDCHECK_TABLE_NUMBERS, buffer, count + 1);
+    return w.number == 0 && w.part == 0 && w.position == 0 && w.count == count && memcmp(buffer, lines, count) == 0 &&
+           buffer[count] == 0xAA;
+}
+
+// Whether the example is refused for a table of so many numbers or a buffer of so many bytes, with no byte written.
+static int short_lent(int64_t *table, size_t numbers, size_t bytes) {
+    uint8_t buffer[64], as_lent[64];
+    memset(buffer, 0xAA, sizeof buffer);
+    memset(as_lent, 0xAA, sizeof as_lent);
+    table[0] = 77;
+    FeedcheckWriterAnswer w = feedcheck_supplier_listing(JOB, sizeof JOB, table, numbers, buffer, bytes);
+    return w.number == 11 && w.part == 0 && w.position == 0 && w.count == 0 && memcmp(buffer, as_lent, sizeof buffer) == 0;
+}
+
+// The example, also with other tanks and minutes and cut off, and lent too little.
+static void try_supplier_listing(int64_t *table) {
+    static const char LINES[] = "C 0 1\nC 1 1\nC 2 0\nB 0 0 0\n";
+    uint8_t other[sizeof JOB];
+    expect("supplier's listing", shown(JOB, sizeof JOB, table, LINES));
+    memcpy(other, JOB, sizeof JOB);
+    other[6] = other[11] = 1, other[8] = 0, other[16] = 9;
+    expect("supplier's listing, other tanks and minutes", shown(other, sizeof other, table, LINES));
+    expect("supplier's listing, refused job", shown(JOB, sizeof JOB - 1, table, "R 2 108\n"));
+    expect("supplier's listing, short buffer", short_lent(table, FEEDCHECK_TABLE_NUMBERS, strlen(LINES) - 1) && table[0] == 0);
+    expect("supplier's listing, short table", short_lent(table, FEEDCHECK_TABLE_NUMBERS - 1, strlen(LINES)) && table[0] == 77);
+}
+
 int main(void) {
     static int64_t table[FEEDCHECK_TABLE_NUMBERS];
     uint8_t buffer[FEEDCHECK_MAX_LISTING];
@@ -192,7 +226,8 @@ int main(void) {
     static const char LINES[] = "T 0 4 480\nT 1 4 720\nT 2 7 480\nF 4 480\nF 4 720\nB 0 0 0\n";
     w = feedcheck_listing(JOB, sizeof JOB, table, FEEDCHECK_TABLE_NUMBERS, buffer, sizeof buffer);
     expect("listing", w.number == 0 && w.count == strlen(LINES) && memcmp(buffer, LINES, w.count) == 0);
+    try_supplier_listing(table);
     if (!failed)
-        printf("header: the example, the windows, the days, the rows and the suppliers are answered as the scope says\n");
+        printf("header: the example, the windows, the days, the rows, the suppliers and their listing are answered as the scope says\n");
     return failed;
 }

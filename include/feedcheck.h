@@ -1,4 +1,4 @@
-/* The ten calls of the library. Every call is a pure function of the bytes that it is given: nothing is kept between calls.
+/* The eleven calls of the library. Every call is a pure function of the bytes that it is given: nothing is kept between calls.
  *
  * A run of bytes is a pointer and a length. A pointer is never null, also where the length is 0; a table is aligned as int64_t.
  * A lent table or buffer overlaps nothing else that the call is given. A table has at least FEEDCHECK_TABLE_NUMBERS numbers; a
@@ -7,7 +7,7 @@
  * An answer's number is 0, or that of a refusal, 1 to 17; then part and position say which command is refused, and every other
  * field is 0 (a job's tally is carried on all the same). The numbers are explained in docs/REFUSALS.md.
  *
- * Each call stands in a static library of its own, target/staticlib/libNAME.a; the name is given beside each call.
+ * The calls stand in ten static libraries, target/staticlib/libNAME.a, both listings in one; the name is given beside each call.
  * tools/libraries makes all ten, tools/libraries NAME one. They can be linked together. include/example.c and include/suppliers.c
  * are complete programs, and docs/LINKING.md has the commands. */
 #ifndef FEEDCHECK_H
@@ -33,7 +33,7 @@ enum {
     FEEDCHECK_TABLE_NUMBERS = 4225, /* numbers of a working table */
     FEEDCHECK_MAX_BUILT = 865,      /* a buffer of so many bytes is enough for every scheme that is built */
     FEEDCHECK_MAX_PLAIN = 1294,     /* for every certificate of our own */
-    FEEDCHECK_MAX_LISTING = 4096,   /* for every listing */
+    FEEDCHECK_MAX_LISTING = 4096,   /* for every listing, the farm's and the supplier's */
     FEEDCHECK_MAX_JOB = 26037,      /* no job of more bytes is accepted */
     FEEDCHECK_MAX_JOB_READ = 26166  /* a longer job is answered as its first so many bytes are */
 };
@@ -170,9 +170,16 @@ FeedcheckWriterAnswer feedcheck_plain(const uint8_t *reg, size_t reg_length, con
 FeedcheckJobAnswer feedcheck_job(const uint8_t *job, size_t job_length, int64_t *table, size_t table_length, uint8_t supplier,
                                  FeedcheckTally tally);
 
-/* Writes the lines of a job; a refused job has one line, and is no refusal of this call. liblisting.a */
+/* Writes the farm's lines of a job; a refused job has one line, and is no refusal of this call. liblisting.a */
 FeedcheckWriterAnswer feedcheck_listing(const uint8_t *job, size_t job_length, int64_t *table, size_t table_length,
                                         uint8_t *buffer, size_t buffer_length);
+
+/* Writes what the supplier of a job may read; lent and refused as feedcheck_listing. For each choice the line `C`, its number and 1
+ * or 0 for fed or not, then the farm's `B` line; of a refused job its `R` line. No tank, minute or window is in the lines: accepted
+ * jobs that differ only in the tanks and minutes of choices and in the tanks, "from" and "to" of windows, and are lent alike, get
+ * the same answer and leave the same in buffer and table. liblisting.a */
+FeedcheckWriterAnswer feedcheck_supplier_listing(const uint8_t *job, size_t job_length, int64_t *table, size_t table_length,
+                                                 uint8_t *buffer, size_t buffer_length);
 
 #ifdef __cplusplus
 }

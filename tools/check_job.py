@@ -2,9 +2,11 @@
 """The lines of a job, worked out from the scope paper and the requests by themselves, slowly and in Python's whole numbers. It shares no
 code with the library; its answers are a second opinion, not a proof.
 
-    tools/check_job.py FILE            prints the lines of the job in FILE
-    tools/check_job.py --rest FILE     prints R, row by row, with what each row has left over, where `3F` is reached
-    tools/check_job.py --compare DIR   compares each NAME.job in DIR with NAME.out
+    tools/check_job.py FILE              prints the lines of the job in FILE
+    tools/check_job.py --supplier FILE   prints the lines that its supplier reads
+    tools/check_job.py --both FILE       prints both listings side by side, the supplier's on the right
+    tools/check_job.py --rest FILE       prints R, row by row, with what each row has left over, where `3F` is reached
+    tools/check_job.py --compare DIR     compares each NAME.job in DIR with NAME.out, and with NAME.supplier where there is one
 """
 import pathlib
 import sys
@@ -207,48 +209,81 @@ class Job:
         """The lines of a plan's feedings."""
         return [f"F {t} {m}" for i, (t, m) in enumerate(self.choices) if plan >> i & 1]
 
-    def lines(self):
+    def listings(self):
+        """The lines that the farm reads, and those that the supplier reads."""
         try:
             for self.part, read in enumerate([self.register, self.scheme, self.certificate, self.plan], 1):
                 read()
         except Refused as refusal:
             number, _, position = refusal.args
-            return [f"R {number} {position}"]
+            refused = [f"R {number} {position}"]
+            return refused, refused
         cost, bound = self.cost(self.fed), -(-self.T // self.s)
+        last = f"B {bound} {cost} {cost - bound}"
         choices = [f"T {i} {t} {m}" for i, (t, m) in enumerate(self.choices)]
-        return choices + self.feedings(self.fed) + [f"B {bound} {cost} {cost - bound}"]
+        fed = [f"C {i} {self.fed >> i & 1}" for i in range(len(self.choices))]
+        return choices + self.feedings(self.fed) + [last], fed + [last]
 
 
-def text(job):
-    return "".join(line + "\n" for line in Job(job).lines())
+def farm(job):
+    return Job(job).listings()[0]
 
 
-def compare(folder):
-    jobs = sorted(pathlib.Path(folder).glob("*.job"))
-    failed = [path.name for path in jobs if text(path.read_bytes()) != path.with_suffix(".out").read_text()]
-    for name in failed:
-        print("not the expected lines:", name)
-    print(f"{len(jobs) - len(failed)} passed, {len(failed)} failed")
-    return 1 if failed or not jobs else 0
+def supplier(job):
+    return Job(job).listings()[1]
+
+
+def both(job):
+    """Both listings side by side, the two lines of a choice in one row and the two last lines in one."""
+    left, right = Job(job).listings()
+    beside = right[:-1] + [""] * (len(left) - len(right)) + right[-1:]
+    width = max(map(len, left))
+    return [f"{line:{width}} | {other}".rstrip() for line, other in zip(left, beside)]
 
 
 def rest(job):
+    """R, row by row."""
     read = Job(job)
-    read.lines()
-    if read.table:
-        for i, (row, left) in enumerate(zip(read.table, read.left_over())):
-            print(f"row {i}, left over {left}:", *row)
+    read.listings()
+    rows = zip(read.table, read.left_over()) if read.table else []
+    return [f"row {i}, left over {left}: " + " ".join(map(str, row)) for i, (row, left) in enumerate(rows)]
+
+
+PRINTED = {"--supplier": supplier, "--both": both, "--rest": rest}
+
+
+def text(lines):
+    return "".join(line + "\n" for line in lines)
+
+
+def compare(folder):
+    passed, failed = 0, []
+    for path in sorted(pathlib.Path(folder).glob("*.job")):
+        for lines, suffix in zip(Job(path.read_bytes()).listings(), (".out", ".supplier")):
+            expected = path.with_suffix(suffix)
+            if suffix == ".supplier" and not expected.exists():
+                continue
+            if text(lines) == expected.read_text():
+                passed += 1
+            else:
+                failed.append(expected.name)
+    for name in failed:
+        print("not the expected lines:", name)
+    print(f"{passed} passed, {len(failed)} failed")
+    return 0 if passed and not failed else 1
 
 
 def main():
-    if len(sys.argv) == 2:
-        sys.stdout.write(text(pathlib.Path(sys.argv[1]).read_bytes()))
-    elif len(sys.argv) == 3 and sys.argv[1] == "--rest":
-        rest(pathlib.Path(sys.argv[2]).read_bytes())
-    elif len(sys.argv) == 3 and sys.argv[1] == "--compare":
-        sys.exit(compare(sys.argv[2]))
+    words = sys.argv[1:]
+    if len(words) == 2 and words[0] == "--compare":
+        sys.exit(compare(words[1]))
+    if len(words) == 2 and words[0] in PRINTED:
+        lines_of = PRINTED[words[0]]
+    elif len(words) == 1:
+        lines_of = farm
     else:
         sys.exit(__doc__)
+    sys.stdout.write(text(lines_of(pathlib.Path(words[-1]).read_bytes())))
 
 
 if __name__ == "__main__":

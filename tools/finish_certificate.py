@@ -10,7 +10,7 @@ import sys
 
 sys.dont_write_bytecode = True
 
-from check_job import Job, text
+from check_job import Job, farm
 from job_text import SQUARE, encode, operands, size
 
 ENTRY = 10_000
@@ -27,7 +27,7 @@ def commands(job):
 def table(front, scale, multipliers, plan):
     """B for T = 0."""
     job = Job(front + encode(0x30, {"s": scale, "T": 0}) + multipliers + b"\x3F" + plan)
-    lines = job.lines()
+    lines, _ = job.listings()
     if job.table is None:
         sys.exit(f"the parts without squares are refused: {lines[0]}")
     return job.table
@@ -106,7 +106,7 @@ def main():
         sys.exit(__doc__)
     job = finish(pathlib.Path(sys.argv[1]).read_bytes())
     pathlib.Path(sys.argv[2]).write_bytes(job)
-    print(text(job).splitlines()[-1])
+    print(farm(job)[-1])
 
 
 if __name__ == "__main__":

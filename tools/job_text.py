@@ -4,6 +4,7 @@
     tools/job_text.py show FILE        prints the lines of the bytes in FILE
     tools/job_text.py make FILE        writes the bytes of the lines in FILE to standard output
     tools/job_text.py register FILE    writes part 1 of the job in FILE to standard output
+    tools/job_text.py blank FILE       writes the job in FILE with 0 for each tank, minute, "from" and "to" to standard output
 
 A line is a command: position, part, command byte, name, operands, and in parentheses what they mean. `make` looks only at the
 command byte and the operands, so positions need not be mended after a change, and in lines written by hand `-` may stand in their
@@ -12,7 +13,8 @@ variables, those of a row of the register z0 to z31 for the choices; those that 
 the day began, 24:59 for the last minute of a day of 25 hours; it is left out where the minute is not one of the day, whose length is
 that of the `18` directly after `10`, or the usual one.
 From the first byte that is no command, or begins a command that is cut off, or stands after the plan, the bytes are shown as
-they are, after `raw`. `register` looks only for the end of part 1, not whether what stands before it is right.
+they are, after `raw`, and `blank` leaves them as they are. `register` looks only for the end of part 1, not whether what stands
+before it is right.
 """
 import sys
 
@@ -51,6 +53,8 @@ COMMANDS = {
     0x40: (4, "plan", [("fed", U32)]),
 }
 HEXADECIMAL = ("mask", "fed")
+# operands on which the supplier's lines of an accepted job do not depend
+HIDDEN = ("tank", "minute", "from", "to")
 # command byte: entries that are left out where they are 0
 ENTRIES = {0x14: ROW, 0x3A: SQUARE}
 
@@ -77,6 +81,14 @@ def encode(byte, values):
         value = values.get(name, 0) if name in ENTRIES.get(byte, ()) else values[name]
         parts.append(value.to_bytes(width, "little", signed=signed))
     return b"".join(parts)
+
+
+def commands(job):
+    """The position and byte of each command, up to the first byte that is none, or begins one that is cut off, or stands after the plan."""
+    at = 0
+    while at < len(job) and job[at] in COMMANDS and at + size(job[at]) <= len(job):
+        yield at, job[at]
+        at = len(job) if job[at] == 0x40 else at + size(job[at])
 
 
 def choices_of(mask):
@@ -197,17 +209,14 @@ class Meaning:
 
 def show(job):
     """The lines of a job."""
-    meaning, at, lines = Meaning(), 0, []
-    while at < len(job) and job[at] in COMMANDS and at + size(job[at]) <= len(job):
-        byte, values = job[at], operands(job, at)
+    meaning, end, lines = Meaning(), 0, []
+    for at, byte in commands(job):
+        values, end = operands(job, at), at + size(byte)
         part, name, _ = COMMANDS[byte]
         shown = [f"{f} 0x{x:08X}" if f in HEXADECIMAL else f"{f} {x}" for f, x in values.items() if x or f not in ENTRIES.get(byte, ())]
         said = meaning.after(byte, values)
         lines.append("  ".join([f"{at:05}", str(part), f"{byte:02X} {name:8}"] + shown + ([f"({said})"] if said else [])).rstrip())
-        at += size(byte)
-        if byte == 0x40:
-            break
-    for start in range(at, len(job), 16):
+    for start in range(end, len(job), 16):
         lines.append(f"{start:05}  -  raw  " + job[start:start + 16].hex(" ").upper())
     return lines
 
@@ -237,16 +246,24 @@ def make(lines):
 
 def register_of(job):
     """The bytes up to the end of part 1, None where commands of part 1 don't lead to it."""
-    at = 0
-    while at < len(job) and job[at] in COMMANDS and COMMANDS[job[at]][0] == 1:
-        if job[at] == 0x1F:
+    for at, byte in commands(job):
+        if COMMANDS[byte][0] != 1:
+            break
+        if byte == 0x1F:
             return job[:at + 1]
-        at += size(job[at])
     return None
 
 
+def blank(job):
+    """The bytes with 0 for each operand that is hidden from the supplier."""
+    blanked = b""
+    for at, byte in commands(job):
+        blanked += encode(byte, {name: 0 if name in HIDDEN else value for name, value in operands(job, at).items()})
+    return blanked + job[len(blanked):]
+
+
 def main():
-    if len(sys.argv) != 3 or sys.argv[1] not in ("show", "make", "register"):
+    if len(sys.argv) != 3 or sys.argv[1] not in ("show", "make", "register", "blank"):
         sys.exit(__doc__)
     if sys.argv[1] == "make":
         with open(sys.argv[2], encoding="utf-8") as file:
@@ -257,10 +274,10 @@ def main():
     if sys.argv[1] == "show":
         print("\n".join(show(job)))
         return
-    register = register_of(job)
-    if register is None:
+    written = register_of(job) if sys.argv[1] == "register" else blank(job)
+    if written is None:
         sys.exit("part 1 has no end")
-    sys.stdout.buffer.write(register)
+    sys.stdout.buffer.write(written)
 
 
 if __name__ == "__main__":

@@ -1,17 +1,19 @@
 #!/usr/bin/env python3
-"""Tries tools/job_text.py: bytes to lines and back, on every example, on every file of the folders given, and on damaged copies of
-five jobs, one without windows, one with them, one with a day's length too and two with a row: each front of it, each byte changed to
-eight others, each byte left out. Then the lines of registers with windows, lengths and rows, right ones and others, and of
-what names a row, lines that are no command, registers written by hand, and part 1 of jobs.
+"""Tries tools/job_text.py: bytes to lines and back, and the lines of what `blank` writes, on every example, on every file of the folders
+given, and on damaged copies of five jobs, one without windows, one with them, one with a day's length too and two with a row: each
+front of it, each byte changed to eight others, each byte left out. Then the bytes that `blank` writes of some others, the lines of
+registers with windows, lengths and rows, right ones and others, and of what names a row, lines that are no command, registers written
+by hand, and part 1 of jobs.
 
     tools/test_job_text.py [FOLDER ..]
 """
 import pathlib
+import re
 import sys
 
 sys.dont_write_bytecode = True
 
-from job_text import make, register_of, show
+from job_text import blank, make, register_of, show
 
 EXAMPLES = pathlib.Path(__file__).resolve().parent.parent / "examples"
 
@@ -157,6 +159,25 @@ ROW = bytes.fromhex("10 0A000000 11 0300 6801 11 0300 5802 11 0800 D002 14 0100 
                     "30 01000000 0700000000000000 3B 00 01 0000000000000000 39 02 0300000000000000 3F 40 06000000")
 
 
+# bytes, and what is left of them without tanks, minutes and windows: each command of part 1 and then a byte that is none, a window
+# and a choice that are cut off, a choice behind the plan, no bytes
+BLANK = [
+    ("10 0A000000 18 DC05 13 0400 2805 A005 13 0700 0000 DC05 11 0400 2805 11 0800 DB05 14 0100 0101" + 30 * "00"
+     + "12 03000000 FDFFFFFF 1F 7E 11 0400 2705",
+     "10 0A000000 18 DC05 13 0000 0000 0000 13 0000 0000 0000 11 0000 0000 11 0000 0000 14 0100 0101" + 30 * "00"
+     + "12 03000000 FDFFFFFF 1F 7E 11 0400 2705"),
+    ("11 0400 2705 13 0400 2805 A0", "11 0000 0000 13 0400 2805 A0"),
+    ("11 0400 27", "11 0400 27"),
+    ("40 03000000 11 0400 2705", "40 03000000 11 0400 2705"),
+    ("", ""),
+]
+
+
+def operands_of(lines):
+    """Lines without what they mean."""
+    return [line.split("  (")[0] for line in lines]
+
+
 def damaged(job):
     for at in range(len(job)):
         yield job[:at]
@@ -179,7 +200,13 @@ def main():
     for name in JOBS:
         jobs += [(f"{name}, damaged", job) for job in damaged((EXAMPLES / f"{name}.job").read_bytes())]
     jobs += [("a row, damaged", job) for job in [ROW, *damaged(ROW)]]
-    trials = [(f"not the same bytes: {name}", make(show(job)) == job) for name, job in jobs]
+    trials = []
+    for name, job in jobs:
+        lines = show(job)
+        trials.append((f"not the same bytes: {name}", make(lines) == job))
+        left = [re.sub(r"  (tank|minute|from|to) \d+", r"  \1 0", line) for line in operands_of(lines)]
+        trials.append((f"not blank, or something else is: {name}", operands_of(show(blank(job))) == left))
+    trials += [(f"not what is left: {run}", blank(bytes.fromhex(run)) == bytes.fromhex(left)) for run, left in BLANK]
     for commands in SHOWN:
         lines = show(bytes.fromhex("".join(run for run, _ in commands)))
         trials += [(f"not the line: {line}", shown == line) for (_, line), shown in zip(commands, lines, strict=True)]

@@ -8,7 +8,7 @@ use reference::register::{
 };
 use reference::scheme::{Scheme, MAX_PRODUCTS};
 use reference::{builder, plain};
-use std::collections::BTreeMap;
+use std::collections::{BTreeMap, BTreeSet};
 
 /// The bytes of the four parts, each by itself, and those of a job.
 #[derive(Clone, Default)]
@@ -128,9 +128,8 @@ fn choices(random: &mut Random, count: usize, end: u16) -> Vec<Choice> {
     all.into_iter().map(|(tank, minute)| Choice { tank, minute }).collect()
 }
 
-/// Windows of some of the tanks that have choices, each choice of theirs inside one, and of tanks that have none.
+/// Windows, or none.
 fn windows(random: &mut Random, register: &Register) -> Vec<Window> {
-    let (choices, length) = (&register.choices, register.day_length);
     let wanted = match random.below(10) {
         0..=3 => return Vec::new(),
         4..=6 => 1 + random.below(6),
@@ -138,9 +137,16 @@ fn windows(random: &mut Random, register: &Register) -> Vec<Window> {
         8 => MAX_WINDOWS - 1,
         _ => MAX_WINDOWS,
     };
+    so_many_windows(random, register, wanted, 70)
+}
+
+/// So many windows, or as many more as the choices need: of that percentage of the tanks that have choices, each choice of theirs
+/// inside one, and of tanks that have none.
+fn so_many_windows(random: &mut Random, register: &Register, wanted: usize, percent: usize) -> Vec<Window> {
+    let (choices, length) = (&register.choices, register.day_length);
     let mut tanks: Vec<u16> = choices.iter().map(|choice| choice.tank).collect();
     tanks.dedup();
-    tanks.retain(|_| random.chance(70));
+    tanks.retain(|_| random.chance(percent));
     // "to", by tank and "from".
     let mut found: BTreeMap<(u16, u16), u16> = BTreeMap::new();
     for &Choice { tank, minute } in choices.iter().filter(|choice| tanks.contains(&choice.tank)) {
@@ -1139,4 +1145,73 @@ fn damage_bytes(random: &mut Random, bytes: &mut Vec<u8>) {
             bytes.extend((0..count).map(|_| if random.chance(50) { random.pick(&COMMANDS) } else { random.next() as u8 }));
         }
     }
+}
+
+// What a supplier is not shown.
+
+/// The job, whose register this is, with other tanks, minutes, "from" and "to", and every other byte as it was. Where the job is
+/// accepted, this one mostly is.
+pub fn with_other_places(random: &mut Random, job: &[u8], register: &Register) -> Vec<u8> {
+    let mut operands = hidden_operands(register);
+    match random.below(4) {
+        0 => operands = hidden_operands(&with_other_tanks(random, register)),
+        1 | 2 => {
+            let mut other = register.clone();
+            other.choices = choices(random, register.choices.len(), register.day_length);
+            if !register.windows.is_empty() {
+                let percent = random.pick(&[70, 20, 0]);
+                other.windows = so_many_windows(random, &other, register.windows.len(), percent);
+                other.windows.truncate(register.windows.len());
+            }
+            operands = hidden_operands(&other);
+        }
+        // One number, or a few.
+        _ => {
+            for _ in 0..1 + random.below(3) {
+                let at = random.below(operands.len());
+                let (old, any) = (operands[at], 1 + random.below(9_999) as u16);
+                operands[at] = random.pick(&[old.wrapping_add(1), old.wrapping_sub(1), any, any % LONG_DAY]);
+            }
+        }
+    }
+    let mut other = job.to_vec();
+    for (at, operand) in hidden_positions(job).into_iter().zip(operands) {
+        other[at..at + 2].copy_from_slice(&operand.to_le_bytes());
+    }
+    other
+}
+
+/// The same with tanks of other numbers, in the same order.
+fn with_other_tanks(random: &mut Random, register: &Register) -> Register {
+    let mut other = register.clone();
+    let windows = other.windows.iter_mut().map(|window| &mut window.tank);
+    let mut tanks: Vec<&mut u16> = windows.chain(other.choices.iter_mut().map(|choice| &mut choice.tank)).collect();
+    let old: BTreeSet<u16> = tanks.iter().map(|tank| **tank).collect();
+    let mut new = BTreeSet::new();
+    while new.len() < old.len() {
+        let any = 1 + random.below(9_999) as u16;
+        new.insert(random.pick(&[any, any, 1, 2, 3, 9_998, 9_999]));
+    }
+    let renumbered: BTreeMap<u16, u16> = old.into_iter().zip(new).collect();
+    tanks.iter_mut().for_each(|tank| **tank = renumbered[*tank]);
+    other
+}
+
+/// The operands that a supplier is not shown, in the order of the bytes.
+fn hidden_operands(register: &Register) -> Vec<u16> {
+    let windows = register.windows.iter().flat_map(|window| [window.tank, window.from, window.to]);
+    windows.chain(register.choices.iter().flat_map(|choice| [choice.tank, choice.minute])).collect()
+}
+
+/// Where they stand in an accepted job.
+fn hidden_positions(job: &[u8]) -> Vec<usize> {
+    let (mut at, mut found) = (0, Vec::new());
+    while job[at] != 0x1F {
+        let size = 1 + widths(job[at]).iter().sum::<usize>();
+        if matches!(job[at], 0x11 | 0x13) {
+            found.extend((at + 1..at + size).step_by(2));
+        }
+        at += size;
+    }
+    found
 }

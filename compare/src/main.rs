@@ -6,19 +6,19 @@
 //! The folders have jobs, `*.job`, of which a part of the inputs is made. Exit status 1: a difference, or a refusal number that
 //! the scope gives a call or a command and that no input led to, or a length of the day or a number of rows that no accepted
 //! register had, or no accepted certificate with `3B`, or a supplier of whom no job was accepted or none refused, or something else
-//! that `report_suppliers` asks for.
+//! that `report_suppliers` or `report_listings` asks for.
 
-use compare::generate::{input, seed, Input, Whole};
+use compare::generate::{input, seed, with_other_places, Input, Whole};
 use compare::random::Random;
 use feedcheck::raw;
-use reference::register::{LONG_DAY, MAX_CHOICES, MAX_ROWS, SHORT_DAY, USUAL_DAY};
+use reference::register::{Register, LONG_DAY, MAX_CHOICES, MAX_ROWS, SHORT_DAY, USUAL_DAY};
 use reference::search::Found;
 use reference::table::NUMBERS as TABLE_NUMBERS;
 use reference::{Answer, Counters, Refusal, Tally, SUPPLIERS};
 use std::collections::BTreeMap;
 
 /// Each call, with the refusal numbers that the scope gives it.
-const CALLS: [(&str, &[u8]); 10] = [
+const CALLS: [(&str, &[u8]); 11] = [
     ("register", &[1, 2, 3, 4, 5, 6, 7, 12, 13]),
     ("scheme", &[1, 2, 3, 4, 5, 6, 7, 8, 12, 13]),
     ("build", &[1, 2, 3, 4, 5, 6, 7, 10, 11, 12, 13]),
@@ -29,7 +29,11 @@ const CALLS: [(&str, &[u8]); 10] = [
     ("plain", &[1, 2, 3, 4, 5, 6, 7, 8, 11, 12, 13]),
     ("job", &[1, 2, 3, 4, 5, 6, 7, 8, 9, 11, 12, 13, 15, 17]),
     ("listing", &[11]),
+    ("supplier_listing", &[11]),
 ];
+
+/// A listing call.
+type Listing<A> = fn(&[u8], &mut [i64], &mut [u8]) -> A;
 
 /// The numbers of an answer: 0, and the refusals 1 to 17.
 const NUMBERS: usize = 18;
@@ -71,6 +75,12 @@ const NOT_THERE: [&str; 3] = ["accepted otherwise", "refused otherwise", "lent a
 /// The jobs of a list that have one tally.
 const LIST: usize = 20;
 
+/// The buffer that is lent for the lines of an accepted job.
+const ROOMS: [&str; 4] = ["too short by more", "too short by one byte", "just long enough", "longer"];
+
+/// Where two accepted jobs may differ of which a supplier is shown the same.
+const APART: [&str; 5] = ["tanks of choices", "minutes", "tanks of windows", "\"from\"", "\"to\""];
+
 /// Numbers or bytes on either side of what is lent.
 const MARGIN: usize = 16;
 
@@ -97,28 +107,34 @@ struct Comparison {
     /// The jobs of the next list, and how many lists there were.
     jobs: Vec<Vec<u8>>,
     lists: u64,
+    /// Per listing call that was lent a table long enough, how many jobs are accepted, by `ROOMS`.
+    rooms: BTreeMap<&'static str, [u64; 4]>,
+    /// How many pairs of jobs of which a supplier must be shown the same were listed, and refused 11; how many of the listed ones
+    /// differ in each of `APART`.
+    pairs: [u64; 2],
+    apart: [u64; 5],
     /// What lent tables and buffers hold at first.
     contents: Vec<i64>,
 }
 
-/// A table or a buffer that is lent twice, once to each implementation, with something beside it.
+/// A table or a buffer that is lent alike to two calls, with something beside it.
 struct Lent<T> {
-    library: Vec<T>,
-    reference: Vec<T>,
+    first: Vec<T>,
+    second: Vec<T>,
 }
 
 impl<T: Copy + PartialEq> Lent<T> {
     fn new(all: Vec<T>) -> Self {
-        Lent { library: all.clone(), reference: all }
+        Lent { first: all.clone(), second: all }
     }
 
     fn both(&mut self) -> (&mut [T], &mut [T]) {
-        let end = self.library.len() - MARGIN;
-        (&mut self.library[MARGIN..end], &mut self.reference[MARGIN..end])
+        let end = self.first.len() - MARGIN;
+        (&mut self.first[MARGIN..end], &mut self.second[MARGIN..end])
     }
 
     fn same(&self) -> bool {
-        self.library == self.reference
+        self.first == self.second
     }
 }
 
@@ -217,7 +233,9 @@ impl Comparison {
         if self.jobs.len() == LIST {
             self.compare_list();
         }
-        self.compare_listing(input);
+        self.compare_listing("listing", input, raw::listing, reference::listing);
+        self.compare_listing("supplier_listing", input, raw::supplier_listing, reference::supplier_listing);
+        self.compare_pairs(input);
     }
 
     /// A call that writes bytes, at most `longest`.
@@ -411,30 +429,78 @@ impl Comparison {
         }
     }
 
-    fn compare_listing(&mut self, input: &Input) {
-        let count = reference::listing(&input.job, &mut [0; 4_225], &mut [0; 4_096]).expect("room for every listing");
+    /// A call that writes the lines of a job.
+    fn compare_listing(
+        &mut self,
+        call: &'static str,
+        input: &Input,
+        library: Listing<raw::WriterAnswer>,
+        reference: Listing<Answer<usize>>,
+    ) {
+        let (count, accepted) = lines_of(&input.job, reference);
         let mut buffer = self.buffer(count);
         let mut table = self.table();
         let (our_bytes, their_bytes) = buffer.both();
         let (ours, theirs) = table.both();
-        let library = raw::listing(&input.job, ours, our_bytes);
-        let answer = written(reference::listing(&input.job, theirs, their_bytes));
+        if accepted && ours.len() >= TABLE_NUMBERS {
+            let room = (our_bytes.len() + 2).saturating_sub(count).min(3);
+            self.rooms.get_mut(call).unwrap()[room] += 1;
+        }
+        let library = library(&input.job, ours, our_bytes);
+        let answer = written(reference(&input.job, theirs, their_bytes));
         let same = library == answer && table.same() && buffer.same();
-        self.count_answer("listing", answer.number, same, input, || {
+        self.count_answer(call, answer.number, same, input, || {
             format!("{library:?} {answer:?} tables {} buffers {}", table.same(), buffer.same())
         });
+    }
+
+    /// Of an accepted job, and of others that differ from it in tanks, minutes, "from" and "to" alone and are accepted too, the
+    /// library must show a supplier the same, lent alike: answer, every byte of the buffer and every number of the table.
+    fn compare_pairs(&mut self, input: &Input) {
+        let (count, true) = lines_of(&input.job, reference::supplier_listing) else { return };
+        let (register, _) = reference::register::read(&input.job).expect("the register of an accepted job");
+        for _ in 0..2 {
+            let other = with_other_places(&mut self.random, &input.job, &register);
+            if other == input.job || !lines_of(&other, reference::supplier_listing).1 {
+                continue;
+            }
+            let mut buffer = self.buffer(count);
+            let mut table = self.table();
+            let (bytes, other_bytes) = buffer.both();
+            let (numbers, other_numbers) = table.both();
+            let answer = raw::supplier_listing(&input.job, numbers, bytes);
+            let other_answer = raw::supplier_listing(&other, other_numbers, other_bytes);
+            if answer.number == 0 {
+                self.pairs[0] += 1;
+                let (other_register, _) = reference::register::read(&other).expect("the register of an accepted job");
+                let both = hidden(&register).into_iter().zip(hidden(&other_register));
+                self.apart.iter_mut().zip(both).for_each(|(count, (one, other))| *count += (one != other) as u64);
+            } else {
+                self.pairs[1] += 1;
+            }
+            if answer != other_answer || !table.same() || !buffer.same() {
+                self.differences += 1;
+                if self.differences <= 10 {
+                    println!(
+                        "jobs of which a supplier is not shown the same, input {}: {answer:?} {other_answer:?}",
+                        self.inputs
+                    );
+                    println!("  job  {}\n  job  {}", hexadecimal(&input.job), hexadecimal(&other));
+                }
+            }
+        }
     }
 
     /// Prints the counts; how many of the scope's refusal numbers, lengths of the day and numbers of rows no input led to.
     fn report(&self) -> usize {
         let mut missing = 0;
         println!("{} inputs, each to every call; how often each number was answered (0: accepted)", self.inputs);
-        print!("{:10}", "");
+        print!("{:16}", "");
         (0..NUMBERS).for_each(|number| print!("{number:>8}"));
         println!();
         for (call, expected) in CALLS {
             let numbers = &self.numbers[call];
-            print!("{call:10}");
+            print!("{call:16}");
             numbers.iter().for_each(|count| print!("{count:>8}"));
             println!();
             for &number in expected.iter().filter(|&&number| numbers[number as usize] == 0) {
@@ -454,7 +520,8 @@ impl Comparison {
             missing += (count == 0) as usize;
         }
         println!("accepted jobs with rows: {}; accepted certificates with 3B: {}", self.fitting, self.row_forms);
-        missing += (self.fitting == 0) as usize + (self.row_forms == 0) as usize + self.report_suppliers();
+        missing += (self.fitting == 0) as usize + (self.row_forms == 0) as usize;
+        missing += self.report_suppliers() + self.report_listings();
         println!("commands refused by the check, and those of part 4 by the cost (--: no byte there, or bytes after the end)");
         for ((part, byte), numbers) in &self.commands {
             let byte = byte.map_or("--".to_string(), |byte| format!("{byte:02X}"));
@@ -477,7 +544,6 @@ impl Comparison {
 
     /// Prints what was counted of suppliers; how much of it did not occur.
     fn report_suppliers(&self) -> usize {
-        let none = |counts: &[u64]| counts.iter().filter(|&&count| count == 0).count();
         println!("jobs accepted and refused, by the supplier");
         for (supplier, [accepted, refused]) in self.suppliers.iter().enumerate() {
             println!("{supplier}: {accepted} {refused}");
@@ -487,8 +553,47 @@ impl Comparison {
             println!("jobs refused 17, {kind}: {count}");
         }
         println!("lists of {LIST} jobs with one tally: {}", self.lists);
-        none(self.suppliers.as_flattened()) + none(&self.at_limit) + none(&self.not_there) + none(&[self.lists])
+        zeros(self.suppliers.as_flattened()) + zeros(&self.at_limit) + zeros(&self.not_there) + zeros(&[self.lists])
     }
+
+    /// Prints what was counted of listings; how much of it did not occur.
+    fn report_listings(&self) -> usize {
+        for (call, counts) in &self.rooms {
+            println!("accepted jobs, {call}, by the buffer");
+            ROOMS.iter().zip(counts).for_each(|(room, count)| println!("{room}: {count}"));
+        }
+        println!(
+            "pairs of jobs of which a supplier must be shown the same, listed and refused 11: {} {}",
+            self.pairs[0], self.pairs[1]
+        );
+        println!("listed ones that differ in");
+        APART.iter().zip(self.apart).for_each(|(kind, count)| println!("{kind}: {count}"));
+        self.rooms.values().map(|counts| zeros(counts)).sum::<usize>() + zeros(&self.pairs) + zeros(&self.apart)
+    }
+}
+
+/// How many of the counts are 0.
+fn zeros(counts: &[u64]) -> usize {
+    counts.iter().filter(|&&count| count == 0).count()
+}
+
+/// How many bytes a listing call writes of a job, and whether the job is accepted.
+fn lines_of(job: &[u8], listing: Listing<Answer<usize>>) -> (usize, bool) {
+    let mut lines = [0; 4_096];
+    let count = listing(job, &mut [0; 4_225], &mut lines).expect("room for every listing");
+    (count, lines[0] != b'R')
+}
+
+/// What a supplier is not shown of a register, as in `APART`.
+fn hidden(register: &Register) -> [Vec<u16>; 5] {
+    let (choices, windows) = (&register.choices, &register.windows);
+    [
+        choices.iter().map(|choice| choice.tank).collect(),
+        choices.iter().map(|choice| choice.minute).collect(),
+        windows.iter().map(|window| window.tank).collect(),
+        windows.iter().map(|window| window.from).collect(),
+        windows.iter().map(|window| window.to).collect(),
+    ]
 }
 
 fn raw_tally(tally: Tally) -> raw::Tally {
@@ -638,6 +743,9 @@ fn main() {
         not_there: [0; 3],
         jobs: Vec::new(),
         lists: 0,
+        rooms: BTreeMap::from(["listing", "supplier_listing"].map(|call| (call, [0; 4]))),
+        pairs: [0; 2],
+        apart: [0; 5],
         contents,
     };
     let mut random = Random(start ^ 0x5EED);

@@ -1,9 +1,8 @@
-//! The ten calls.
+//! The eleven calls.
 
 use crate::search::{self as searches, Found, NotFound};
 use crate::wire::{alone, Fault};
 use crate::{builder, certificate, plain as own, plan as plans, register as registers, scheme as schemes, table};
-use std::fmt::Write;
 
 /// A refusal's number, part and position.
 #[derive(Clone, Copy, Debug, Default, PartialEq, Eq)]
@@ -149,26 +148,42 @@ fn later(part: u8, start: usize, fault: Fault) -> Refusal {
     Refusal { number: fault.number, part, position: start + fault.position }
 }
 
+/// The farm's listing.
 pub fn listing(bytes: &[u8], lent: &mut [i64], buffer: &mut [u8]) -> Answer<usize> {
-    long_enough(lent)?;
-    write(lines(whole_job(bytes, lent)).as_bytes(), buffer)
+    list(bytes, lent, buffer, farm_lines)
 }
 
-fn lines(job: Answer<(Outcome, registers::Register, u32)>) -> String {
-    let mut text = String::new();
-    match job {
-        Ok((outcome, register, plan)) => {
-            for (i, choice) in register.choices.iter().enumerate() {
-                writeln!(text, "T {i} {} {}", choice.tank, choice.minute).unwrap();
-            }
-            for (_, choice) in register.choices.iter().enumerate().filter(|(i, _)| plan & 1 << i != 0) {
-                writeln!(text, "F {} {}", choice.tank, choice.minute).unwrap();
-            }
-            writeln!(text, "B {} {} {}", outcome.bound, outcome.cost, outcome.gap).unwrap();
+/// The supplier's listing.
+pub fn supplier_listing(bytes: &[u8], lent: &mut [i64], buffer: &mut [u8]) -> Answer<usize> {
+    list(bytes, lent, buffer, supplier_lines)
+}
+
+/// Writes the lines that a reader is shown of a job's choices, and its `B` line; of a refused job the `R` line alone.
+fn list(
+    bytes: &[u8],
+    lent: &mut [i64],
+    buffer: &mut [u8],
+    choice_lines: fn(&registers::Register, u32) -> String,
+) -> Answer<usize> {
+    long_enough(lent)?;
+    let text = match whole_job(bytes, lent) {
+        Ok((Outcome { bound, cost, gap }, register, plan)) => {
+            choice_lines(&register, plan) + &format!("B {bound} {cost} {gap}\n")
         }
-        Err(refusal) => writeln!(text, "R {} {}", refusal.number, refusal.position).unwrap(),
-    }
-    text
+        Err(refusal) => format!("R {} {}\n", refusal.number, refusal.position),
+    };
+    write(text.as_bytes(), buffer)
+}
+
+fn farm_lines(register: &registers::Register, plan: u32) -> String {
+    let choices = || register.choices.iter().enumerate();
+    let all = choices().map(|(i, choice)| format!("T {i} {} {}\n", choice.tank, choice.minute));
+    let fed = choices().filter(|(i, _)| plan & 1 << i != 0).map(|(_, choice)| format!("F {} {}\n", choice.tank, choice.minute));
+    all.chain(fed).collect()
+}
+
+fn supplier_lines(register: &registers::Register, plan: u32) -> String {
+    (0..register.choices.len()).map(|i| format!("C {i} {}\n", plan >> i & 1)).collect()
 }
 
 fn long_enough(lent: &[i64]) -> Answer<()> {

@@ -1,6 +1,6 @@
 //! The reference against the vectors, `crates/conformance/data/*.txt`, against jobs with their expected lines, the pairs NAME.job
-//! and NAME.out in `examples` and in `crates/conformance/data/suppliers`, and against registers with the lines of their cheapest
-//! plans, NAME.register and NAME.cheapest in `examples`.
+//! and NAME.out in `examples` and in `crates/conformance/data/suppliers`, with those for the supplier, NAME.job and NAME.supplier
+//! in `examples`, and against registers with the lines of their cheapest plans, NAME.register and NAME.cheapest in `examples`.
 //! A line of a vector file: name, what is given, what is expected, separated by spaces; a table of 77 and a buffer of AA are lent.
 
 use reference::register::Row;
@@ -203,27 +203,38 @@ fn job() {
     });
 }
 
-#[test]
-fn listing() {
-    each("listing.txt", |f| {
+type Listing = fn(&[u8], &mut [i64], &mut [u8]) -> Answer<usize>;
+
+fn each_listing(file: &str, listing: Listing) {
+    each(file, |f| {
         let job = f.bytes();
         let mut table = vec![77; f.number() as usize];
         let mut buffer = vec![0xAA; f.number() as usize];
-        let (refusal, count) = split(reference::listing(&job, &mut table, &mut buffer));
+        let (refusal, count) = split(listing(&job, &mut table, &mut buffer));
         refusal == f.refusal() && count as i64 == f.number() && buffer == f.bytes() && f.table(&table)
     });
 }
 
-fn listed(job: &[u8]) -> Vec<u8> {
+#[test]
+fn listing() {
+    each_listing("listing.txt", reference::listing);
+}
+
+#[test]
+fn supplier_listing() {
+    each_listing("supplier.txt", reference::supplier_listing);
+}
+
+fn lines_of(listing: Listing, job: &[u8]) -> Vec<u8> {
     let mut buffer = vec![0; 4_096];
-    let count = reference::listing(job, &mut vec![0; 4_225], &mut buffer).expect("a buffer that is long enough");
+    let count = listing(job, &mut vec![0; 4_225], &mut buffer).expect("a buffer that is long enough");
     buffer.truncate(count);
     buffer
 }
 
 #[test]
 fn feedcheck() {
-    each("feedcheck.txt", |f| listed(&f.bytes()) == f.bytes());
+    each("feedcheck.txt", |f| lines_of(reference::listing, &f.bytes()) == f.bytes());
 }
 
 /// The program `cheapest` has this visit limit.
@@ -249,14 +260,15 @@ fn each_file(name: &str, given: &str, expected: &str, printed: impl Fn(&[u8]) ->
         assert!(printed(&fs::read(&path).unwrap()) == lines, "{}", path.display());
         count += 1;
     }
-    println!("{name}, {given}: {count} agree");
+    println!("{name}, {expected}: {count} agree");
 }
 
 #[test]
 fn jobs() {
     for name in ["examples", "crates/conformance/data/suppliers"] {
-        each_file(name, "job", "out", listed);
+        each_file(name, "job", "out", |job| lines_of(reference::listing, job));
     }
+    each_file("examples", "job", "supplier", |job| lines_of(reference::supplier_listing, job));
 }
 
 #[test]

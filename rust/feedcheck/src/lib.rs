@@ -51,7 +51,7 @@ pub const MAX_BUILT: usize = 865;
 /// A buffer of so many bytes is enough for every certificate of our own.
 pub const MAX_PLAIN: usize = 1_294;
 
-/// A buffer of so many bytes is enough for every listing.
+/// A buffer of so many bytes is enough for every listing, the farm's and the supplier's.
 pub const MAX_LISTING: usize = 4_096;
 
 /// No job of more bytes is accepted.
@@ -194,8 +194,16 @@ pub fn job(job: &[u8], table: &mut [i64], supplier: u8, tally: &mut Tally) -> Re
     result(answer.number, answer.part, answer.position, outcome)
 }
 
-/// Writes the lines of a job, or the one line of a refused job: how many bytes were written to the front of the buffer.
+/// Writes the farm's lines of a job, or the one line of a refused job: how many bytes were written to the front of the buffer.
 pub fn listing(job: &[u8], table: &mut [i64], buffer: &mut [u8]) -> Result<usize, Refusal> {
     let answer = raw::listing(job, table, buffer);
+    result(answer.number, answer.part, answer.position, answer.count)
+}
+
+/// Writes what the supplier of a job may read: for each choice `C`, its number and 1 or 0 for fed or not, then the `B` line; of a
+/// refused job the line that `listing` writes. How many bytes were written to the front of the buffer. No tank, minute or window is
+/// in the lines: accepted jobs that differ only in tanks, minutes, "from" and "to" give the same ones, and the same table.
+pub fn supplier_listing(job: &[u8], table: &mut [i64], buffer: &mut [u8]) -> Result<usize, Refusal> {
+    let answer = raw::supplier_listing(job, table, buffer);
     result(answer.number, answer.part, answer.position, answer.count)
 }

@@ -200,6 +200,14 @@ mod linked {
             buffer: *mut u8,
             buffer_length: usize,
         ) -> WriterAnswer;
+        pub fn feedcheck_supplier_listing(
+            job: *const u8,
+            job_length: usize,
+            table: *mut i64,
+            table_length: usize,
+            buffer: *mut u8,
+            buffer_length: usize,
+        ) -> WriterAnswer;
     }
 }
 
@@ -269,7 +277,19 @@ pub fn job(job: &[u8], table: &mut [i64], supplier: u8, tally: Tally) -> JobAnsw
 }
 
 pub fn listing(job: &[u8], table: &mut [i64], buffer: &mut [u8]) -> WriterAnswer {
-    unsafe {
-        linked::feedcheck_listing(job.as_ptr(), job.len(), table.as_mut_ptr(), table.len(), buffer.as_mut_ptr(), buffer.len())
-    }
+    list(linked::feedcheck_listing, job, table, buffer)
+}
+
+pub fn supplier_listing(job: &[u8], table: &mut [i64], buffer: &mut [u8]) -> WriterAnswer {
+    list(linked::feedcheck_supplier_listing, job, table, buffer)
+}
+
+/// Either listing, which are lent alike.
+fn list(
+    call: unsafe extern "C" fn(*const u8, usize, *mut i64, usize, *mut u8, usize) -> WriterAnswer,
+    job: &[u8],
+    table: &mut [i64],
+    buffer: &mut [u8],
+) -> WriterAnswer {
+    unsafe { call(job.as_ptr(), job.len(), table.as_mut_ptr(), table.len(), buffer.as_mut_ptr(), buffer.len()) }
 }

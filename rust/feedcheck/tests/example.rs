@@ -112,3 +112,10 @@ fn listing() {
     let count = feedcheck::listing(&whole(), &mut table, &mut buffer).unwrap();
     assert_eq!(&buffer[..count], b"T 0 4 480\nT 1 4 720\nT 2 7 480\nF 4 480\nF 4 720\nB 0 0 0\n");
 }
+
+#[test]
+fn supplier_listing() {
+    let (mut table, mut buffer) = (vec![0; feedcheck::TABLE_NUMBERS], [0; feedcheck::MAX_LISTING]);
+    let count = feedcheck::supplier_listing(&whole(), &mut table, &mut buffer).unwrap();
+    assert_eq!(&buffer[..count], b"C 0 1\nC 1 1\nC 2 0\nB 0 0 0\n");
+}
