@@ -50,8 +50,9 @@ module _ (rest : List ℕ) where
 
 -- ---- the bytes of one command
 
-abbrev Moves : ℕ → Type 0
-Moves b = (b ≡ 0x11) ⊎ (b ≡ 0x13)
+-- a command with hidden operands
+abbrev HasHidden : ℕ → Type 0
+HasHidden b = (b ≡ 0x11) ⊎ (b ≡ 0x13)
 
 none-hidden : (ws : List ℕ) → operandMarks ws [] ≡ replicate (total ws) false
 unfolding operandMarks total
@@ -71,10 +72,10 @@ no_operands : (b : ℕ) → (b ≡ 0x11 → ⊥) → (b ≡ 0x13 → ⊥) → hi
 unfolding byKey
 no_operands b n m = rw (ne_eqb b 0x11 n, ne_eqb b 0x13 m)
 
-all-or-none : (b : ℕ) → (Moves b × All true b) ⊎ ((Moves b → ⊥) × All false b)
+all-or-none : (b : ℕ) → (HasHidden b × All true b) ⊎ ((HasHidden b → ⊥) × All false b)
 all-or-none b = by (ℕ_discrete b 0x11) (ℕ_discrete b 0x13)
   where
-    by : Dec (b ≡ 0x11) → Dec (b ≡ 0x13) → (Moves b × All true b) ⊎ ((Moves b → ⊥) × All false b)
+    by : Dec (b ≡ 0x11) → Dec (b ≡ 0x13) → (HasHidden b × All true b) ⊎ ((HasHidden b → ⊥) × All false b)
     by (yes e) d = inl (inl e, rw e all-hidden.0)
     by (no n) (yes e) = inl (inr e, rw e all-hidden.1)
     by (no n) (no m) = inr (⊎_elim n m, ap (operandMarks (registerPart.widths b)) (no_operands b n m) ∙ none-hidden (registerPart.widths b))
