@@ -27,10 +27,11 @@ use Rattle.wire.specs.Rows.{row_of}
 use Rattle.wire.specs.Outcome.{accepts}
 use Rattle.text.specs.Text.{digitsTo, digits, decimal, line}
 use Rattle.register.specs.declared.Register.{Register}
-use Rattle.register.specs.Limits.{usualDay}
+use Rattle.register.specs.Register.{setBase, setChoices, setTerms}
 use Rattle.register.specs.Register as Reg
 use Rattle.register.specs.Format.{baseChecks, choiceChecks, termChecks, registerInJob}
 use Rattle.register.specs.Format as RegFormat
+use Rattle.register.proofs.Example.{exampleRegister}
 use Rattle.scheme.specs.declared.Scheme.{Scheme}
 use Rattle.scheme.specs.Scheme as Sch
 use Rattle.scheme.specs.Variables.{up_to, upward, E}
@@ -66,24 +67,11 @@ back =
 abbrev job : (tank coefficient : ℕ) → List ℕ
 job tank coefficient = 0x10 ∷ 0 ∷ 0 ∷ 0 ∷ 0 ∷ 0x11 ∷ tank ∷ 0 ∷ 0 ∷ 0 ∷ 0x12 ∷ 1 ∷ 0 ∷ 0 ∷ 0 ∷ coefficient ∷ back
 
+-- the example's register with other base cost, choices and terms
 abbrev register : (tank coefficient : ℕ) → Register
-register tank coefficient = record {
-  base = pos 0;
-  day_length = usualDay;
-  choices = 1;
-  terms = 1;
-  tanks = tank ∷ replicate 31 0;
-  minutes = replicate 32 0;
-  masks = 1 ∷ replicate 255 0;
-  coefficients = pos coefficient ∷ replicate 255 (pos 0);
-  windows = 0;
-  window_tanks = replicate 64 0;
-  window_froms = replicate 64 0;
-  window_tos = replicate 64 0;
-  rows = 0;
-  row_totals = replicate 8 (pos 0);
-  row_entries = replicate 256 (pos 0);
-}
+register tank coefficient = setTerms
+    (setChoices (setBase exampleRegister (pos 0)) 1 (tank ∷ replicate 31 0) (replicate 32 0))
+    1 (1 ∷ replicate 255 0) (pos coefficient ∷ replicate 255 (pos 0))
 
 abbrev scheme : Scheme
 scheme = record {
