@@ -7,46 +7,46 @@ use native.Mathlib.Omega.{arith}
 use lib.IntN.{ℤ, pos, neg_ℤ, nat_abs, ◌+ℤ◌, ◌*ℤ◌, +ℤ_idr, *ℤ_comm}
 use lib.Signed.{◌≤ℤ◌}
 use Rattle.integers.specs.CeilDiv.{IsCeilDiv}
-use Rattle.integers.specs.Sum.{sumOver}
+use Rattle.integers.specs.Sum.{sum_over}
 use Rattle.integers.proofs.Diff.{diff₁, diff₃, diffs}
 use Rattle.integers.proofs.Lists.{All-map}
 use Rattle.integers.proofs.Solver.{quote, atoms, ring}
-use Rattle.integers.proofs.Sum.{sumOver-0, sumOver-nonneg}
-use Rattle.integers.proofs.CeilDiv.{ceilDiv-is, natAbs-ceilDiv}
+use Rattle.integers.proofs.Sum.{sum_over_0, sum_over_nonneg}
+use Rattle.integers.proofs.CeilDiv.{ceil_div_is, nat_abs-ceil_div}
 use Rattle.forms.specs.Form.{Form, places, value, times}
-use Rattle.forms.proofs.Form.{Below, below-[], below-∷, below-append, below-flatMap, below-times, form-law, value-append, value-flatMap, value-times}
+use Rattle.forms.proofs.Form.{Below, below-[], below_∷, below_append, below_flat_map, below_times, form_law, value-append, value_flat_map, value-times}
 use Rattle.register.specs.declared.Register.{Register}
 use Rattle.plan.specs.Plan.{cost}
 use Rattle.plan.specs.Fits.{Fits}
-use Rattle.plan.proofs.Fits.{every-fits}
+use Rattle.plan.proofs.Fits.{every_fits}
 use Rattle.scheme.specs.declared.Scheme.{Scheme}
 use Rattle.scheme.specs.Scheme.{side}
 use Rattle.scheme.specs.Filling.{factor, induced}
 use Rattle.scheme.specs.Function.{g}
 use Rattle.scheme.specs.Valid as S
-use Rattle.scheme.proofs.Table.{g-below}
-use Rattle.penalty.proofs.Penalty.{induced-cost}
+use Rattle.scheme.proofs.Table.{g_below}
+use Rattle.penalty.proofs.Penalty.{induced_cost}
 use Rattle.certificate.specs.Certificate.{Multiplier, Certificate}
-use Rattle.certificate.specs.Limits.{maxTarget}
-use Rattle.certificate.specs.Rules.{minus1, ruleOf}
-use Rattle.residual.specs.Residual.{nullPart, nullForms, subtractedForms, reformulated, shifted}
+use Rattle.certificate.specs.Limits.{max_target}
+use Rattle.certificate.specs.Rules.{minus1, rule_of}
+use Rattle.residual.specs.Residual.{null_part, null_forms, subtracted_forms, reformulated, shifted}
 use Rattle.bound.specs.Bound.{bound}
 use Rattle.residual.specs.Relaxed.{Relaxed}
 use Rattle.certificate.specs.Within.{Allowed, Within}
 use Rattle.bound.specs.Valid.{Valid}
-use Rattle.bound.proofs.Relaxation.{induced-relaxed}
+use Rattle.bound.proofs.Relaxation.{induced_relaxed}
 use Rattle.residual.proofs.Semidefinite.{semidefinite}
-use Rattle.residual.proofs.Rules.{Sound, rule-sound, null-below, subtracted-below, null-0, subtracted-nonneg}
+use Rattle.residual.proofs.Rules.{Sound, rule_sound, null_below, subtracted_below, null_0, subtracted_nonneg}
 
 -- the bound is the least whole number that is at least T/s
-pub bound-is : (k : Certificate) → 1 ≤ k.scale → IsCeilDiv k.target k.scale (bound k)
+pub bound_is : (k : Certificate) → 1 ≤ k.scale → IsCeilDiv k.target k.scale (bound k)
 unfolding bound
-bound-is k positive = ceilDiv-is k.scale positive k.target
+bound_is k positive = ceil_div_is k.scale positive k.target
 
 -- it is no larger than the target
-pub bound-small : (k : Certificate) → 1 ≤ k.scale → nat_abs k.target ≤ maxTarget → nat_abs (bound k) ≤ maxTarget
+pub bound_small : (k : Certificate) → 1 ≤ k.scale → nat_abs k.target ≤ max_target → nat_abs (bound k) ≤ max_target
 unfolding bound
-bound-small k l h = omega (arith, natAbs-ceilDiv k.target k.scale l)
+bound_small k l h = omega (arith, nat_abs-ceil_div k.target k.scale l)
 
 module _ (c : ℕ → ℤ) (r : Register) (s : Scheme) (k : Certificate) (scheme : S.Valid r s) where
   abbrev n : ℕ
@@ -54,17 +54,17 @@ module _ (c : ℕ → ℤ) (r : Register) (s : Scheme) (k : Certificate) (scheme
 
   -- the forms subtracted
   abbrev subtracted : Form
-  subtracted = subtractedForms r s k.multipliers
+  subtracted = subtracted_forms r s k.multipliers
 
   abbrev filling : ℕ → ℕ → ℤ
   filling plan = factor (induced n s plan)
 
-  sound : (t : Multiplier) → Sound (Fits r) n s (ruleOf r s t)
-  sound = rule-sound r s scheme.within.products
+  sound : (t : Multiplier) → Sound (Fits r) n s (rule_of r s t)
+  sound = rule_sound r s scheme.within.products
 
   value-B : (y : ℕ → ℤ) → value y (shifted c r s k)
       ≡ value y (reformulated c r s k) +ℤ (minus1 *ℤ value y subtracted +ℤ neg_ℤ (k.target *ℤ y 0 *ℤ y 0))
-  unfolding shifted value sumOver
+  unfolding shifted value sum_over
   value-B y =
       value-append y (reformulated c r s k) _
       ∙ ap (λ x. value y (reformulated c r s k) +ℤ x)
@@ -77,74 +77,74 @@ module _ (c : ℕ → ℤ) (r : Register) (s : Scheme) (k : Certificate) (scheme
   -- ---- all multipliers
 
   module _ (within : Within r s k) where
-    pub reformulated-below : Below (side n s) (reformulated c r s k)
-    unfolding reformulated nullForms
-    reformulated-below =
-        below-append (below-times (pos k.scale) (g-below c r s scheme)) (below-flatMap (null-below r s sound) k.multipliers within.multipliers)
+    pub reformulated_below : Below (side n s) (reformulated c r s k)
+    unfolding reformulated null_forms
+    reformulated_below =
+        below_append (below_times (pos k.scale) (g_below c r s scheme)) (below_flat_map (null_below r s sound) k.multipliers within.multipliers)
 
-    pub B-below : Below (side n s) (shifted c r s k)
-    unfolding shifted subtractedForms
-    B-below =
-        below-append reformulated-below
-        (below-append (below-times minus1 (below-flatMap (subtracted-below r s sound) k.multipliers within.multipliers)) (below-∷ (omega arith) (omega arith) below-[]))
+    pub B_below : Below (side n s) (shifted c r s k)
+    unfolding shifted subtracted_forms
+    B_below =
+        below_append reformulated_below
+        (below_append (below_times minus1 (below_flat_map (subtracted_below r s sound) k.multipliers within.multipliers)) (below_∷ (omega arith) (omega arith) below-[]))
 
-    all-nonneg : (D : ℕ) (y : ℕ → ℤ) → Relaxed n s D y → pos 0 ≤ℤ value (places (pos D) y) subtracted
-    unfolding subtractedForms
-    all-nonneg D y relaxed =
-        rw value-flatMap
-        (sumOver-nonneg k.multipliers _ (All-map (Allowed r s) _ (λ t ok. subtracted-nonneg r s sound t ok D y relaxed) k.multipliers within.multipliers))
+    all_nonneg : (D : ℕ) (y : ℕ → ℤ) → Relaxed n s D y → pos 0 ≤ℤ value (places (pos D) y) subtracted
+    unfolding subtracted_forms
+    all_nonneg D y relaxed =
+        rw value_flat_map
+        (sum_over_nonneg k.multipliers _ (All-map (Allowed r s) _ (λ t ok. subtracted_nonneg r s sound t ok D y relaxed) k.multipliers within.multipliers))
 
-    module _ {P : ℕ → Type 0} (over : (t : Multiplier) → Sound P n s (ruleOf r s t)) (plan : ℕ) (h : P plan) where
-      all-null : value (filling plan) (nullForms r s k.multipliers) ≡ pos 0
-      unfolding nullForms
-      all-null =
-          value-flatMap (filling plan) (nullPart r s) k.multipliers
-          ∙ sumOver-0 k.multipliers _ (All-map (Allowed r s) _ (λ t ok. null-0 r s over t ok plan h) k.multipliers within.multipliers)
+    module _ {P : ℕ → Type 0} (over : (t : Multiplier) → Sound P n s (rule_of r s t)) (plan : ℕ) (h : P plan) where
+      all_null : value (filling plan) (null_forms r s k.multipliers) ≡ pos 0
+      unfolding null_forms
+      all_null =
+          value_flat_map (filling plan) (null_part r s) k.multipliers
+          ∙ sum_over_0 k.multipliers _ (All-map (Allowed r s) _ (λ t ok. null_0 r s over t ok plan h) k.multipliers within.multipliers)
 
       -- the reformulated function at the filling that such a plan induces is s times the plan's cost
-      pub reformulated-cost : value (filling plan) (reformulated c r s k) ≡ pos k.scale *ℤ cost c r plan
+      pub reformulated_cost : value (filling plan) (reformulated c r s k) ≡ pos k.scale *ℤ cost c r plan
       unfolding reformulated
-      reformulated-cost =
+      reformulated_cost =
           value-append (filling plan) (times (pos k.scale) (g c r s)) _
-          ∙ ap₂ ◌+ℤ◌ (value-times (filling plan) (pos k.scale) (g c r s) ∙ ap (λ x. pos k.scale *ℤ x) (induced-cost c r s scheme plan)) all-null
+          ∙ ap₂ ◌+ℤ◌ (value-times (filling plan) (pos k.scale) (g c r s) ∙ ap (λ x. pos k.scale *ℤ x) (induced_cost c r s scheme plan)) all_null
           ∙ +ℤ_idr (pos k.scale *ℤ cost c r plan)
 
   -- ---- the theorems
 
   module _ (valid : Valid c r s k) where
     -- B is at least 0 everywhere
-    pub B-nonneg : (y : ℕ → ℤ) → pos 0 ≤ℤ value y (shifted c r s k)
-    B-nonneg y = halved (value y (shifted c r s k)) (rw (form-law (B-below valid.within) y) at (semidefinite c r s k valid.carried y))
+    pub B_nonneg : (y : ℕ → ℤ) → pos 0 ≤ℤ value y (shifted c r s k)
+    B_nonneg y = halved (value y (shifted c r s k)) (rw (form_law (B_below valid.within) y) at (semidefinite c r s k valid.carried y))
       where
         halved : (v : ℤ) → pos 0 ≤ℤ (pos 2 *ℤ v) → pos 0 ≤ℤ v
         halved = diff₁ _ λ p q. simp diffs (omega arith)
 
     -- in the relaxation the reformulated function, constants times D² and linear terms times D, is at least T-as-D²
-    pub relaxed-bound : (D : ℕ) (y : ℕ → ℤ) → Relaxed n s D y → (k.target *ℤ pos D *ℤ pos D) ≤ℤ value (places (pos D) y) (reformulated c r s k)
-    relaxed-bound D y relaxed =
-        conclude _ _ _ (rw value-B at (B-nonneg (places (pos D) y))) (all-nonneg valid.within D y relaxed)
+    pub relaxed_bound : (D : ℕ) (y : ℕ → ℤ) → Relaxed n s D y → (k.target *ℤ pos D *ℤ pos D) ≤ℤ value (places (pos D) y) (reformulated c r s k)
+    relaxed_bound D y relaxed =
+        conclude _ _ _ (rw value-B at (B_nonneg (places (pos D) y))) (all_nonneg valid.within D y relaxed)
       where
         conclude : (f q t : ℤ) → pos 0 ≤ℤ (f +ℤ (minus1 *ℤ q +ℤ neg_ℤ t)) → pos 0 ≤ℤ q → t ≤ℤ f
         conclude = diff₃ _ λ p q r s t u. simp diffs (omega arith)
 
-    module _ {P : ℕ → Type 0} (over : (t : Multiplier) → Sound P n s (ruleOf r s t)) (plan : ℕ) (h : P plan) where
+    module _ {P : ℕ → Type 0} (over : (t : Multiplier) → Sound P n s (rule_of r s t)) (plan : ℕ) (h : P plan) where
       -- a plan with P costs at least T/s
-      pub scaled-bound : k.target ≤ℤ (cost c r plan *ℤ pos k.scale)
-      scaled-bound =
+      pub scaled_bound : k.target ≤ℤ (cost c r plan *ℤ pos k.scale)
+      scaled_bound =
           rw (*ℤ_comm (cost c r plan))
-          (rw (unit k.target, reformulated-cost valid.within over plan h) at (relaxed-bound 1 _ (induced-relaxed n s plan scheme.within.products)))
+          (rw (unit k.target, reformulated_cost valid.within over plan h) at (relaxed_bound 1 _ (induced_relaxed n s plan scheme.within.products)))
         where
           unit : (t : ℤ) → t *ℤ pos 1 *ℤ pos 1 ≡ t
           unit t = atoms (t ∷ []) λ ρ t. simp (t, quote, ρ) (ring _ _ _ tt)
 
       -- and so at least the bound
-      pub bound-over : bound k ≤ℤ cost c r plan
-      bound-over = (bound-is k valid.within.scale-above).least (cost c r plan) scaled-bound
+      pub bound_over : bound k ≤ℤ cost c r plan
+      bound_over = (bound_is k valid.within.scale_above).least (cost c r plan) scaled_bound
 
     -- every plan that fits costs at least the bound
-    pub plan-bound : (plan : ℕ) → Fits r plan → bound k ≤ℤ cost c r plan
-    plan-bound = bound-over sound
+    pub plan_bound : (plan : ℕ) → Fits r plan → bound k ≤ℤ cost c r plan
+    plan_bound = bound_over sound
 
     -- and without rows every plan
-    pub every-plan-bound : r.rows ≡ 0 → (plan : ℕ) → bound k ≤ℤ cost c r plan
-    every-plan-bound none plan = plan-bound plan (every-fits r none plan)
+    pub every_plan_bound : r.rows ≡ 0 → (plan : ℕ) → bound k ≤ℤ cost c r plan
+    every_plan_bound none plan = plan_bound plan (every_fits r none plan)

@@ -8,63 +8,63 @@ use lib.IntN.{ℤ}
 use lib.Signed.{◌≤ℤ◌}
 use Rattle.wire.specs.Part.{Reading, refused, accepted}
 use Rattle.wire.specs.Rows.{Progress}
-use Rattle.wire.specs.Outcome.{accepts, given, and_then, answerBy}
-use Rattle.wire.proofs.Part.{NumberedReading, readPart-numbered, byItself-numbered}
+use Rattle.wire.specs.Outcome.{accepts, given, and_then, answer_by}
+use Rattle.wire.proofs.Part.{NumberedReading, read_part_numbered, by_itself_numbered}
 use Rattle.register.specs.declared.Register.{Register}
 use Rattle.register.specs.Register.{coefficient}
-use Rattle.register.specs.Limits.{maxChoices}
-use Rattle.register.specs.Opening.{openRegister}
+use Rattle.register.specs.Limits.{max_choices}
+use Rattle.register.specs.Opening.{open_register}
 use Rattle.plan.specs.declared.CostAnswer.{CostAnswer}
 use Rattle.plan.specs.Plan.{cost}
 use Rattle.plan.specs.Fits.{Fits}
-use Rattle.plan.specs.Format.{planPart, planInJob, planByItself}
-use Rattle.plan.specs.Answer.{refusedCost, acceptedCost, costAnswer}
-use Rattle.plan.proofs.Accept.{whole-valid as valid-plan}
-use Rattle.scheme.proofs.Opened.{register-bytes, scheme-bytes}
+use Rattle.plan.specs.Format.{plan_part, plan_in_job, plan_by_itself}
+use Rattle.plan.specs.Answer.{refused_cost, accepted_cost, cost_answer}
+use Rattle.plan.proofs.Accept.{whole_valid as valid-plan}
+use Rattle.scheme.proofs.Opened.{register_bytes, scheme_bytes}
 use Rattle.bound.specs.Bound.{bound}
 use Rattle.bound.specs.Demand.{Shown}
-use Rattle.bound.specs.Check.{checkAnswer}
-use Rattle.bound.proofs.Accept.{whole-valid, whole-encodes}
+use Rattle.bound.specs.Check.{check_answer}
+use Rattle.bound.proofs.Accept.{whole_valid, whole_encodes}
 use Rattle.bound.proofs.Answers.{checked}
-use Rattle.bound.proofs.Bound.{plan-bound}
-use Rattle.bound.proofs.SecondOrder.{second-order}
+use Rattle.bound.proofs.Bound.{plan_bound}
+use Rattle.bound.proofs.SecondOrder.{second_order_lem}
 
 -- what the cost call answers, once the register is read
-abbrev costBy : Register → Reading (Progress ℕ) → CostAnswer
-costBy reg x = answerBy refusedCost acceptedCost (and_then (given 4 x) λ p. accepts (cost (coefficient reg) reg p))
+abbrev cost_by : Register → Reading (Progress ℕ) → CostAnswer
+cost_by reg x = answer_by refused_cost accepted_cost (and_then (given 4 x) λ p. accepts (cost (coefficient reg) reg p))
 
 -- the cost call reads the same register, and a plan that fits
-costs-more : (register plan : List ℕ) (reg : Register) (b : ℤ) → openRegister register ≡ accepts reg → reg.choices ≤ maxChoices →
-    ((plan : ℕ) → Fits reg plan → b ≤ℤ cost (coefficient reg) reg plan) → (costAnswer register plan).number ≡ 0 → b ≤ℤ (costAnswer register plan).cost
-unfolding costAnswer planByItself planInJob
-costs-more register plan reg b e few h z =
-    rw e (go (planByItself reg plan) refl (byItself-numbered plan _ (readPart-numbered (planPart reg) plan)) (rw e at z))
+costs_more : (register plan : List ℕ) (reg : Register) (b : ℤ) → open_register register ≡ accepts reg → reg.choices ≤ max_choices →
+    ((plan : ℕ) → Fits reg plan → b ≤ℤ cost (coefficient reg) reg plan) → (cost_answer register plan).number ≡ 0 → b ≤ℤ (cost_answer register plan).cost
+unfolding cost_answer plan_by_itself plan_in_job
+costs_more register plan reg b e few h z =
+    rw e (go (plan_by_itself reg plan) refl (by_itself_numbered plan _ (read_part_numbered (plan_part reg) plan)) (rw e at z))
   where
-    go : (x : Reading (Progress ℕ)) → planByItself reg plan ≡ x → NumberedReading x → (costBy reg x).number ≡ 0 → b ≤ℤ (costBy reg x).cost
+    go : (x : Reading (Progress ℕ)) → plan_by_itself reg plan ≡ x → NumberedReading x → (cost_by reg x).number ≡ 0 → b ≤ℤ (cost_by reg x).cost
     go (refused n at) a d f = absurd (d f)
     go (accepted q to) a d f = h q.parsed (valid-plan reg few plan q to a).0.fits
 
 module _ (register scheme certificate : List ℕ) (lent : List ℤ) where
-  pub answered-shown : (checkAnswer register scheme certificate lent).number ≡ 0 → Shown register scheme certificate (checkAnswer register scheme certificate lent)
-  answered-shown e =
+  pub answered_shown : (check_answer register scheme certificate lent).number ≡ 0 → Shown register scheme certificate (check_answer register scheme certificate lent)
+  answered_shown e =
       let k = checked register scheme certificate lent e in
       let reg = k.reg in
       let sch = k.sch in
       let o = k.parts in
-      let v = whole-valid reg sch (coefficient reg) certificate k.read k.end k.reads in
-      let h = plan-bound (coefficient reg) reg sch k.read.parsed o.scheme-valid v in
+      let v = whole_valid reg sch (coefficient reg) certificate k.read k.end k.reads in
+      let h = plan_bound (coefficient reg) reg sch k.read.parsed o.scheme_valid v in
       subst (Shown register scheme certificate) (sym k.answers) (record {
         reg = reg;
         sch = sch;
         cert = k.read.parsed;
-        register-is = register-bytes register scheme reg sch o;
-        scheme-is = scheme-bytes register scheme reg sch o;
-        certificate-is = whole-encodes reg sch (coefficient reg) certificate k.read k.end k.reads;
-        register-valid = o.register-valid;
-        scheme-valid = o.scheme-valid;
-        certificate-valid = v;
-        bound-is = refl;
+        register_is = register_bytes register scheme reg sch o;
+        scheme_is = scheme_bytes register scheme reg sch o;
+        certificate_is = whole_encodes reg sch (coefficient reg) certificate k.read k.end k.reads;
+        register_valid = o.register_valid;
+        scheme_valid = o.scheme_valid;
+        certificate_valid = v;
+        bound_is = refl;
         costs = h;
-        answered-costs = λ plan. costs-more register plan reg (bound k.read.parsed) (rw o.register-reads) o.register-valid.within.choices.few h;
-        second-order-part = second-order (coefficient reg) reg sch k.read.parsed v.carried;
+        answered_costs = λ plan. costs_more register plan reg (bound k.read.parsed) (rw o.register_reads) o.register_valid.within.choices.few h;
+        second_order_part = second_order_lem (coefficient reg) reg sch k.read.parsed v.carried;
       })

@@ -7,13 +7,13 @@ use Rattle.register.specs.Encoding as RE
 use Rattle.register.specs.Valid as R
 use Rattle.plan.specs.Plan.{cost}
 use Rattle.plan.specs.Fits.{Fits}
-use Rattle.plan.specs.Answer.{costAnswer}
+use Rattle.plan.specs.Answer.{cost_answer}
 use Rattle.scheme.specs.declared.Scheme.{Scheme}
 use Rattle.scheme.specs.Encoding as SE
 use Rattle.scheme.specs.Valid as S
 use Rattle.bound.specs.declared.CheckAnswer.{CheckAnswer}
 use Rattle.certificate.specs.Certificate.{Certificate}
-use Rattle.residual.specs.Residual.{secondOrder}
+use Rattle.residual.specs.Residual.{second_order}
 use Rattle.bound.specs.Bound.{bound}
 use Rattle.certificate.specs.Encoding.{Encodes}
 use Rattle.bound.specs.Valid.{Valid}
@@ -24,15 +24,15 @@ pub record Shown (register scheme certificate : List ℕ) (a : CheckAnswer) : Ty
   pub reg : Register
   pub sch : Scheme
   pub cert : Certificate
-  pub register-is : Bytes register → RE.Encodes reg register
-  pub scheme-is : SE.Encodes reg sch scheme
-  pub certificate-is : Bytes certificate → Encodes cert certificate
-  pub register-valid : R.Valid reg
-  pub scheme-valid : S.Valid reg sch
-  pub certificate-valid : Valid (coefficient reg) reg sch cert
-  pub bound-is : a.bound ≡ bound cert
+  pub register_is : Bytes register → RE.Encodes reg register
+  pub scheme_is : SE.Encodes reg sch scheme
+  pub certificate_is : Bytes certificate → Encodes cert certificate
+  pub register_valid : R.Valid reg
+  pub scheme_valid : S.Valid reg sch
+  pub certificate_valid : Valid (coefficient reg) reg sch cert
+  pub bound_is : a.bound ≡ bound cert
   -- no plan that fits is cheaper than the bound, nor any that the cost call reads with these bytes
   pub costs : (plan : ℕ) → Fits reg plan → a.bound ≤ℤ cost (coefficient reg) reg plan
-  pub answered-costs : (plan : List ℕ) → (costAnswer register plan).number ≡ 0 → a.bound ≤ℤ (costAnswer register plan).cost
+  pub answered_costs : (plan : List ℕ) → (cost_answer register plan).number ≡ 0 → a.bound ≤ℤ (cost_answer register plan).cost
   -- the second-order part is positive semidefinite
-  pub second-order-part : (x : ℕ → ℤ) → pos 0 ≤ℤ secondOrder (coefficient reg) reg sch cert x
+  pub second_order_part : (x : ℕ → ℤ) → pos 0 ≤ℤ second_order (coefficient reg) reg sch cert x

@@ -4,7 +4,7 @@ use Rattle.wire.specs.Refused.{RefusedAt}
 use Rattle.register.specs.declared.Register.{Register}
 use Rattle.scheme.specs.declared.Scheme.{Scheme}
 use Rattle.certificate.specs.Certificate.{Certificate}
-use Rattle.certificate.specs.Format.{certificatePart}
+use Rattle.certificate.specs.Format.{certificate_part}
 use Rattle.certificate.specs.Within.{Within}
 use Rattle.bound.specs.Valid.{Valid}
 use Rattle.certificate.specs.Encoding.{Encodes}
@@ -30,7 +30,7 @@ module _ (c : ℕ → ℤ) (reg : Register) (sch : Scheme) where
 
   -- at the front of a run of bytes, as in a job: a command is refused, or R falls short
   abbrev pub CertificateRefused : List ℕ → ℕ → ℕ → Type 0
-  CertificateRefused s number at = RefusedAt (certificatePart reg sch) s number at ⊎ FallsShort s number at
+  CertificateRefused s number at = RefusedAt (certificate_part reg sch) s number at ⊎ FallsShort s number at
 
   -- a run of bytes by itself
   abbrev pub CertificateRefusedByItself : List ℕ → ℕ → ℕ → Type 0

@@ -1,12 +1,12 @@
 // The check of a certificate: its commands, R in the lent table, the rows, and the bound.
 ghost use Rattle.std.specs.Prelude.{◌≡◌, ◌≤◌, length};
-ghost use Rattle.forms.specs.Table.{tableNumbers};
+ghost use Rattle.forms.specs.Table.{table_numbers};
 ghost use Rattle.register.specs.Register.{coefficient};
 ghost use Rattle.register.specs.Valid.{Valid as RegisterValid};
 ghost use Rattle.scheme.specs.Valid.{Valid as SchemeValid};
-ghost use Rattle.certificate.specs.Format.{commandsInJob};
-ghost use Rattle.bound.specs.Format.{certificateInJob, certificateByItself};
-ghost use Rattle.bound.specs.Check.{checkRead, withResidual, checkAnswer, checkTable};
+ghost use Rattle.certificate.specs.Format.{commands_in_job};
+ghost use Rattle.bound.specs.Format.{certificate_in_job, certificate_by_itself};
+ghost use Rattle.bound.specs.Check.{check_read, with_residual, check_answer, check_table};
 
 use crate::dominance::{ceil_div, first_short};
 use crate::{CheckAnswer, CheckRead};
@@ -25,9 +25,9 @@ pub fn check_certificate(
 ) -> CheckRead
     requires register_valid { RegisterValid register }
     requires scheme_valid { SchemeValid register scheme }
-    requires table_numbers_in_bounds { tableNumbers ≤ length table.old }
-    ensures value { result ≡ checkRead (certificateInJob (coefficient register) register scheme bytes.now) }
-    ensures table_after { table.new ≡ withResidual register scheme (commandsInJob register scheme bytes.now) table.old }
+    requires table_numbers_in_bounds { table_numbers ≤ length table.old }
+    ensures value { result ≡ check_read (certificate_in_job (coefficient register) register scheme bytes.now) }
+    ensures table_after { table.new ≡ with_residual register scheme (commands_in_job register scheme bytes.now) table.old }
 {
     let part = read_commands(bytes, register, scheme);
     let number = part.number;
@@ -53,9 +53,9 @@ pub fn check_certificate(
 fn check_whole(bytes: &[u8], register: Register, scheme: Scheme, table: &mut [i64]) -> CheckRead
     requires register_valid { RegisterValid register }
     requires scheme_valid { SchemeValid register scheme }
-    requires table_numbers_in_bounds { tableNumbers ≤ length table.old }
-    ensures value { result ≡ checkRead (certificateByItself (coefficient register) register scheme bytes.now) }
-    ensures table_after { table.new ≡ withResidual register scheme (commandsInJob register scheme bytes.now) table.old }
+    requires table_numbers_in_bounds { table_numbers ≤ length table.old }
+    ensures value { result ≡ check_read (certificate_by_itself (coefficient register) register scheme bytes.now) }
+    ensures table_after { table.new ≡ with_residual register scheme (commands_in_job register scheme bytes.now) table.old }
 {
     let part = check_certificate(bytes, register, scheme, table);
     let number = part.number;
@@ -77,8 +77,8 @@ pub extern "C" fn feedcheck_check(
     certificate: &[u8],
     table: &mut [i64],
 ) -> CheckAnswer
-    ensures value { result ≡ checkAnswer register.now scheme.now certificate.now table.old }
-    ensures table_after { table.new ≡ checkTable register.now scheme.now certificate.now table.old }
+    ensures value { result ≡ check_answer register.now scheme.now certificate.now table.old }
+    ensures table_after { table.new ≡ check_table register.now scheme.now certificate.now table.old }
 {
     if table.len() < WorkingTable::NUMBERS {
         return CheckAnswer::refused(11, 0, 0);

@@ -1,17 +1,17 @@
 // The rows of a table, tried for diagonal dominance, and the bound.
 ghost use Rattle.std.specs.Prelude.{◌≡◌, ◌≤◌, ◌<◌, nat_abs};
-ghost use Rattle.integers.specs.CeilDiv.{ceilDiv};
+ghost use Rattle.integers.specs.CeilDiv.{ceil_div};
 ghost use Rattle.integers.specs.Integer.{abs};
 ghost use Rattle.integers.specs.Sum.{except};
 ghost use Rattle.forms.specs.Store.{Bounded};
-ghost use Rattle.certificate.specs.Limits.{maxScale, maxTarget, squareEntries};
-ghost use Rattle.residual.specs.Limits.{maxR};
+ghost use Rattle.certificate.specs.Limits.{max_scale, max_target, square_entries};
+ghost use Rattle.residual.specs.Limits.{max_r};
 ghost use Rattle.residual.specs.Built.{cells};
 ghost use Rattle.bound.specs.Dominance.{FirstShort};
 
 // What the entry at column j adds to the sum of the absolute values beside the diagonal of a row.
 fn off_diagonal_term(table: &[i64], side: usize, row: usize, j: usize) -> i64
-    requires bounded { Bounded side maxR table.now }
+    requires bounded { Bounded side max_r table.now }
     requires row_lt_side { (row < side) × (j < side) }
     ensures { result ≡ except row (λ j. abs (cells side table.now row j)) j }
 {
@@ -25,8 +25,8 @@ fn off_diagonal_term(table: &[i64], side: usize, row: usize, j: usize) -> i64
 
 // The first row whose diagonal entry is below the sum of the absolute values beside it, or `side` where there is none.
 pub fn first_short(table: &[i64], side: usize) -> usize
-    requires side_le_square_entries { side ≤ squareEntries }
-    requires bounded { Bounded side maxR table.now }
+    requires side_le_square_entries { side ≤ square_entries }
+    requires bounded { Bounded side max_r table.now }
     ensures { FirstShort side (cells side table.now) result }
 {
     let mut row: usize = 0;
@@ -49,9 +49,9 @@ pub fn first_short(table: &[i64], side: usize) -> usize
 
 // t divided by s, rounded up to a whole number.
 pub fn ceil_div(t: i64, s: u32) -> i64
-    requires t_bound { nat_abs t ≤ maxTarget }
-    requires le_s { (1 ≤ s) × (s ≤ maxScale) }
-    ensures { result ≡ ceilDiv t s }
+    requires t_bound { nat_abs t ≤ max_target }
+    requires le_s { (1 ≤ s) × (s ≤ max_scale) }
+    ensures { result ≡ ceil_div t s }
 {
     let d = s as i64;
     let q = t / d;

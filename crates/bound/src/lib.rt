@@ -6,7 +6,7 @@ pub mod check;
 mod dominance;
 
 ghost use Rattle.std.specs.Prelude.{◌≡◌};
-ghost use Rattle.bound.specs.Check.{refusedCheck, refusedAnswer};
+ghost use Rattle.bound.specs.Check.{refused_check, refused_answer};
 
 // What checking the certificate at the front of a run of bytes leads to: a refusal's number and position, or 0, the position
 // past the end, and the bound.
@@ -29,7 +29,7 @@ pub struct CheckAnswer {
 
 impl CheckRead {
     fn refused(number: u8, position: usize) -> CheckRead
-        ensures { result ≡ refusedCheck number position }
+        ensures { result ≡ refused_check number position }
     {
         CheckRead {
             number: number,
@@ -41,7 +41,7 @@ impl CheckRead {
 
 impl CheckAnswer {
     fn refused(number: u8, part: u8, position: usize) -> CheckAnswer
-        ensures { result ≡ refusedAnswer number part position }
+        ensures { result ≡ refused_answer number part position }
     {
         CheckAnswer {
             number: number,

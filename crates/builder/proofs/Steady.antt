@@ -6,17 +6,17 @@ use native.Mathlib.Omega.{arith}
 use Rattle.integers.specs.Lists.{All}
 use Rattle.integers.proofs.Lists.{All-map, All-append}
 use Rattle.scheme.specs.declared.Scheme.{Scheme}
-use Rattle.scheme.specs.Scheme.{maxProducts, variables}
-use Rattle.builder.specs.Builder.{next, WithVariable, WithList, joinPair, pairUp, reduce}
+use Rattle.scheme.specs.Scheme.{max_products, variables}
+use Rattle.builder.specs.Builder.{next, WithVariable, WithList, join_pair, pair_up, reduce}
 use Rattle.builder.specs.Work.{Inside}
-use Rattle.builder.proofs.Steps.{join-cases, pass_kept, reduce-kept}
+use Rattle.builder.proofs.Steps.{join_cases, pass_kept, reduce_kept}
 
 -- ---- the limit, the variables and the splits of a scheme and a list
 
 pub record Steady (n splits : ℕ) (sch : Scheme) (l : List ℕ) : Type 0 where
-  pub within : sch.products ≤ maxProducts
+  pub within : sch.products ≤ max_products
   pub inside : Inside n sch l
-  pub splits-kept : sch.splits ≡ splits
+  pub splits_kept : sch.splits ≡ splits
 
 pub All-back : {A : Type 0} (P : A → Type 0) (l r : List A) → All P (l ++ r) → All P r
 All-back P [] r h = h
@@ -29,33 +29,33 @@ All-front P (x ∷ l) r h = (h.0, All-front P l r h.1)
 -- a variable that is joined to, and how the scheme grew
 pub record Grown (n : ℕ) (sch : Scheme) (p : WithVariable) : Type 0 where
   pub rises : sch.products ≤ p.scheme.products
-  pub within : p.scheme.products ≤ maxProducts
-  pub splits-kept : p.scheme.splits ≡ sch.splits
+  pub within : p.scheme.products ≤ max_products
+  pub splits_kept : p.scheme.splits ≡ sch.splits
   pub there : p.variable < variables n p.scheme
 
-pub join-grown : (n : ℕ) (sch : Scheme) (a b : ℕ) (p : WithVariable) → sch.products ≤ maxProducts → joinPair n sch a b ≡ next p → Grown n sch p
-join-grown n sch a b p h e =
-    join-cases n sch a b p e
-    (λ l d. rw d (record { rises = omega arith; within = h; splits-kept = refl; there = l }))
-    (λ k m d. rw d (record { rises = omega arith; within = m; splits-kept = refl; there = omega arith }))
+pub join_grown : (n : ℕ) (sch : Scheme) (a b : ℕ) (p : WithVariable) → sch.products ≤ max_products → join_pair n sch a b ≡ next p → Grown n sch p
+join_grown n sch a b p h e =
+    join_cases n sch a b p e
+    (λ l d. rw d (record { rises = omega arith; within = h; splits_kept = refl; there = l }))
+    (λ k m d. rw d (record { rises = omega arith; within = m; splits_kept = refl; there = omega arith }))
 
-pub inside-grown : (n : ℕ) (sch sch' : Scheme) (l : List ℕ) → sch.products ≤ sch'.products → Inside n sch l → Inside n sch' l
-inside-grown n sch sch' l h = All-map (λ v. v < variables n sch) (λ v. v < variables n sch') (λ v m. omega arith) l
+pub inside_grown : (n : ℕ) (sch sch' : Scheme) (l : List ℕ) → sch.products ≤ sch'.products → Inside n sch l → Inside n sch' l
+inside_grown n sch sch' l h = All-map (λ v. v < variables n sch) (λ v. v < variables n sch') (λ v m. omega arith) l
 
 module _ (n splits : ℕ) where
-  steady-joins : (front rest : List ℕ) (sch : Scheme) (a b : ℕ) (p : WithVariable) → Steady n splits sch (front ++ a ∷ b ∷ rest) → joinPair n sch a b ≡ next p → Steady n splits p.scheme (front ++ p.variable ∷ rest)
-  steady-joins front rest sch a b p h e =
-      let g = join-grown n sch a b p h.within e in
+  steady_joins : (front rest : List ℕ) (sch : Scheme) (a b : ℕ) (p : WithVariable) → Steady n splits sch (front ++ a ∷ b ∷ rest) → join_pair n sch a b ≡ next p → Steady n splits p.scheme (front ++ p.variable ∷ rest)
+  steady_joins front rest sch a b p h e =
+      let g = join_grown n sch a b p h.within e in
       record {
         within = g.within;
         inside = All-append (λ v. v < variables n p.scheme) front (p.variable ∷ rest)
-            (inside-grown n sch p.scheme front g.rises (All-front _ front _ h.inside))
-            (g.there, inside-grown n sch p.scheme rest g.rises (All-back _ front _ h.inside).1.1);
-        splits-kept = g.splits-kept ∙ h.splits-kept;
+            (inside_grown n sch p.scheme front g.rises (All-front _ front _ h.inside))
+            (g.there, inside_grown n sch p.scheme rest g.rises (All-back _ front _ h.inside).1.1);
+        splits_kept = g.splits_kept ∙ h.splits_kept;
       }
 
-  pub pass-steady : (sch : Scheme) (l : List ℕ) (q : WithList) → Steady n splits sch l → pairUp n sch l ≡ next q → Steady n splits q.scheme q.members
-  pass-steady = pass_kept n (Steady n splits) steady-joins
+  pub pass_steady : (sch : Scheme) (l : List ℕ) (q : WithList) → Steady n splits sch l → pair_up n sch l ≡ next q → Steady n splits q.scheme q.members
+  pass_steady = pass_kept n (Steady n splits) steady_joins
 
-  pub reduce-steady : (k : ℕ) (sch : Scheme) (l : List ℕ) (q : WithList) → Steady n splits sch l → reduce k n sch l ≡ next q → Steady n splits q.scheme q.members
-  reduce-steady = reduce-kept n (Steady n splits) steady-joins
+  pub reduce_steady : (k : ℕ) (sch : Scheme) (l : List ℕ) (q : WithList) → Steady n splits sch l → reduce k n sch l ≡ next q → Steady n splits q.scheme q.members
+  reduce_steady = reduce_kept n (Steady n splits) steady_joins

@@ -11,11 +11,11 @@ mod splits;
 mod writing;
 
 ghost use Rattle.std.specs.Prelude.{◌≡◌, ◌≤◌};
-ghost use Rattle.register.specs.Limits.{maxChoices};
+ghost use Rattle.register.specs.Limits.{max_choices};
 ghost use Rattle.register.specs.Valid.{Valid};
 ghost use Rattle.builder.specs.Builder.{build};
-ghost use Rattle.builder.specs.Work.{builtOf, Starts};
-ghost use Rattle.builder.specs.Answer.{buildAnswer, buildBuffer};
+ghost use Rattle.builder.specs.Work.{built_of, Starts};
+ghost use Rattle.builder.specs.Answer.{build_answer, build_buffer};
 
 use splits::with_term;
 use writing::written;
@@ -44,7 +44,7 @@ pub struct Construction {
 impl Work {
     // No product and no split, for n choices.
     fn fresh(n: usize) -> Work
-        requires { n ≤ maxChoices }
+        requires { n ≤ max_choices }
         ensures { Starts n result }
     {
         let scheme = Scheme::fresh();
@@ -63,7 +63,7 @@ impl Work {
 // All terms in order.
 pub fn built(register: Register) -> Construction
     requires { Valid register }
-    ensures { builtOf result ≡ build register }
+    ensures { built_of result ≡ build register }
 {
     let n = register.choices;
     let terms = register.terms;
@@ -92,8 +92,8 @@ pub fn built(register: Register) -> Construction
 // Builds the scheme of a register (part 1 alone) and writes its bytes to the front of the buffer.
 #[unsafe(no_mangle)]
 pub extern "C" fn feedcheck_build(register: &[u8], out: &mut [u8]) -> WriterAnswer
-    ensures answer { result ≡ buildAnswer register.now out.old }
-    ensures buffer { out.new ≡ buildBuffer register.now out.old }
+    ensures answer { result ≡ build_answer register.now out.old }
+    ensures buffer { out.new ≡ build_buffer register.now out.old }
 {
     let read = register::feedcheck_register(register);
     let number = read.number;

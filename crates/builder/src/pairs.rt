@@ -1,7 +1,7 @@
 // Two variables joined to one, and a list of variables joined pair by pair.
 ghost use Rattle.std.specs.Prelude.{◌≡◌, min, max, ◌<◌, ◌≤◌, length};
-ghost use Rattle.scheme.specs.Scheme.{maxProducts, variables, withProduct};
-ghost use Rattle.builder.specs.Builder.{pairUp, reduce};
+ghost use Rattle.scheme.specs.Scheme.{max_products, variables, with_product};
+ghost use Rattle.builder.specs.Builder.{pair_up, reduce};
 ghost use Rattle.builder.specs.Work.{listed, Ready, Lists, Joins, LeadsTo};
 
 use crate::Work;
@@ -21,8 +21,8 @@ pub fn larger(a: u8, b: u8) -> u8
 
 // One product more.
 fn with_product(mut scheme: Scheme, l: u8, r: u8) -> Scheme
-    requires { scheme.products < maxProducts }
-    ensures { result ≡ withProduct scheme l r }
+    requires { scheme.products < max_products }
+    ensures { result ≡ with_product scheme l r }
 {
     let k = scheme.products;
     scheme.lefts[k] = l;
@@ -61,7 +61,7 @@ fn joined(mut work: Work, n: usize, a: u8, b: u8) -> Work
 // One pass over the list: consecutive pairs from the front are joined, and an odd last member stays last.
 fn paired(mut work: Work, n: usize) -> Work
     requires { Lists n work }
-    ensures { LeadsTo n (pairUp n work.scheme (listed work)) result }
+    ensures { LeadsTo n (pair_up n work.scheme (listed work)) result }
 {
     let count = work.count;
     let mut i = 0;

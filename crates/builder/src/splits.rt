@@ -1,7 +1,7 @@
 // The split of a term: its choices, joined until two are left.
 ghost use Rattle.std.specs.Prelude.{◌≡◌, ◌^◌, ◌<◌, ◌≤◌, length};
-ghost use Rattle.register.specs.Limits.{maxChoices, maxTerms};
-ghost use Rattle.scheme.specs.Scheme.{withSplit};
+ghost use Rattle.register.specs.Limits.{max_choices, max_terms};
+ghost use Rattle.scheme.specs.Scheme.{with_split};
 ghost use Rattle.builder.specs.Work.{Ready, Ends, Adds, Chooses, Splits};
 
 use crate::Work;
@@ -10,8 +10,8 @@ use scheme::Scheme;
 
 // One split more.
 fn with_split(mut scheme: Scheme, l: u8, r: u8) -> Scheme
-    requires { scheme.splits < maxTerms }
-    ensures { result ≡ withSplit scheme l r }
+    requires { scheme.splits < max_terms }
+    ensures { result ≡ with_split scheme l r }
 {
     let t = scheme.splits;
     scheme.split_lefts[t] = l;
@@ -22,8 +22,8 @@ fn with_split(mut scheme: Scheme, l: u8, r: u8) -> Scheme
 
 // The list with choice i after the others, if it is in the mask.
 fn with_choice(mut work: Work, i: usize, mask: u32) -> Work
-    requires list_len { length work.list ≡ maxChoices }
-    requires i_lt_max_choices { i < maxChoices }
+    requires list_len { length work.list ≡ max_choices }
+    requires i_lt_max_choices { i < max_choices }
     requires count_le_i { work.count ≤ i }
     ensures { Adds i mask work result }
 {
@@ -51,8 +51,8 @@ fn with_choices(mut work: Work, n: usize, mask: u32) -> Work
 
 // The term's split after the others: (min, max) of two members, or (a, a) for one.
 fn with_split_of(mut work: Work) -> Work
-    requires list_len { length work.list ≡ maxChoices }
-    requires splits_lt_max_terms { work.scheme.splits < maxTerms }
+    requires list_len { length work.list ≡ max_choices }
+    requires splits_lt_max_terms { work.scheme.splits < max_terms }
     requires le_count { 1 ≤ work.count }
     requires count_bound { work.count ≤ 2 }
     ensures { Splits work result }
@@ -69,7 +69,7 @@ fn with_split_of(mut work: Work) -> Work
 // One term, by its mask.
 pub fn with_term(work: Work, n: usize, mask: u32) -> Work
     requires ready { Ready n work }
-    requires splits_lt_max_terms { work.scheme.splits < maxTerms }
+    requires splits_lt_max_terms { work.scheme.splits < max_terms }
     requires le_mask { 1 ≤ mask }
     requires mask_bound { mask < 2 ^ n }
     ensures { Ends n mask work result }

@@ -1,11 +1,11 @@
 // A scheme written as bytes.
 ghost use Rattle.std.specs.Prelude.{◌≡◌, ◌++◌, ℕ, ◌+◌, ◌*◌, ◌≤◌, length, drop};
 ghost use Rattle.std.proofs.lemmas.List.Edits.{sets};
-ghost use Rattle.register.specs.Limits.{maxTerms};
-ghost use Rattle.scheme.specs.Scheme.{maxProducts, Lengths};
-ghost use Rattle.scheme.specs.Encoding.{encodeScheme};
-ghost use Rattle.wire.specs.Writer.{bytesAnswer, withFront};
-ghost use Rattle.builder.specs.Encoding.{encodePair, encodePairs};
+ghost use Rattle.register.specs.Limits.{max_terms};
+ghost use Rattle.scheme.specs.Scheme.{max_products, Lengths};
+ghost use Rattle.scheme.specs.Encoding.{encode_scheme};
+ghost use Rattle.wire.specs.Writer.{bytes_answer, with_front};
+ghost use Rattle.builder.specs.Encoding.{encode_pair, encode_pairs};
 
 use scheme::Scheme;
 use wire::WriterAnswer;
@@ -13,7 +13,7 @@ use wire::WriterAnswer;
 // Writes a command of two operands.
 fn put_pair(out: &mut [u8], at: usize, byte: u8, l: u8, r: u8)
     requires { at + 3 ≤ length out.old }
-    ensures { out.new ≡ sets out.old at (encodePair byte l r) }
+    ensures { out.new ≡ sets out.old at (encode_pair byte l r) }
 {
     out[at] = byte;
     wire::put_u8(out, at + 1, l);
@@ -32,7 +32,7 @@ fn put_pairs<'a>(
     requires count_in_bounds { count ≤ length lefts.now }
     requires count_in_bounds_2 { count ≤ length rights.now }
     requires count_in_bounds_3 { at + 3 * count ≤ length out.old }
-    ensures { out.new ≡ sets out.old at (encodePairs byte count lefts.now rights.now) }
+    ensures { out.new ≡ sets out.old at (encode_pairs byte count lefts.now rights.now) }
 {
     let mut k = 0;
     while k < count {
@@ -44,10 +44,10 @@ fn put_pairs<'a>(
 // Writes a scheme at the front of a buffer.
 fn put_scheme(out: &mut [u8], scheme: Scheme)
     requires lengths { Lengths scheme }
-    requires products_le_max_products { scheme.products ≤ maxProducts }
-    requires splits_le_max_terms { scheme.splits ≤ maxTerms }
+    requires products_le_max_products { scheme.products ≤ max_products }
+    requires splits_le_max_terms { scheme.splits ≤ max_terms }
     requires splits_in_bounds { 3 * scheme.products + 3 * scheme.splits + 1 ≤ length out.old }
-    ensures { (n : ℕ) → out.new ≡ encodeScheme n scheme ++ drop (length (encodeScheme n scheme)) out.old }
+    ensures { (n : ℕ) → out.new ≡ encode_scheme n scheme ++ drop (length (encode_scheme n scheme)) out.old }
 {
     let products = scheme.products;
     let splits = scheme.splits;
@@ -67,8 +67,8 @@ fn put_scheme(out: &mut [u8], scheme: Scheme)
 
 // The count of a scheme's bytes.
 fn size_of(scheme: Scheme) -> usize
-    requires products_le_max_products { scheme.products ≤ maxProducts }
-    requires splits_le_max_terms { scheme.splits ≤ maxTerms }
+    requires products_le_max_products { scheme.products ≤ max_products }
+    requires splits_le_max_terms { scheme.splits ≤ max_terms }
     ensures { result ≡ 3 * scheme.products + 3 * scheme.splits + 1 }
 {
     3 * scheme.products + 3 * scheme.splits + 1
@@ -77,10 +77,10 @@ fn size_of(scheme: Scheme) -> usize
 // Writes a scheme at the front of a buffer, or nothing where it is short.
 pub fn written(out: &mut [u8], scheme: Scheme) -> WriterAnswer
     requires lengths { Lengths scheme }
-    requires products_le_max_products { scheme.products ≤ maxProducts }
-    requires splits_le_max_terms { scheme.splits ≤ maxTerms }
-    ensures answer { (n : ℕ) → result ≡ bytesAnswer (encodeScheme n scheme) out.old }
-    ensures buffer { (n : ℕ) → out.new ≡ withFront (encodeScheme n scheme) out.old }
+    requires products_le_max_products { scheme.products ≤ max_products }
+    requires splits_le_max_terms { scheme.splits ≤ max_terms }
+    ensures answer { (n : ℕ) → result ≡ bytes_answer (encode_scheme n scheme) out.old }
+    ensures buffer { (n : ℕ) → out.new ≡ with_front (encode_scheme n scheme) out.old }
 {
     let count = size_of(scheme);
     if out.len() < count {

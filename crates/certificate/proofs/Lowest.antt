@@ -8,25 +8,25 @@ use Rattle.integers.proofs.Lists.{◌▹◌, All-append}
 use Rattle.wire.specs.Number.{Bytes}
 use Rattle.wire.specs.Part.{refused}
 use Rattle.wire.specs.Refused.{RefusedAt}
-use Rattle.wire.proofs.Lowest.{Rising, Rises, rows-rising, refused-iff}
+use Rattle.wire.proofs.Lowest.{Rising, Rises, rows_rising, refused_iff}
 use Rattle.register.specs.declared.Register.{Register}
 use Rattle.scheme.specs.declared.Scheme.{Scheme}
 use Rattle.certificate.specs.Certificate.{fresh}
-use Rattle.certificate.specs.Format.{scaleChecks, multiplierChecks, multiplierKinds, multiplierRow, squareChecks, squareRow, endRow, certificateRows, certificatePart, commandsInJob}
+use Rattle.certificate.specs.Format.{scale_checks, multiplier_checks, multiplier_kinds, multiplier_row, square_checks, square_row, end_row, certificate_rows, certificate_part, commands_in_job}
 use Rattle.certificate.proofs.Ranges.{rows_alike}
 
 module _ (reg : Register) (sch : Scheme) where
-  certificate-rises : All Rises (certificateRows reg sch)
-  unfolding scaleChecks multiplierChecks squareChecks
-  certificate-rises =
-      let square : Rises (squareRow reg sch) = λ r xs. tt in
-      let end : Rises endRow = λ r xs. tt in
-      (λ r xs. tt) ▹ All-append Rises (map (multiplierRow reg sch) multiplierKinds) (squareRow reg sch ∷ endRow ∷ []) (rows_alike Rises (multiplierRow reg sch) (λ kind h r xs. tt)) (square ▹ end ▹ tt)
+  certificate_rises : All Rises (certificate_rows reg sch)
+  unfolding scale_checks multiplier_checks square_checks
+  certificate_rises =
+      let square : Rises (square_row reg sch) = λ r xs. tt in
+      let end : Rises end_row = λ r xs. tt in
+      (λ r xs. tt) ▹ All-append Rises (map (multiplier_row reg sch) multiplier_kinds) (square_row reg sch ∷ end_row ∷ []) (rows_alike Rises (multiplier_row reg sch) (λ kind h r xs. tt)) (square ▹ end ▹ tt)
 
-  certificate-rising : Rising (certificatePart reg sch)
-  certificate-rising = rows-rising fresh (certificateRows reg sch) certificate-rises
+  certificate_rising : Rising (certificate_part reg sch)
+  certificate_rising = rows_rising fresh (certificate_rows reg sch) certificate_rises
 
   -- everything before a refused command is right, and its number is the lowest of its checks that fail
-  pub commands-refused : (s : List ℕ) (n at : ℕ) → Bytes s → (commandsInJob reg sch s ≡ refused n at) ↔ RefusedAt (certificatePart reg sch) s n at
-  unfolding commandsInJob
-  commands-refused s n at b = refused-iff (certificatePart reg sch) s certificate-rising n at b
+  pub commands_refused : (s : List ℕ) (n at : ℕ) → Bytes s → (commands_in_job reg sch s ≡ refused n at) ↔ RefusedAt (certificate_part reg sch) s n at
+  unfolding commands_in_job
+  commands_refused s n at b = refused_iff (certificate_part reg sch) s certificate_rising n at b

@@ -1,7 +1,7 @@
 -- What the code keeps of a certificate, what its checks look at, and what the certificate's calls answer, by what reading leads
 -- to. The code's records have the paper's names too: here they are Counts, Named, Filled and RuleTests.
 use Rattle.std.specs.Prelude.{ℕ, ◌+◌, ◌≤◌, ◌⊎◌, ◌≡◌, Bool, true, ◌&&◌, ◌||◌, List, leb, ℤ, pos, nat_abs, length, get_or, replicate}
-use Rattle.wire.specs.Part.{Reading, refused, accepted, operandsAt}
+use Rattle.wire.specs.Part.{Reading, refused, accepted, operands_at}
 use Rattle.wire.specs.Rows.{Progress}
 use Rattle.register.specs.declared.Register.{Register}
 use Rattle.scheme.specs.declared.Scheme.{Scheme}
@@ -13,16 +13,16 @@ use Rattle.certificate.specs.declared.Square.{Square as Filled}
 use Rattle.certificate.specs.declared.Rule.{Rule as RuleTests}
 use Rattle.certificate.specs.declared.Seen.{Seen}
 use Rattle.certificate.specs.declared.CertificateRead.{CertificateRead}
-use Rattle.certificate.specs.Limits.{squareEntries, maxEntry}
+use Rattle.certificate.specs.Limits.{square_entries, max_entry}
 use Rattle.certificate.specs.Certificate.{Multiplier, Square, Certificate}
-use Rattle.certificate.specs.Rules.{Rule, byKey, noRule, rules}
-use Rattle.certificate.specs.Format.{multiplierWidths, squareWidths, multiplierOf, squareOf}
+use Rattle.certificate.specs.Rules.{Rule, by_key, no_rule, rules}
+use Rattle.certificate.specs.Format.{multiplier_widths, square_widths, multiplier_of, square_of}
 
 -- ---- what the code keeps
 
 -- a certificate by its counts
-abbrev pub countsOf : Certificate → Counts
-countsOf k = record {
+abbrev pub counts_of : Certificate → Counts
+counts_of k = record {
   scale = k.scale;
   target = k.target;
   multipliers = length k.multipliers;
@@ -44,42 +44,42 @@ named_of t = record {
   m = t.m;
 }
 
-abbrev pub filledOf : Square → Filled
-filledOf q = record { weight = q.w; entries = q.v }
+abbrev pub filled_of : Square → Filled
+filled_of q = record { weight = q.w; entries = q.v }
 
-abbrev pub squareIn : Filled → Square
-squareIn q = record { w = q.weight; v = q.entries }
+abbrev pub square_in : Filled → Square
+square_in q = record { w = q.weight; v = q.entries }
 
 -- no square read yet
-unfoldable pub freshSquare : Filled
-freshSquare = record { weight = 0; entries = replicate squareEntries (pos 0) }
+unfoldable pub fresh_square : Filled
+fresh_square = record { weight = 0; entries = replicate square_entries (pos 0) }
 
 -- ---- the command at a position
 
-unfoldable pub multiplierAt : List ℕ → ℕ → Multiplier
-multiplierAt s at = let kind = get_or s at 0 in multiplierOf kind (operandsAt (multiplierWidths kind) s (at + 1))
+unfoldable pub multiplier_at : List ℕ → ℕ → Multiplier
+multiplier_at s at = let kind = get_or s at 0 in multiplier_of kind (operands_at (multiplier_widths kind) s (at + 1))
 
-unfoldable pub squareRead : List ℕ → ℕ → Square
-squareRead s at = squareOf (operandsAt squareWidths s (at + 1))
+unfoldable pub square_read : List ℕ → ℕ → Square
+square_read s at = square_of (operands_at square_widths s (at + 1))
 
 -- an entry of a square is within its range, and past a place at most a limit in magnitude
-abbrev pub smallPast : (place limit : ℕ) → List ℤ → ℕ → Bool
-smallPast place limit v i =
+abbrev pub small_past : (place limit : ℕ) → List ℤ → ℕ → Bool
+small_past place limit v i =
     let size = nat_abs (get_or v i (pos 0)) in
-    leb size maxEntry && (leb i place || leb size limit)
+    leb size max_entry && (leb i place || leb size limit)
 
 -- ---- what the checks look at
 
 -- n choices, N variables, so many rows, and the sets of the variables
 pub record Known (reg : Register) (sch : Scheme) (n N rows : ℕ) (sets : List ℕ) : Type 0 where
-  pub choices-is : reg.choices ≡ n
-  pub variables-is : variables reg.choices sch ≡ N
-  pub rows-is : reg.rows ≡ rows
-  pub sets-are : SetsBelow reg.choices sch N sets
+  pub choices_is : reg.choices ≡ n
+  pub variables_is : variables reg.choices sch ≡ N
+  pub rows_is : reg.rows ≡ rows
+  pub sets_are : SetsBelow reg.choices sch N sets
 
 -- of what has been read so far, with a register and a scheme
-abbrev pub seenOf : Register → Scheme → Progress Certificate → Seen
-seenOf reg sch p = record {
+abbrev pub seen_of : Register → Scheme → Progress Certificate → Seen
+seen_of reg sch p = record {
   previous = p.previous;
   multipliers = length p.parsed.multipliers;
   squares = length p.parsed.squares;
@@ -89,28 +89,28 @@ seenOf reg sch p = record {
 }
 
 -- the rule of a multiplier command
-unfoldable pub ruleAsked : Register → Scheme → Named → Rule
-ruleAsked reg sch t = byKey noRule t.kind (rules reg sch t.i t.j t.k t.l)
+unfoldable pub rule_asked : Register → Scheme → Named → Rule
+rule_asked reg sch t = by_key no_rule t.kind (rules reg sch t.i t.j t.k t.l)
 
 -- the tests of a rule: whether the sets fit is said where the variables are there
 pub record TestsOf (rule : Rule) (r : RuleTests) : Type 0 where
-  pub least-is : rule.least ≡ r.least
-  pub most-is : rule.most ≡ r.most
-  pub there-is : rule.there ≡ r.there
-  pub ordered-is : rule.ordered ≡ r.ordered
-  pub fits-is : rule.there ≡ true → rule.fits ≡ r.fits
+  pub least_is : rule.least ≡ r.least
+  pub most_is : rule.most ≡ r.most
+  pub there_is : rule.there ≡ r.there
+  pub ordered_is : rule.ordered ≡ r.ordered
+  pub fits_is : rule.there ≡ true → rule.fits ≡ r.fits
 
 -- ---- answers
 
 -- nothing read
-abbrev pub freshCounts : Counts
-freshCounts = record { scale = 0; target = pos 0; multipliers = 0; squares = 0 }
+abbrev pub fresh_counts : Counts
+fresh_counts = record { scale = 0; target = pos 0; multipliers = 0; squares = 0 }
 
 -- for the reader of a job: a refusal's number and position, or 0, the position past the end and the certificate's counts
 
-abbrev pub refusedRead : ℕ → ℕ → CertificateRead
-refusedRead number at = record { number = number; position = at; certificate = freshCounts }
+abbrev pub refused_read : ℕ → ℕ → CertificateRead
+refused_read number at = record { number = number; position = at; certificate = fresh_counts }
 
-abbrev pub commandsRead : Reading (Progress Certificate) → CertificateRead
-commandsRead (refused number at) = refusedRead number at
-commandsRead (accepted p end) = record { number = 0; position = end; certificate = countsOf p.parsed }
+abbrev pub commands_read : Reading (Progress Certificate) → CertificateRead
+commands_read (refused number at) = refused_read number at
+commands_read (accepted p end) = record { number = 0; position = end; certificate = counts_of p.parsed }

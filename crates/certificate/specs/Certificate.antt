@@ -26,16 +26,16 @@ fresh = record { scale = 0; target = pos 0; multipliers = []; squares = [] }
 
 -- with other multipliers, and with other squares
 
-abbrev pub setMultipliers : Certificate → List Multiplier → Certificate
-setMultipliers k ts = record { scale = k.scale; target = k.target; multipliers = ts; squares = k.squares }
+abbrev pub set_multipliers : Certificate → List Multiplier → Certificate
+set_multipliers k ts = record { scale = k.scale; target = k.target; multipliers = ts; squares = k.squares }
 
-abbrev pub setSquares : Certificate → List Square → Certificate
-setSquares k qs = record { scale = k.scale; target = k.target; multipliers = k.multipliers; squares = qs }
+abbrev pub set_squares : Certificate → List Square → Certificate
+set_squares k qs = record { scale = k.scale; target = k.target; multipliers = k.multipliers; squares = qs }
 
 -- one multiplier more, and one square more
 
-abbrev pub withMultiplier : Certificate → Multiplier → Certificate
-withMultiplier k t = setMultipliers k (k.multipliers ++ (t ∷ []))
+abbrev pub with_multiplier : Certificate → Multiplier → Certificate
+with_multiplier k t = set_multipliers k (k.multipliers ++ (t ∷ []))
 
-abbrev pub withSquare : Certificate → Square → Certificate
-withSquare k q = setSquares k (k.squares ++ (q ∷ []))
+abbrev pub with_square : Certificate → Square → Certificate
+with_square k q = set_squares k (k.squares ++ (q ∷ []))

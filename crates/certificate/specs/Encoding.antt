@@ -13,47 +13,47 @@ pub data Entry : Type 0 where
 
 -- the multipliers, and the squares, of a list of commands
 
-abbrev pub multipliersIn : Entry → List Multiplier
-multipliersIn (multiplier t) = t ∷ []
-multipliersIn (square q) = []
+abbrev pub multipliers_in : Entry → List Multiplier
+multipliers_in (multiplier t) = t ∷ []
+multipliers_in (square q) = []
 
-abbrev pub squaresIn : Entry → List Square
-squaresIn (multiplier t) = []
-squaresIn (square q) = q ∷ []
+abbrev pub squares_in : Entry → List Square
+squares_in (multiplier t) = []
+squares_in (square q) = q ∷ []
 
-abbrev pub multipliersOf : List Entry → List Multiplier
-multipliersOf es = flat_map multipliersIn es
+abbrev pub multipliers_of : List Entry → List Multiplier
+multipliers_of es = flat_map multipliers_in es
 
-abbrev pub squaresOf : List Entry → List Square
-squaresOf es = flat_map squaresIn es
+abbrev pub squares_of : List Entry → List Square
+squares_of es = flat_map squares_in es
 
 -- `30`: four bytes for the scale, eight for the target
-unfoldable pub encodeScale : ℕ → ℤ → List ℕ
-encodeScale s target = 0x30 ∷ (bytes_of 4 s ++ bytes_of 8 (of_z w64 target))
+unfoldable pub encode_scale : ℕ → ℤ → List ℕ
+encode_scale s target = 0x30 ∷ (bytes_of 4 s ++ bytes_of 8 (of_z w64 target))
 
 -- `31` to `39` and `3B`: a byte for each number named, eight for m
-unfoldable pub encodeMultiplier : Multiplier → List ℕ
-encodeMultiplier t = t.kind ∷ (flat_map (bytes_of 1) t.names ++ bytes_of 8 (of_z w64 t.m))
+unfoldable pub encode_multiplier : Multiplier → List ℕ
+encode_multiplier t = t.kind ∷ (flat_map (bytes_of 1) t.names ++ bytes_of 8 (of_z w64 t.m))
 
 -- `3A` square: weight w u32, then 65 entries v i16
-unfoldable pub encodeSquare : Square → List ℕ
-encodeSquare q = 0x3A ∷ (bytes_of 4 q.w ++ flat_map (λ v. bytes_of 2 (of_z w16 v)) q.v)
+unfoldable pub encode_square : Square → List ℕ
+encode_square q = 0x3A ∷ (bytes_of 4 q.w ++ flat_map (λ v. bytes_of 2 (of_z w16 v)) q.v)
 
-abbrev pub encodeEntry : Entry → List ℕ
-encodeEntry (multiplier t) = encodeMultiplier t
-encodeEntry (square q) = encodeSquare q
+abbrev pub encode_entry : Entry → List ℕ
+encode_entry (multiplier t) = encode_multiplier t
+encode_entry (square q) = encode_square q
 
 -- all but the end
-abbrev pub encodeBody : ℕ → ℤ → List Entry → List ℕ
-encodeBody s target es = encodeScale s target ++ flat_map encodeEntry es
+abbrev pub encode_body : ℕ → ℤ → List Entry → List ℕ
+encode_body s target es = encode_scale s target ++ flat_map encode_entry es
 
 -- the commands are those of a certificate, in some order that keeps the order of the multipliers and that of the squares
 pub record Commands (k : Certificate) (es : List Entry) : Type 0 where
-  pub multipliers-are : multipliersOf es ≡ k.multipliers
-  pub squares-are : squaresOf es ≡ k.squares
+  pub multipliers_are : multipliers_of es ≡ k.multipliers
+  pub squares_are : squares_of es ≡ k.squares
 
 -- a run of bytes is an encoding of a certificate
 pub record Encodes (k : Certificate) (s : List ℕ) : Type 0 where
   pub entries : List Entry
   pub commands : Commands k entries
-  pub bytes : s ≡ encodeBody k.scale k.target entries ++ (0x3F ∷ [])
+  pub bytes : s ≡ encode_body k.scale k.target entries ++ (0x3F ∷ [])

@@ -1,38 +1,38 @@
 -- The certificate's limits and ranges.
 use Rattle.std.specs.Prelude.{ℕ, suc}
-use Rattle.scheme.specs.Scheme.{maxVariables}
+use Rattle.scheme.specs.Scheme.{max_variables}
 
 -- the ranges of scale and target
 
-abbrev pub maxScale : ℕ
-maxScale = 1_000_000
+abbrev pub max_scale : ℕ
+max_scale = 1_000_000
 
-abbrev pub maxTarget : ℕ
-maxTarget = 4_000_000_000_000_000
+abbrev pub max_target : ℕ
+max_target = 4_000_000_000_000_000
 
 -- at most 1,024 multiplier commands, each multiplier within ±10¹² or 0–10¹²
 
-abbrev pub maxMultipliers : ℕ
-maxMultipliers = 1_024
+abbrev pub max_multipliers : ℕ
+max_multipliers = 1_024
 
-abbrev pub maxMultiplier : ℕ
-maxMultiplier = 1_000_000_000_000
+abbrev pub max_multiplier : ℕ
+max_multiplier = 1_000_000_000_000
 
 -- of a row form within ±10⁹
 
-abbrev pub maxRowMultiplier : ℕ
-maxRowMultiplier = 1_000_000_000
+abbrev pub max_row_multiplier : ℕ
+max_row_multiplier = 1_000_000_000
 
 -- at most 64 squares; the range of a weight; an entry for the constant and one for each variable, and their range
 
-abbrev pub maxSquares : ℕ
-maxSquares = 64
+abbrev pub max_squares : ℕ
+max_squares = 64
 
-abbrev pub maxWeight : ℕ
-maxWeight = 1_000_000
+abbrev pub max_weight : ℕ
+max_weight = 1_000_000
 
-abbrev pub squareEntries : ℕ
-squareEntries = suc maxVariables
+abbrev pub square_entries : ℕ
+square_entries = suc max_variables
 
-abbrev pub maxEntry : ℕ
-maxEntry = 10_000
+abbrev pub max_entry : ℕ
+max_entry = 10_000

@@ -8,9 +8,9 @@ use Rattle.register.specs.declared.Register.{Register}
 use Rattle.scheme.specs.declared.Scheme.{Scheme}
 use Rattle.scheme.specs.Scheme.{variables}
 use Rattle.scheme.specs.Variables.{E}
-use Rattle.certificate.specs.Limits.{maxScale, maxTarget, maxMultipliers, maxMultiplier, maxRowMultiplier, maxSquares, maxWeight, squareEntries, maxEntry}
+use Rattle.certificate.specs.Limits.{max_scale, max_target, max_multipliers, max_multiplier, max_row_multiplier, max_squares, max_weight, square_entries, max_entry}
 use Rattle.certificate.specs.Certificate.{Multiplier, Square, Certificate}
-use Rattle.certificate.specs.Rules.{byKey}
+use Rattle.certificate.specs.Rules.{by_key}
 
 -- v is a variable, and k a product, where there are n choices
 
@@ -23,15 +23,15 @@ Product n s k = (n ≤ k) × (k < variables n s)
 -- m of a null form within ±10¹², of a form that is subtracted 0–10¹²
 
 abbrev pub NullRange : ℤ → Type 0
-NullRange m = nat_abs m ≤ maxMultiplier
+NullRange m = nat_abs m ≤ max_multiplier
 
 abbrev pub SubtractedRange : ℤ → Type 0
-SubtractedRange m = (pos 0 ≤ℤ m) × (m ≤ℤ pos maxMultiplier)
+SubtractedRange m = (pos 0 ≤ℤ m) × (m ≤ℤ pos max_multiplier)
 
 -- of a row form within ±10⁹
 
 abbrev pub RowRange : ℤ → Type 0
-RowRange m = nat_abs m ≤ maxRowMultiplier
+RowRange m = nat_abs m ≤ max_row_multiplier
 
 -- the condition of each multiplier command by its byte: how many numbers it names, whether what they name is there, their order, their
 -- sets, and the range of m
@@ -59,25 +59,25 @@ conditions r s names m =
 
 -- a multiplier command is allowed where the condition of its byte holds; no other byte is one
 unfoldable pub Allowed : Register → Scheme → Multiplier → Type 0
-Allowed r s t = byKey ⊥ t.kind (conditions r s t.names t.m)
+Allowed r s t = by_key ⊥ t.kind (conditions r s t.names t.m)
 
 -- a square: its weight's range, how many entries it has, their range, and that the unused ones are 0
 pub record SquareAllowed (n : ℕ) (s : Scheme) (q : Square) : Type 0 where
-  pub w-above : 1 ≤ q.w
-  pub w-within : q.w ≤ maxWeight
-  pub entries : length q.v ≡ squareEntries
-  pub entries-within : (i : ℕ) → i < squareEntries → nat_abs (get_or q.v i (pos 0)) ≤ maxEntry
-  pub past-0 : (i : ℕ) → variables n s < i → i < squareEntries → get_or q.v i (pos 0) ≡ pos 0
+  pub w_above : 1 ≤ q.w
+  pub w_within : q.w ≤ max_weight
+  pub entries : length q.v ≡ square_entries
+  pub entries_within : (i : ℕ) → i < square_entries → nat_abs (get_or q.v i (pos 0)) ≤ max_entry
+  pub past_0 : (i : ℕ) → variables n s < i → i < square_entries → get_or q.v i (pos 0) ≡ pos 0
 
 -- within the limits, as far as commands other than the end say
 pub record Within (reg : Register) (s : Scheme) (k : Certificate) : Type 0 where
   -- of `30`
-  pub scale-above : 1 ≤ k.scale
-  pub scale-within : k.scale ≤ maxScale
-  pub target-within : nat_abs k.target ≤ maxTarget
+  pub scale_above : 1 ≤ k.scale
+  pub scale_within : k.scale ≤ max_scale
+  pub target_within : nat_abs k.target ≤ max_target
   -- of `31` to `39` and `3B`
-  pub multipliers-within : length k.multipliers ≤ maxMultipliers
+  pub multipliers_within : length k.multipliers ≤ max_multipliers
   pub multipliers : All (Allowed reg s) k.multipliers
   -- of `3A`
-  pub squares-within : length k.squares ≤ maxSquares
+  pub squares_within : length k.squares ≤ max_squares
   pub squares : All (SquareAllowed reg.choices s) k.squares

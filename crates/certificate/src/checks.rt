@@ -1,17 +1,17 @@
 // The checks of the certificate's commands: refusals 1 to 8.
 ghost use Rattle.std.specs.Prelude.{◌≡◌, ◌<◌, length, get_or};
 ghost use Rattle.integers.specs.Lists.{all_below};
-ghost use Rattle.sets.specs.Sets.{isProperSubset};
+ghost use Rattle.sets.specs.Sets.{is_proper_subset};
 ghost use Rattle.wire.specs.Checks.{refusal};
-ghost use Rattle.wire.specs.Part.{checksAt};
-ghost use Rattle.wire.specs.Rows.{Progress, isAmong, row_of};
+ghost use Rattle.wire.specs.Part.{checks_at};
+ghost use Rattle.wire.specs.Rows.{Progress, is_among, row_of};
 ghost use Rattle.register.specs.declared.Register.{Register};
 ghost use Rattle.scheme.specs.Scheme.{variables};
 ghost use Rattle.scheme.specs.Sets.{SetsBelow};
 ghost use Rattle.certificate.specs.Certificate.{Certificate as Whole};
 ghost use Rattle.certificate.specs.Rules.{Rule as Ruled};
-ghost use Rattle.certificate.specs.Format.{scaleChecks, multiplierChecks, squareChecks, anyBefore, certificateRows, certificatePart};
-ghost use Rattle.certificate.specs.Answer.{squareIn, smallPast, Known, seenOf, ruleAsked, TestsOf};
+ghost use Rattle.certificate.specs.Format.{scale_checks, multiplier_checks, square_checks, any_before, certificate_rows, certificate_part};
+ghost use Rattle.certificate.specs.Answer.{square_in, small_past, Known, seen_of, rule_asked, TestsOf};
 
 use super::{Certificate, Multiplier, Rule, Seen, Square};
 use scheme::Scheme;
@@ -19,7 +19,7 @@ use wire::{command_refusal, first_of};
 
 // The refusal of a scale and a target, or 0.
 fn scale_refusal(scale: u32, target: i64) -> u8
-    ensures { result ≡ refusal (scaleChecks scale target) }
+    ensures { result ≡ refusal (scale_checks scale target) }
 {
     let far = Certificate::MAX_TARGET < wire::magnitude(target);
     first_of((scale == 0) | (Certificate::MAX_SCALE < scale) | far, 4, 0)
@@ -34,14 +34,14 @@ fn set_of(sets: &[u32], v: u8) -> u32
 }
 
 fn is_proper_subset(a: u32, b: u32) -> bool
-    ensures { result ≡ isProperSubset a b }
+    ensures { result ≡ is_proper_subset a b }
 {
     ((b & a) == a) & (a != b)
 }
 
 // What a multiplier command's kind asks, by the sets of the variables, where there are n choices, count variables and so many rows.
 fn rule_of(sets: &[u32], n: usize, count: usize, rows: usize, t: Multiplier) -> Rule
-    ensures { (reg : Register) (sch : Scheme) → Known reg sch n count rows sets.now → TestsOf (ruleAsked reg sch t) result }
+    ensures { (reg : Register) (sch : Scheme) → Known reg sch n count rows sets.now → TestsOf (rule_asked reg sch t) result }
 {
     let kind = t.kind;
     let i = t.i;
@@ -70,7 +70,7 @@ fn rule_of(sets: &[u32], n: usize, count: usize, rows: usize, t: Multiplier) -> 
 
 // The refusal of a multiplier command after others, or 0.
 fn multiplier_refusal(multipliers: usize, rule: Rule, m: i64) -> u8
-    ensures { (whole : Ruled) → TestsOf whole rule → result ≡ refusal (multiplierChecks multipliers whole m) }
+    ensures { (whole : Ruled) → TestsOf whole rule → result ≡ refusal (multiplier_checks multipliers whole m) }
 {
     let out = (m < rule.least) | (rule.most < m);
     let fits = first_of(!rule.ordered, 6, first_of(!rule.fits, 8, 0));
@@ -84,7 +84,7 @@ fn multiplier_refusal(multipliers: usize, rule: Rule, m: i64) -> u8
 
 // The entries of a square are within their range, and those past a place are at most a limit in magnitude.
 fn are_within(entries: &[i16], place: usize, limit: u64) -> bool
-    ensures { result ≡ all_below (length entries.now) (smallPast place limit entries.now) }
+    ensures { result ≡ all_below (length entries.now) (small_past place limit entries.now) }
 {
     let mut i = 0;
     while i < entries.len() {
@@ -100,7 +100,7 @@ fn are_within(entries: &[i16], place: usize, limit: u64) -> bool
 
 // The refusal of a square after others, where there are count variables, or 0.
 fn square_refusal(squares: usize, count: usize, square: Square) -> u8
-    ensures { result ≡ refusal (squareChecks squares count (squareIn square)) }
+    ensures { result ≡ refusal (square_checks squares count (square_in square)) }
 {
     let weight = square.weight;
     let within = are_within(&square.entries, count, Square::MAX_ENTRY);
@@ -115,14 +115,14 @@ fn square_refusal(squares: usize, count: usize, square: Square) -> u8
 
 // A multiplier, a square or the end may stand here.
 fn after_scale(previous: u8) -> bool
-    ensures { result ≡ isAmong previous anyBefore }
+    ensures { result ≡ is_among previous any_before }
 {
     (0x30 <= previous) & (previous <= 0x3b)
 }
 
 // A command may stand directly after another, or first where that is 0.
 fn stands_after(previous: u8, command: u8) -> bool
-    ensures { (reg : Register) (sch : Scheme) → result ≡ isAmong previous (row_of (certificateRows reg sch) command).follows }
+    ensures { (reg : Register) (sch : Scheme) → result ≡ is_among previous (row_of (certificate_rows reg sch) command).follows }
 {
     match command {
         0x30 => previous == 0,
@@ -136,8 +136,8 @@ fn stands_after(previous: u8, command: u8) -> bool
 // then its operands.
 pub fn refusal_at(bytes: &[u8], at: usize, seen: Seen, sets: &[u32]) -> u8
     requires { at < length bytes.now }
-    ensures { (reg : Register) (sch : Scheme) (p : Progress Whole) → seenOf reg sch p ≡ seen → SetsBelow reg.choices sch (variables reg.choices sch) sets.now →
-        result ≡ refusal (checksAt (certificatePart reg sch) bytes.now p at) }
+    ensures { (reg : Register) (sch : Scheme) (p : Progress Whole) → seen_of reg sch p ≡ seen → SetsBelow reg.choices sch (variables reg.choices sch) sets.now →
+        result ≡ refusal (checks_at (certificate_part reg sch) bytes.now p at) }
 {
     let command = bytes[at];
     let previous = seen.previous;

@@ -1,15 +1,15 @@
 // The sizes of the commands, and the multiplier command or the square at a position.
 ghost use Rattle.std.specs.Prelude.{◌≡◌, ◌+◌, ◌≤◌, length, get_or, replicate};
-ghost use Rattle.wire.specs.Part.{operandsAt};
-ghost use Rattle.certificate.specs.Format.{commandSize};
-ghost use Rattle.certificate.specs.Answer.{IsMultiplier, named_of, filledOf, multiplierAt, squareRead};
+ghost use Rattle.wire.specs.Part.{operands_at};
+ghost use Rattle.certificate.specs.Format.{command_size};
+ghost use Rattle.certificate.specs.Answer.{IsMultiplier, named_of, filled_of, multiplier_at, square_read};
 
 use super::{Multiplier, Square};
 
 // The bytes of a command: its byte, then a scale u32 and a target i64; or the numbers that it names, u8 each, and m i64; or a weight u32 and entries
 // i16 each; or nothing. 1 where the byte is no command.
 pub fn command_size(command: u8) -> usize
-    ensures { result ≡ commandSize command }
+    ensures { result ≡ command_size command }
 {
     match command {
         0x30 => 13,
@@ -27,7 +27,7 @@ pub fn command_size(command: u8) -> usize
 // The number that the multiplier command at a position names at a place, 0 where it names fewer.
 fn name_at(bytes: &[u8], at: usize, count: usize, place: usize) -> u8
     requires { at + 1 + count ≤ length bytes.now }
-    ensures { result ≡ get_or (operandsAt (replicate count 1) bytes.now (at + 1)) place 0 }
+    ensures { result ≡ get_or (operands_at (replicate count 1) bytes.now (at + 1)) place 0 }
 {
     if place < count {
         wire::u8_at(bytes, at + 1 + place)
@@ -39,8 +39,8 @@ fn name_at(bytes: &[u8], at: usize, count: usize, place: usize) -> u8
 // The multiplier command at a position.
 pub fn multiplier_at(bytes: &[u8], at: usize) -> Multiplier
     requires kind { IsMultiplier (get_or bytes.now at 0) }
-    requires at_in_bounds { at + commandSize (get_or bytes.now at 0) ≤ length bytes.now }
-    ensures { result ≡ named_of (multiplierAt bytes.now at) }
+    requires at_in_bounds { at + command_size (get_or bytes.now at 0) ≤ length bytes.now }
+    ensures { result ≡ named_of (multiplier_at bytes.now at) }
 {
     let kind = bytes[at];
     // The numbers named stand between the command's byte and the 8 bytes of m.
@@ -57,8 +57,8 @@ pub fn multiplier_at(bytes: &[u8], at: usize) -> Multiplier
 
 // The square at a position.
 pub fn square_at(bytes: &[u8], at: usize) -> Square
-    requires { at + commandSize 0x3A ≤ length bytes.now }
-    ensures { result ≡ filledOf (squareRead bytes.now at) }
+    requires { at + command_size 0x3A ≤ length bytes.now }
+    ensures { result ≡ filled_of (square_read bytes.now at) }
 {
     let mut square = Square::fresh();
     square.weight = wire::u32_at(bytes, at + 1);

@@ -13,9 +13,9 @@ ghost use Rattle.register.specs.Valid.{Valid as RegisterValid};
 ghost use Rattle.scheme.specs.Valid.{Valid as SchemeValid};
 ghost use Rattle.scheme.specs.Sets.{SetsBelow};
 ghost use Rattle.scheme.specs.Scheme.{variables};
-ghost use Rattle.certificate.specs.Limits.{maxMultiplier, maxRowMultiplier};
-ghost use Rattle.certificate.specs.Format.{commandsInJob};
-ghost use Rattle.certificate.specs.Answer.{freshCounts, freshSquare, refusedRead, commandsRead};
+ghost use Rattle.certificate.specs.Limits.{max_multiplier, max_row_multiplier};
+ghost use Rattle.certificate.specs.Format.{commands_in_job};
+ghost use Rattle.certificate.specs.Answer.{fresh_counts, fresh_square, refused_read, commands_read};
 
 use checks::refusal_at;
 pub use layout::{command_size, multiplier_at, square_at};
@@ -91,7 +91,7 @@ impl Certificate {
     pub const MAX_SQUARES: usize = 64;
 
     pub fn fresh() -> Certificate
-        ensures { result ≡ freshCounts }
+        ensures { result ≡ fresh_counts }
     {
         Certificate {
             scale: 0,
@@ -120,7 +120,7 @@ impl Square {
     pub const MAX_ENTRY: u64 = 10_000;
 
     pub fn fresh() -> Square
-        ensures { result ≡ freshSquare }
+        ensures { result ≡ fresh_square }
     {
         Square {
             weight: 0,
@@ -131,7 +131,7 @@ impl Square {
 
 impl Rule {
     fn null_form(there: bool, ordered: bool, fits: bool) -> Rule
-        ensures { result ≡ record { least = neg_ℤ (pos maxMultiplier); most = pos maxMultiplier; there = there; ordered = ordered; fits = fits } }
+        ensures { result ≡ record { least = neg_ℤ (pos max_multiplier); most = pos max_multiplier; there = there; ordered = ordered; fits = fits } }
     {
         Rule {
             least: -Multiplier::MAX_MAGNITUDE,
@@ -143,7 +143,7 @@ impl Rule {
     }
 
     fn row_form(there: bool) -> Rule
-        ensures { result ≡ record { least = neg_ℤ (pos maxRowMultiplier); most = pos maxRowMultiplier; there = there; ordered = true; fits = true } }
+        ensures { result ≡ record { least = neg_ℤ (pos max_row_multiplier); most = pos max_row_multiplier; there = there; ordered = true; fits = true } }
     {
         Rule {
             least: -Multiplier::MAX_ROW_MAGNITUDE,
@@ -155,7 +155,7 @@ impl Rule {
     }
 
     fn subtracted(there: bool) -> Rule
-        ensures { result ≡ record { least = pos 0; most = pos maxMultiplier; there = there; ordered = true; fits = true } }
+        ensures { result ≡ record { least = pos 0; most = pos max_multiplier; there = there; ordered = true; fits = true } }
     {
         Rule {
             least: 0,
@@ -169,7 +169,7 @@ impl Rule {
 
 impl CertificateRead {
     fn refused(number: u8, position: usize) -> CertificateRead
-        ensures { result ≡ refusedRead number position }
+        ensures { result ≡ refused_read number position }
     {
         let certificate = Certificate::fresh();
         CertificateRead {
@@ -185,7 +185,7 @@ fn read_with_sets(bytes: &[u8], sets: &[u32], register: Register, scheme: Scheme
     requires register_valid { RegisterValid register }
     requires scheme_valid { SchemeValid register scheme }
     requires sets_below { SetsBelow register.choices scheme (variables register.choices scheme) sets.now }
-    ensures { result ≡ commandsRead (commandsInJob register scheme bytes.now) }
+    ensures { result ≡ commands_read (commands_in_job register scheme bytes.now) }
 {
     let mut certificate = Certificate::fresh();
     let mut previous: u8 = 0;
@@ -238,7 +238,7 @@ fn read_with_sets(bytes: &[u8], sets: &[u32], register: Register, scheme: Scheme
 pub fn read_commands(bytes: &[u8], register: Register, scheme: Scheme) -> CertificateRead
     requires register_valid { RegisterValid register }
     requires scheme_valid { SchemeValid register scheme }
-    ensures { result ≡ commandsRead (commandsInJob register scheme bytes.now) }
+    ensures { result ≡ commands_read (commands_in_job register scheme bytes.now) }
 {
     let sets = scheme::sets_of(register.choices, scheme);
     read_with_sets(bytes, &sets, register, scheme)

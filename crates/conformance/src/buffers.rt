@@ -1,13 +1,13 @@
 // BUFFER: all bytes of a lent buffer after a call.
 ghost use Rattle.std.specs.Prelude.{◌≡◌, ◌≤◌, length, take};
-ghost use Rattle.listing.specs.Answer.{listingRoom};
+ghost use Rattle.listing.specs.Answer.{listing_room};
 
 use listing::Listing;
 use vectors::{Cursor, Taken};
 
 // A buffer before a call, at least as long as any that a case lends.
 pub fn lent() -> [u8; Listing::MAX_BYTES]
-    ensures { listingRoom ≡ length result }
+    ensures { listing_room ≡ length result }
 {
     [0xaa; Listing::MAX_BYTES]
 }

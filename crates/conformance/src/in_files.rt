@@ -1,7 +1,7 @@
 // examples.txt, suppliers.txt: JOB OUT; views.txt: JOB SUPPLIER; cheapest.txt: REGISTER OUT. The names of two files: the first holds
 // what a program reads, the second what it prints for it.
 ghost use Rattle.std.specs.Prelude.{◌≤◌, length};
-ghost use Rattle.listing.specs.Answer.{listingRoom};
+ghost use Rattle.listing.specs.Answer.{listing_room};
 
 use console::MAX_VISITS;
 use std::rt::Files;
@@ -17,7 +17,7 @@ pub enum Program {
 
 // What the program prints, at the front of the lent text. Returns its count of bytes.
 fn printed(program: Program, bytes: &[u8], text: &mut [u8]) -> usize
-    requires { listingRoom ≤ length text.old }
+    requires { listing_room ≤ length text.old }
     ensures { result ≤ length text.new }
 {
     match program {

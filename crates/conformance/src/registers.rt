@@ -1,7 +1,7 @@
 // register.txt: name REG | number part position base n m, then n times: tank minute, then m times: mask coefficient,
 // then w, then w times: tank from to, then the day length, then q, then q times: b and 32 entries.
 ghost use Rattle.std.specs.Prelude.{◌<◌};
-ghost use Rattle.register.specs.Limits.{maxRows};
+ghost use Rattle.register.specs.Limits.{max_rows};
 
 use register::Register;
 use vectors::Cursor;
@@ -101,7 +101,7 @@ fn entries(
     entries: &[i8; Register::MAX_ROWS * Register::ROW_ENTRIES],
     k: usize,
 ) -> Cursor
-    requires { k < maxRows }
+    requires { k < max_rows }
 {
     let start = k * Register::ROW_ENTRIES;
     let mut next = from;

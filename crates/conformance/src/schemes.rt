@@ -1,6 +1,6 @@
 // scheme.txt: name REG SCH | number part position n p m, then p times: l r set, then m times: l r.
 ghost use Rattle.std.specs.Prelude.{◌≤◌};
-ghost use Rattle.register.specs.Limits.{maxChoices};
+ghost use Rattle.register.specs.Limits.{max_choices};
 
 use register::Register;
 use scheme::Scheme;
@@ -8,7 +8,7 @@ use vectors::Cursor;
 
 // The number of choices, 0 where the scheme is refused.
 fn choices(register: &[u8], refusal: u8) -> usize
-    ensures { result ≤ maxChoices }
+    ensures { result ≤ max_choices }
 {
     if refusal != 0 {
         return 0;
@@ -31,7 +31,7 @@ fn set_of(sets: &[u32; Scheme::MAX_VARIABLES], v: u8) -> u32 {
 
 // The sets of n choices.
 fn choice_sets(n: usize) -> [u32; Scheme::MAX_VARIABLES]
-    requires { n ≤ maxChoices }
+    requires { n ≤ max_choices }
 {
     let mut sets = [0; Scheme::MAX_VARIABLES];
     for i in 0..n {
@@ -63,7 +63,7 @@ fn split(next: Cursor, line: &[u8], is_counted: bool, l: u8, r: u8) -> Cursor {
 
 // The products, with their sets by what was answered.
 fn products(from: Cursor, line: &[u8], n: usize, scheme: Scheme) -> Cursor
-    requires { n ≤ maxChoices }
+    requires { n ≤ max_choices }
 {
     let mut sets = choice_sets(n);
     let mut next = from;

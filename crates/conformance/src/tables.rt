@@ -3,7 +3,7 @@
 // all N x x x ..: the first (N + 1)² numbers, and every number past them is as before;
 // sums N CHECK y y y ..: a number made of all the table's bytes, and the sums of its N + 1 rows.
 ghost use Rattle.std.specs.Prelude.{◌≡◌, ◌+◌, ◌≤◌, length, take};
-ghost use Rattle.scheme.specs.Scheme.{maxVariables};
+ghost use Rattle.scheme.specs.Scheme.{max_variables};
 
 use scheme::Scheme;
 use vectors::{Cursor, Taken};
@@ -99,7 +99,7 @@ fn row(next: Cursor, line: &[u8], table: &[i64], start: usize, end: usize) -> Cu
 
 // The sums of the rows of a table that has so many rows and columns.
 fn rows(from: Cursor, line: &[u8], table: &[i64], side: usize) -> Cursor
-    requires { side ≤ maxVariables + 1 }
+    requires { side ≤ max_variables + 1 }
 {
     let mut next = from;
     let mut start = 0;
@@ -112,7 +112,7 @@ fn rows(from: Cursor, line: &[u8], table: &[i64], side: usize) -> Cursor
 }
 
 fn square(side: usize) -> usize
-    requires { side ≤ maxVariables + 1 }
+    requires { side ≤ max_variables + 1 }
 {
     side * side
 }

@@ -5,12 +5,12 @@
 
 ghost use Rattle.std.specs.Prelude.{◌≡◌, ◌++◌, ◌^◌, ◌≤◌, ◌<◌, IfOk, length, drop};
 ghost use Rattle.wire.specs.Number.{written};
-ghost use Rattle.register.specs.Limits.{maxChoices};
+ghost use Rattle.register.specs.Limits.{max_choices};
 ghost use Rattle.job.specs.Outcome.{outcome};
-ghost use Rattle.listing.specs.Listing.{listing, supplierListing};
-ghost use Rattle.listing.specs.Answer.{listingRoom};
-ghost use Rattle.console.specs.Feedcheck.{tallyAfter};
-ghost use Rattle.console.specs.Cheapest.{searchLines, cheapestLines, cheapestRoom};
+ghost use Rattle.listing.specs.Listing.{listing, supplier_listing};
+ghost use Rattle.listing.specs.Answer.{listing_room};
+ghost use Rattle.console.specs.Feedcheck.{tally_after};
+ghost use Rattle.console.specs.Cheapest.{search_lines, cheapest_lines, cheapest_room};
 
 use forms::WorkingTable;
 use job::{Tally, feedcheck_job};
@@ -35,9 +35,9 @@ pub struct Checked {
 
 // Counts a job in a fresh tally, and writes its lines at the front of the lent text.
 pub fn lines_of(job: &[u8], text: &mut [u8]) -> Checked
-    requires { listingRoom ≤ length text.old }
+    requires { listing_room ≤ length text.old }
     ensures value { result.count ≡ length (listing (outcome job.now)) }
-    ensures tally_after { result.tally ≡ tallyAfter job.now }
+    ensures tally_after { result.tally ≡ tally_after job.now }
     ensures text_after { text.new ≡ listing (outcome job.now) ++ drop result.count text.old }
     ensures within { result.count ≤ length text.new }
 {
@@ -52,9 +52,9 @@ pub fn lines_of(job: &[u8], text: &mut [u8]) -> Checked
 
 // Writes the lines of a job that its supplier may read at the front of the lent text. Returns their count of bytes.
 pub fn supplier_lines(job: &[u8], text: &mut [u8]) -> usize
-    requires { listingRoom ≤ length text.old }
-    ensures value { result ≡ length (supplierListing (outcome job.now)) }
-    ensures text_after { text.new ≡ supplierListing (outcome job.now) ++ drop result text.old }
+    requires { listing_room ≤ length text.old }
+    ensures value { result ≡ length (supplier_listing (outcome job.now)) }
+    ensures text_after { text.new ≡ supplier_listing (outcome job.now) ++ drop result text.old }
     ensures within { result ≤ length text.new }
 {
     let mut table = [0i64; WorkingTable::NUMBERS];
@@ -82,7 +82,7 @@ fn read_full<R: Read>(input: &mut R, buffer: &mut [u8]) -> io::Result<usize>
     Ok(done)
 }
 
-// Reads a job and prints its lines. What a job leads to stands in fewer bytes (`reach-is` in job/proofs/Prefix) than are read, so
+// Reads a job and prints its lines. What a job leads to stands in fewer bytes (`reach_is` in job/proofs/Prefix) than are read, so
 // what stands past these makes no difference.
 pub fn print_listing(rt: &(impl Input + Print)) -> io::Result<()> {
     let mut input = rt.reader();
@@ -105,11 +105,11 @@ pub fn print_supplier_listing(rt: &(impl Input + Print)) -> io::Result<()> {
 
 // Writes the lines of what the search call answered for a register at the front. Returns their count of bytes.
 fn put_search(register: Register, answer: SearchAnswer, out: &mut [u8]) -> usize
-    requires choices_le_max_choices { register.choices ≤ maxChoices }
+    requires choices_le_max_choices { register.choices ≤ max_choices }
     requires position_bound { answer.position < 2 ^ 63 }
-    requires answer_in_bounds { length (searchLines register answer) ≤ length out.old }
-    ensures value { result ≡ length (searchLines register answer) }
-    ensures out_after { out.new ≡ written out.old 0 (searchLines register answer) }
+    requires answer_in_bounds { length (search_lines register answer) ≤ length out.old }
+    ensures value { result ≡ length (search_lines register answer) }
+    ensures out_after { out.new ≡ written out.old 0 (search_lines register answer) }
 {
     let number = answer.number;
     if number != 0 {
@@ -122,9 +122,9 @@ fn put_search(register: Register, answer: SearchAnswer, out: &mut [u8]) -> usize
 
 // The lines of a register's cheapest plan, at the front of the lent text. Returns their count of bytes.
 pub fn cheapest_lines(register: &[u8], limit: u32, text: &mut [u8]) -> usize
-    requires { cheapestRoom ≤ length text.old }
-    ensures value { result ≡ length (cheapestLines register.now limit) }
-    ensures text_after { text.new ≡ cheapestLines register.now limit ++ drop result text.old }
+    requires { cheapest_room ≤ length text.old }
+    ensures value { result ≡ length (cheapest_lines register.now limit) }
+    ensures text_after { text.new ≡ cheapest_lines register.now limit ++ drop result text.old }
     ensures within { result ≤ length text.new }
 {
     let answer = feedcheck_search(register, limit);
@@ -132,8 +132,8 @@ pub fn cheapest_lines(register: &[u8], limit: u32, text: &mut [u8]) -> usize
     put_search(read.register, answer, text)
 }
 
-// Reads a register and prints the lines of its cheapest plan. What a register leads to stands in fewer bytes (`lines-prefix` and
-// `reach-is` in proofs/Prefix) than are read, so what stands past these makes no difference.
+// Reads a register and prints the lines of its cheapest plan. What a register leads to stands in fewer bytes (`lines_prefix` and
+// `reach_is` in proofs/Prefix) than are read, so what stands past these makes no difference.
 pub fn print_cheapest(rt: &(impl Input + Print), limit: u32) -> io::Result<()> {
     let mut input = rt.reader();
     let mut register = [0u8; INPUT];

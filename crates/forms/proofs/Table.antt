@@ -12,12 +12,12 @@ use lib.Seq.{get_or-append-add, get_or-drop, ext_get_or}
 use lib.IntN.{ℤ, pos, negsuc, neg_ℤ, ◌*ℤ◌}
 use lib.Signed.{quot_z}
 use Rattle.integers.specs.Quadratic.{quadratic}
-use Rattle.integers.proofs.Join.{join-cong, length-join, getD-join}
-use Rattle.integers.proofs.Sum.{sumBelow-cong, sumBelow-rows}
-use Rattle.integers.proofs.Quadratic.{quadratic-cong}
+use Rattle.integers.proofs.Join.{join_cong, length_join, get_d_join}
+use Rattle.integers.proofs.Sum.{sum_below_cong, sum_below-rows}
+use Rattle.integers.proofs.Quadratic.{quadratic_cong}
 use Rattle.forms.specs.Form.{Form, value, entry}
-use Rattle.forms.specs.Table.{row, rows, withTable, tableSum, tableValue}
-use Rattle.forms.proofs.Form.{Below, form-law}
+use Rattle.forms.specs.Table.{row, rows, with_table, table_sum, table_value}
+use Rattle.forms.proofs.Form.{Below, form_law}
 
 -- ---- the table at the front of a run
 
@@ -29,80 +29,80 @@ by_place n P h k l = rw (div-add-mod' k n) at (h (k / n) (k % n) ((div-lt_iff_lt
     some zero l = absurd (omega arith)
     some (suc n) l = omega arith
 
-pub length-row : (n : ℕ) (f : ℕ → ℤ) → length (row n f) ≡ n
-length-row n f = length-join n 1 (λ j. f j ∷ []) (λ j. refl) ∙ mul-one n
+pub length_row : (n : ℕ) (f : ℕ → ℤ) → length (row n f) ≡ n
+length_row n f = length_join n 1 (λ j. f j ∷ []) (λ j. refl) ∙ mul-one n
 
 pub row_at : (n : ℕ) (f : ℕ → ℤ) (j : ℕ) → j < n → get_or (row n f) j (pos 0) ≡ f j
-row_at n f j l = rw (mul-one, add-zero) at (getD-join n 1 (λ j. f j ∷ []) (λ j. refl) j 0 (pos 0) l (omega arith))
+row_at n f j l = rw (mul-one, add-zero) at (get_d_join n 1 (λ j. f j ∷ []) (λ j. refl) j 0 (pos 0) l (omega arith))
 
 module _ (n : ℕ) (a : ℕ → ℕ → ℤ) where
   pub length-rows : length (rows n a) ≡ n * n
   unfolding rows
-  length-rows = length-join n n (λ i. row n (a i)) (λ i. length-row n (a i))
+  length-rows = length_join n n (λ i. row n (a i)) (λ i. length_row n (a i))
 
   pub rows_at : (i j : ℕ) → i < n → j < n → get_or (rows n a) (i * n + j) (pos 0) ≡ a i j
   unfolding rows
-  rows_at i j l k = getD-join n n (λ i. row n (a i)) (λ i. length-row n (a i)) i j (pos 0) l k ∙ row_at n (a i) j k
+  rows_at i j l k = get_d_join n n (λ i. row n (a i)) (λ i. length_row n (a i)) i j (pos 0) l k ∙ row_at n (a i) j k
 
-  pub withTable-at : (lent : List ℤ) (i j : ℕ) → i < n → j < n → get_or (withTable n a lent) (i * n + j) (pos 0) ≡ a i j
-  unfolding withTable
-  withTable-at lent i j l k =
+  pub with_table_at : (lent : List ℤ) (i j : ℕ) → i < n → j < n → get_or (with_table n a lent) (i * n + j) (pos 0) ≡ a i j
+  unfolding with_table
+  with_table_at lent i j l k =
       get_or-append (rows n a) _ (pos 0) (i * n + j) (rw length-rows (digits_lt l k)) ∙ rows_at i j l k
 
-  pub withTable-past : (lent : List ℤ) (k : ℕ) → n * n ≤ k → get_or (withTable n a lent) k (pos 0) ≡ get_or lent k (pos 0)
-  unfolding withTable
-  withTable-past lent k l = past (n * n) (rows n a) length-rows l
+  pub with_table_past : (lent : List ℤ) (k : ℕ) → n * n ≤ k → get_or (with_table n a lent) k (pos 0) ≡ get_or lent k (pos 0)
+  unfolding with_table
+  with_table_past lent k l = past (n * n) (rows n a) length-rows l
     where
       past : (m : ℕ) (r : List ℤ) → length r ≡ m → m ≤ k → get_or (r ++ drop m lent) k (pos 0) ≡ get_or lent k (pos 0)
       past m r e l =
           let s : k ≡ length r + (k - m) = omega arith in
           rw s (get_or-append-add r (drop m lent) (k - m) (pos 0) ∙ get_or-drop m lent (k - m) (pos 0) ∙ ap (λ x. get_or lent (x + (k - m)) (pos 0)) (sym e))
 
-  pub withTable-length : (lent : List ℤ) → n * n ≤ length lent → length (withTable n a lent) ≡ length lent
-  unfolding withTable
-  withTable-length lent l = simp (length-append, length-drop, length-rows) (omega arith)
+  pub with_table-length : (lent : List ℤ) → n * n ≤ length lent → length (with_table n a lent) ≡ length lent
+  unfolding with_table
+  with_table-length lent l = simp (length-append, length-drop, length-rows) (omega arith)
 
-pub rows-cong : (n : ℕ) (a b : ℕ → ℕ → ℤ) → ((i j : ℕ) → i < n → j < n → a i j ≡ b i j) → rows n a ≡ rows n b
+pub rows_cong : (n : ℕ) (a b : ℕ → ℕ → ℤ) → ((i j : ℕ) → i < n → j < n → a i j ≡ b i j) → rows n a ≡ rows n b
 unfolding rows
-rows-cong n a b h = join-cong n _ _ (λ i l. join-cong n _ _ (λ j k. ap (λ x. x ∷ []) (h i j l k)))
+rows_cong n a b h = join_cong n _ _ (λ i l. join_cong n _ _ (λ j k. ap (λ x. x ∷ []) (h i j l k)))
 
-pub withTable-cong : (n : ℕ) (a b : ℕ → ℕ → ℤ) (lent : List ℤ) → ((i j : ℕ) → i < n → j < n → a i j ≡ b i j) → withTable n a lent ≡ withTable n b lent
-unfolding withTable
-withTable-cong n a b lent h = ap (λ r. r ++ drop (n * n) lent) (rows-cong n a b h)
+pub with_table_cong : (n : ℕ) (a b : ℕ → ℕ → ℤ) (lent : List ℤ) → ((i j : ℕ) → i < n → j < n → a i j ≡ b i j) → with_table n a lent ≡ with_table n b lent
+unfolding with_table
+with_table_cong n a b lent h = ap (λ r. r ++ drop (n * n) lent) (rows_cong n a b h)
 
 -- a run as long as the lent one, with the table's numbers at its front and the lent ones past it
-pub is-withTable : (n : ℕ) (a : ℕ → ℕ → ℤ) (lent t : List ℤ) → length t ≡ length lent → n * n ≤ length lent →
+pub is_with_table : (n : ℕ) (a : ℕ → ℕ → ℤ) (lent t : List ℤ) → length t ≡ length lent → n * n ≤ length lent →
     ((i j : ℕ) → i < n → j < n → get_or t (i * n + j) (pos 0) ≡ a i j) →
     ((k : ℕ) → n * n ≤ k → get_or t k (pos 0) ≡ get_or lent k (pos 0)) →
-    t ≡ withTable n a lent
-is-withTable n a lent t e l front past =
-    ext_get_or (pos 0) t (withTable n a lent) (e ∙ sym (withTable-length n a lent l)) (λ k h. go k (dec_lt k (n * n)))
+    t ≡ with_table n a lent
+is_with_table n a lent t e l front past =
+    ext_get_or (pos 0) t (with_table n a lent) (e ∙ sym (with_table-length n a lent l)) (λ k h. go k (dec_lt k (n * n)))
   where
-    go : (k : ℕ) → Dec (k < n * n) → get_or t k (pos 0) ≡ get_or (withTable n a lent) k (pos 0)
-    go k (yes h) = by_place n (λ k. get_or t k (pos 0) ≡ get_or (withTable n a lent) k (pos 0)) (λ i j u v. front i j u v ∙ sym (withTable-at n a lent i j u v)) k h
-    go k (no h) = past k (omega arith) ∙ sym (withTable-past n a lent k (omega arith))
+    go : (k : ℕ) → Dec (k < n * n) → get_or t k (pos 0) ≡ get_or (with_table n a lent) k (pos 0)
+    go k (yes h) = by_place n (λ k. get_or t k (pos 0) ≡ get_or (with_table n a lent) k (pos 0)) (λ i j u v. front i j u v ∙ sym (with_table_at n a lent i j u v)) k h
+    go k (no h) = past k (omega arith) ∙ sym (with_table_past n a lent k (omega arith))
 
 -- ---- the value read from a table
 
-pub tableSum-quadratic : (n : ℕ) (t : List ℤ) (y : ℕ → ℤ) → tableSum n t y ≡ quadratic n (λ i j. get_or t (i * n + j) (pos 0)) y
-unfolding tableSum quadratic
-tableSum-quadratic n t y = sumBelow-rows n n _ ∙ sumBelow-cong n _ _ (λ i l. sumBelow-cong n _ _ (λ j k. at_place i j k))
+pub table_sum-quadratic : (n : ℕ) (t : List ℤ) (y : ℕ → ℤ) → table_sum n t y ≡ quadratic n (λ i j. get_or t (i * n + j) (pos 0)) y
+unfolding table_sum quadratic
+table_sum-quadratic n t y = sum_below-rows n n _ ∙ sum_below_cong n _ _ (λ i l. sum_below_cong n _ _ (λ j k. at_place i j k))
   where
     at_place : (i j : ℕ) → j < n → get_or t (i * n + j) (pos 0) *ℤ y ((i * n + j) / n) *ℤ y ((i * n + j) % n) ≡ get_or t (i * n + j) (pos 0) *ℤ y i *ℤ y j
     at_place i j k = rw (digits_div i k, digits_mod i k)
 
-pub tableSum-withTable : (n : ℕ) (a : ℕ → ℕ → ℤ) (lent : List ℤ) (y : ℕ → ℤ) → tableSum n (withTable n a lent) y ≡ quadratic n a y
-tableSum-withTable n a lent y =
-    tableSum-quadratic n (withTable n a lent) y ∙ quadratic-cong n _ a y (λ i j l k. withTable-at n a lent i j l k)
+pub table_sum-with_table : (n : ℕ) (a : ℕ → ℕ → ℤ) (lent : List ℤ) (y : ℕ → ℤ) → table_sum n (with_table n a lent) y ≡ quadratic n a y
+table_sum-with_table n a lent y =
+    table_sum-quadratic n (with_table n a lent) y ∙ quadratic_cong n _ a y (λ i j l k. with_table_at n a lent i j l k)
 
 -- a form's table: the sum is exactly twice the form's value, and the value read is the form's
 module _ {n : ℕ} {f : Form} (h : Below n f) (lent : List ℤ) (y : ℕ → ℤ) where
-  pub tableSum-form : tableSum n (withTable n (entry f) lent) y ≡ pos 2 *ℤ value y f
-  tableSum-form = tableSum-withTable n (entry f) lent y ∙ form-law h y
+  pub table_sum_form : table_sum n (with_table n (entry f) lent) y ≡ pos 2 *ℤ value y f
+  table_sum_form = table_sum-with_table n (entry f) lent y ∙ form_law h y
 
-  pub tableValue-form : tableValue n (withTable n (entry f) lent) y ≡ value y f
-  unfolding tableValue
-  tableValue-form = ap (λ s. quot_z s (pos 2)) tableSum-form ∙ half (value y f)
+  pub table_value_form : table_value n (with_table n (entry f) lent) y ≡ value y f
+  unfolding table_value
+  table_value_form = ap (λ s. quot_z s (pos 2)) table_sum_form ∙ half (value y f)
     where
       half : (v : ℤ) → quot_z (pos 2 *ℤ v) (pos 2) ≡ v
       half (pos v) = let e : 2 * v / 2 ≡ v = omega arith in ap pos e

@@ -1,6 +1,6 @@
 -- Quadratic forms as lists of monomials. Place 0 is the constant, place i + 1 is variable i.
 use Rattle.std.specs.Prelude.{ℕ, zero, suc, cond, ◌&&◌, ◌||◌, List, map, eqb, ℤ, pos, ◌+ℤ◌, ◌*ℤ◌}
-use Rattle.integers.specs.Sum.{sumOver}
+use Rattle.integers.specs.Sum.{sum_over}
 
 -- c times the factor of place p times the factor of place q
 pub record Monomial : Type 0 where
@@ -29,12 +29,12 @@ times k = map (λ m. mono m.p m.q (k *ℤ m.c))
 
 -- the value of a form where y gives the factor of each place
 unfoldable pub value : (ℕ → ℤ) → Form → ℤ
-value y f = sumOver f (λ m. m.c *ℤ y m.p *ℤ y m.q)
+value y f = sum_over f (λ m. m.c *ℤ y m.p *ℤ y m.q)
 
 -- the coefficient of the product of places p and q, in either order: of 0 and 0 the constant, of 0 and another place its
 -- linear coefficient, of a place and itself that of its square
-unfoldable pub coefficientOf : Form → ℕ → ℕ → ℤ
-coefficientOf f p q = sumOver f (λ m. cond (eqb p m.p && eqb q m.q || eqb p m.q && eqb q m.p) m.c (pos 0))
+unfoldable pub coefficient_of : Form → ℕ → ℕ → ℤ
+coefficient_of f p q = sum_over f (λ m. cond (eqb p m.p && eqb q m.q || eqb p m.q && eqb q m.p) m.c (pos 0))
 
 -- c at (p, q), 0 elsewhere
 abbrev pub single : ℕ → ℕ → ℤ → ℕ → ℕ → ℤ
@@ -43,4 +43,4 @@ single p q c i j = cond (eqb i p && eqb j q) c (pos 0)
 -- the table of a form: a monomial adds c at (p, q) and c at (q, p). So a diagonal entry is twice the coefficient of 1 or of a
 -- square, and any other entry is the coefficient itself, on both sides of the diagonal
 unfoldable pub entry : Form → ℕ → ℕ → ℤ
-entry f i j = sumOver f (λ m. single m.p m.q m.c i j +ℤ single m.q m.p m.c i j)
+entry f i j = sum_over f (λ m. single m.p m.q m.c i j +ℤ single m.q m.p m.c i j)

@@ -3,16 +3,16 @@ use Rattle.std.specs.Prelude.{ℕ, ◌+◌, ◌*◌, ◌≤◌, ◌<◌, List, [
 use Rattle.forms.specs.Form.{Form, Monomial}
 
 -- c added to the number at k
-abbrev pub addAt : ℕ → ℤ → List ℤ → List ℤ
-addAt k c t = set t k (get_or t k (pos 0) +ℤ c)
+abbrev pub add_at : ℕ → ℤ → List ℤ → List ℤ
+add_at k c t = set t k (get_or t k (pos 0) +ℤ c)
 
 -- c added at (p, q) and at (q, p) of a table of side n
-abbrev pub addMonomial : ℕ → Monomial → List ℤ → List ℤ
-addMonomial n m t = addAt (m.q * n + m.p) m.c (addAt (m.p * n + m.q) m.c t)
+abbrev pub add_monomial : ℕ → Monomial → List ℤ → List ℤ
+add_monomial n m t = add_at (m.q * n + m.p) m.c (add_at (m.p * n + m.q) m.c t)
 
-unfoldable pub addForm : ℕ → Form → List ℤ → List ℤ
-addForm n [] t = t
-addForm n (m ∷ f) t = addForm n f (addMonomial n m t)
+unfoldable pub add_form : ℕ → Form → List ℤ → List ℤ
+add_form n [] t = t
+add_form n (m ∷ f) t = add_form n f (add_monomial n m t)
 
 -- the first k numbers made 0
 abbrev pub cleared : ℕ → List ℤ → List ℤ
@@ -26,21 +26,21 @@ pub record Bounded (n b : ℕ) (t : List ℤ) : Type 0 where
 -- ---- how large a table's numbers may be before something is added, so that all sums are within 64 bits
 
 -- what is added to a number at once is at most this
-abbrev pub maxAdded : ℕ
-maxAdded = 1_000_000_000_000_000_000
+abbrev pub max_added : ℕ
+max_added = 1_000_000_000_000_000_000
 
 -- before one number is added
-abbrev pub maxBeforeNumber : ℕ
-maxBeforeNumber = 5 * maxAdded
+abbrev pub max_before_number : ℕ
+max_before_number = 5 * max_added
 
 -- before a monomial, which may add to a number twice
-abbrev pub maxBeforeMonomial : ℕ
-maxBeforeMonomial = 4 * maxAdded
+abbrev pub max_before_monomial : ℕ
+max_before_monomial = 4 * max_added
 
--- before a form that adds at most maxAdded to a number
-abbrev pub maxBeforeForm : ℕ
-maxBeforeForm = 3 * maxAdded
+-- before a form that adds at most max_added to a number
+abbrev pub max_before_form : ℕ
+max_before_form = 3 * max_added
 
 -- before two such forms
-abbrev pub maxBeforeForms : ℕ
-maxBeforeForms = 2 * maxAdded
+abbrev pub max_before_forms : ℕ
+max_before_forms = 2 * max_added

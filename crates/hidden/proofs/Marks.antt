@@ -11,42 +11,42 @@ use lib.Seq.{get_or-append-add, drop_at}
 use Rattle.std.proofs.lemmas.List.{replicate-append-replicate}
 use borrow.Author.Tests.{ne_eqb}
 use Rattle.integers.proofs.Lists.{flag}
-use Rattle.integers.proofs.Entries.{replicate-rest}
+use Rattle.integers.proofs.Entries.{replicate_rest}
 use Rattle.wire.specs.Part.{total, size}
 use Rattle.wire.specs.Rows.{Progress, row_of}
-use Rattle.wire.specs.Encoding.{Command, encodeCommand, encode, Accepts}
+use Rattle.wire.specs.Encoding.{Command, encode_command, encode, Accepts}
 use Rattle.wire.proofs.Walk.{Sized}
-use Rattle.wire.proofs.Encoding.{length-command}
-use Rattle.certificate.specs.Rules.{byKey}
+use Rattle.wire.proofs.Encoding.{length_command}
+use Rattle.certificate.specs.Rules.{by_key}
 use Rattle.register.specs.declared.Register.{Register}
-use Rattle.register.specs.Format.{registerPart}
-use Rattle.hidden.specs.Hidden.{hides, operandMarks, commandMarks, marksFrom, InOperand}
+use Rattle.register.specs.Format.{register_part}
+use Rattle.hidden.specs.Hidden.{hides, operand_marks, command_marks, marks_from, InOperand}
 use Rattle.hidden.proofs.Commands.{marks}
 
-abbrev pub marksOf : List Command → List Bool
-marksOf = marks registerPart hides
+abbrev pub marks_of : List Command → List Bool
+marks_of = marks register_part hides
 
 -- ---- the walk
 
 module _ (rest : List ℕ) where
-  pub walk-marks : (cs : List Command) (read end : Progress Register) (k : ℕ) → Accepts registerPart read cs end → length (encode registerPart cs ++ rest) ≤ k →
-      marksFrom k (encode registerPart cs ++ rest) ≡ marksOf cs
-  unfolding marksFrom marks encode encodeCommand flat_map
-  walk-marks [] read end k a l = absurd a
-  walk-marks (c ∷ cs) read end zero a l = absurd (omega arith)
-  walk-marks (c ∷ cs) read end (suc k) a l =
-      let n : length (encodeCommand registerPart c) ≡ size registerPart c.byte = length-command registerPart c a.0.operands in
-      let past : drop (size registerPart c.byte) ((encodeCommand registerPart c ++ encode registerPart cs) ++ rest) ≡ encode registerPart cs ++ rest =
-      ap (drop (size registerPart c.byte)) (append_assoc (encodeCommand registerPart c) (encode registerPart cs) rest) ∙ drop_at (encodeCommand registerPart c) (encode registerPart cs ++ rest) _ n in
-      ap (λ x. commandMarks c.byte ++ x) (after past (walk-marks cs))
+  pub walk_marks : (cs : List Command) (read end : Progress Register) (k : ℕ) → Accepts register_part read cs end → length (encode register_part cs ++ rest) ≤ k →
+      marks_from k (encode register_part cs ++ rest) ≡ marks_of cs
+  unfolding marks_from marks encode encode_command flat_map
+  walk_marks [] read end k a l = absurd a
+  walk_marks (c ∷ cs) read end zero a l = absurd (omega arith)
+  walk_marks (c ∷ cs) read end (suc k) a l =
+      let n : length (encode_command register_part c) ≡ size register_part c.byte = length_command register_part c a.0.operands in
+      let past : drop (size register_part c.byte) ((encode_command register_part c ++ encode register_part cs) ++ rest) ≡ encode register_part cs ++ rest =
+      ap (drop (size register_part c.byte)) (append_assoc (encode_command register_part c) (encode register_part cs) rest) ∙ drop_at (encode_command register_part c) (encode register_part cs ++ rest) _ n in
+      ap (λ x. command_marks c.byte ++ x) (after past (walk_marks cs))
     where
-      after : drop (size registerPart c.byte) ((encodeCommand registerPart c ++ encode registerPart cs) ++ rest) ≡ encode registerPart cs ++ rest →
-          ((read end : Progress Register) (k : ℕ) → Accepts registerPart read cs end → length (encode registerPart cs ++ rest) ≤ k → marksFrom k (encode registerPart cs ++ rest) ≡ marksOf cs) →
-          cond (registerPart.last c.byte) [] (marksFrom k (drop (size registerPart c.byte) ((encodeCommand registerPart c ++ encode registerPart cs) ++ rest))) ≡ marksOf cs
+      after : drop (size register_part c.byte) ((encode_command register_part c ++ encode register_part cs) ++ rest) ≡ encode register_part cs ++ rest →
+          ((read end : Progress Register) (k : ℕ) → Accepts register_part read cs end → length (encode register_part cs ++ rest) ≤ k → marks_from k (encode register_part cs ++ rest) ≡ marks_of cs) →
+          cond (register_part.last c.byte) [] (marks_from k (drop (size register_part c.byte) ((encode_command register_part c ++ encode register_part cs) ++ rest))) ≡ marks_of cs
       after past later =
-          flag (registerPart.last c.byte)
+          flag (register_part.last c.byte)
           (λ t. let (none, _) = rw t at a.1 in rw (t, none))
-          (λ t. rw (t, past) (later _ end k (rw t at a.1) (omega (arith, l, length-append (encodeCommand registerPart c ++ encode registerPart cs) rest, length-append (encodeCommand registerPart c) (encode registerPart cs), length-append (encode registerPart cs) rest))))
+          (λ t. rw (t, past) (later _ end k (rw t at a.1) (omega (arith, l, length-append (encode_command register_part c ++ encode register_part cs) rest, length-append (encode_command register_part c) (encode register_part cs), length-append (encode register_part cs) rest))))
 
 -- ---- the bytes of one command
 
@@ -54,111 +54,111 @@ module _ (rest : List ℕ) where
 abbrev HasHidden : ℕ → Type 0
 HasHidden b = (b ≡ 0x11) ⊎ (b ≡ 0x13)
 
-none-hidden : (ws : List ℕ) → operandMarks ws [] ≡ replicate (total ws) false
-unfolding operandMarks total
-none-hidden [] = refl
-none-hidden (w ∷ ws) = rw (none-hidden ws) (replicate-append-replicate w (total ws) false)
+none_hidden : (ws : List ℕ) → operand_marks ws [] ≡ replicate (total ws) false
+unfolding operand_marks total
+none_hidden [] = refl
+none_hidden (w ∷ ws) = rw (none_hidden ws) (replicate-append-replicate w (total ws) false)
 
 -- all operands of `11` and `13` are hidden, and none of another command
 
 abbrev All : Bool → ℕ → Type 0
-All h b = operandMarks (registerPart.widths b) (hides b) ≡ replicate (total (registerPart.widths b)) h
+All h b = operand_marks (register_part.widths b) (hides b) ≡ replicate (total (register_part.widths b)) h
 
-all-hidden : All true 0x11 × All true 0x13
-unfolding byKey operandMarks total row_of
-all-hidden = (refl, refl)
+all_hidden : All true 0x11 × All true 0x13
+unfolding by_key operand_marks total row_of
+all_hidden = (refl, refl)
 
 no_operands : (b : ℕ) → (b ≡ 0x11 → ⊥) → (b ≡ 0x13 → ⊥) → hides b ≡ []
-unfolding byKey
+unfolding by_key
 no_operands b n m = rw (ne_eqb b 0x11 n, ne_eqb b 0x13 m)
 
-all-or-none : (b : ℕ) → (HasHidden b × All true b) ⊎ ((HasHidden b → ⊥) × All false b)
-all-or-none b = by (ℕ_discrete b 0x11) (ℕ_discrete b 0x13)
+all_or_none : (b : ℕ) → (HasHidden b × All true b) ⊎ ((HasHidden b → ⊥) × All false b)
+all_or_none b = by (ℕ_discrete b 0x11) (ℕ_discrete b 0x13)
   where
     by : Dec (b ≡ 0x11) → Dec (b ≡ 0x13) → (HasHidden b × All true b) ⊎ ((HasHidden b → ⊥) × All false b)
-    by (yes e) d = inl (inl e, rw e all-hidden.0)
-    by (no n) (yes e) = inl (inr e, rw e all-hidden.1)
-    by (no n) (no m) = inr (⊎_elim n m, ap (operandMarks (registerPart.widths b)) (no_operands b n m) ∙ none-hidden (registerPart.widths b))
+    by (yes e) d = inl (inl e, rw e all_hidden.0)
+    by (no n) (yes e) = inl (inr e, rw e all_hidden.1)
+    by (no n) (no m) = inr (⊎_elim n m, ap (operand_marks (register_part.widths b)) (no_operands b n m) ∙ none_hidden (register_part.widths b))
 
-operands-length : (b : ℕ) → length (operandMarks (registerPart.widths b) (hides b)) ≡ total (registerPart.widths b)
-operands-length b =
+operands_length : (b : ℕ) → length (operand_marks (register_part.widths b) (hides b)) ≡ total (register_part.widths b)
+operands_length b =
     ⊎_elim
-    (λ h. ap length h.1 ∙ length-replicate (total (registerPart.widths b)) true)
-    (λ h. ap length h.1 ∙ length-replicate (total (registerPart.widths b)) false)
-    (all-or-none b)
+    (λ h. ap length h.1 ∙ length-replicate (total (register_part.widths b)) true)
+    (λ h. ap length h.1 ∙ length-replicate (total (register_part.widths b)) false)
+    (all_or_none b)
 
 -- ---- those of commands
 
-pub marks-length : (cs : List Command) → Sized registerPart cs → length (marksOf cs) ≡ length (encode registerPart cs)
+pub marks_length : (cs : List Command) → Sized register_part cs → length (marks_of cs) ≡ length (encode register_part cs)
 unfolding marks encode flat_map
-marks-length [] h = refl
-marks-length (c ∷ cs) h =
+marks_length [] h = refl
+marks_length (c ∷ cs) h =
     omega (
       arith,
-      length-append (commandMarks c.byte) (marksOf cs),
-      length-append (encodeCommand registerPart c) (encode registerPart cs),
+      length-append (command_marks c.byte) (marks_of cs),
+      length-append (encode_command register_part c) (encode register_part cs),
       h.0,
-      operands-length c.byte,
-      marks-length cs h.1,
+      operands_length c.byte,
+      marks_length cs h.1,
     )
 
-marks-append : (cs ds : List Command) → marksOf (cs ++ ds) ≡ marksOf cs ++ marksOf ds
+marks_append : (cs ds : List Command) → marks_of (cs ++ ds) ≡ marks_of cs ++ marks_of ds
 unfolding marks flat_map
-marks-append [] ds = refl
-marks-append (c ∷ cs) ds = rw (marks-append cs ds, append_assoc)
+marks_append [] ds = refl
+marks_append (c ∷ cs) ds = rw (marks_append cs ds, append_assoc)
 
 -- byte j of the operands of a command after others
-at-operand : (cs : List Command) (c : Command) (ds : List Command) (j : ℕ) → Sized registerPart cs → j < total (registerPart.widths c.byte) →
-    get_or (marksOf (cs ++ (c ∷ ds))) (length (encode registerPart cs) + suc j) false ≡ get_or (operandMarks (registerPart.widths c.byte) (hides c.byte)) j false
+at_operand : (cs : List Command) (c : Command) (ds : List Command) (j : ℕ) → Sized register_part cs → j < total (register_part.widths c.byte) →
+    get_or (marks_of (cs ++ (c ∷ ds))) (length (encode register_part cs) + suc j) false ≡ get_or (operand_marks (register_part.widths c.byte) (hides c.byte)) j false
 unfolding marks flat_map
-at-operand cs c ds j h l =
-    ap (λ m. get_or m (length (encode registerPart cs) + suc j) false) (marks-append cs (c ∷ ds))
-    ∙ ap (λ n. get_or (marksOf cs ++ marksOf (c ∷ ds)) (n + suc j) false) (sym (marks-length cs h))
-    ∙ get_or-append-add (marksOf cs) (marksOf (c ∷ ds)) (suc j) false
-    ∙ get_or-append (operandMarks (registerPart.widths c.byte) (hides c.byte)) (marksOf ds) false j (omega (arith, operands-length c.byte))
+at_operand cs c ds j h l =
+    ap (λ m. get_or m (length (encode register_part cs) + suc j) false) (marks_append cs (c ∷ ds))
+    ∙ ap (λ n. get_or (marks_of cs ++ marks_of (c ∷ ds)) (n + suc j) false) (sym (marks_length cs h))
+    ∙ get_or-append-add (marks_of cs) (marks_of (c ∷ ds)) (suc j) false
+    ∙ get_or-append (operand_marks (register_part.widths c.byte) (hides c.byte)) (marks_of ds) false j (omega (arith, operands_length c.byte))
 
 -- ---- which bytes these are
 
-pub places-only : (cs : List Command) → Sized registerPart cs → (at : ℕ) → get_or (marksOf cs) at false ≡ true → InOperand cs at
+pub places_only : (cs : List Command) → Sized register_part cs → (at : ℕ) → get_or (marks_of cs) at false ≡ true → InOperand cs at
 unfolding marks encode flat_map
-places-only [] h at e = absurd (false≢true e)
-places-only (c ∷ cs) h zero e = absurd (false≢true e)
-places-only (c ∷ cs) h (suc at) e = by (dec_lt at (total ws)) (places-only cs h.1)
+places_only [] h at e = absurd (false≢true e)
+places_only (c ∷ cs) h zero e = absurd (false≢true e)
+places_only (c ∷ cs) h (suc at) e = by (dec_lt at (total ws)) (places_only cs h.1)
   where
     ws : List ℕ
-    ws = registerPart.widths c.byte
+    ws = register_part.widths c.byte
 
     own : List Bool
-    own = operandMarks ws (hides c.byte)
+    own = operand_marks ws (hides c.byte)
 
-    by : Dec (at < total ws) → ((at : ℕ) → get_or (marksOf cs) at false ≡ true → InOperand cs at) → InOperand (c ∷ cs) (suc at)
+    by : Dec (at < total ws) → ((at : ℕ) → get_or (marks_of cs) at false ≡ true → InOperand cs at) → InOperand (c ∷ cs) (suc at)
     by (yes l) later =
-        let f : get_or own at false ≡ true = sym (get_or-append own (marksOf cs) false at (omega (arith, operands-length c.byte))) ∙ e in
+        let f : get_or own at false ≡ true = sym (get_or-append own (marks_of cs) false at (omega (arith, operands_length c.byte))) ∙ e in
         ⊎_elim
         (λ m. record { front = []; command = c; back = cs; whole = refl; says = m.0; past = omega arith; within = omega arith })
-        (λ n. absurd (false≢true (sym (ap (λ x. get_or x at false) n.1 ∙ replicate-rest (total ws) at false) ∙ f)))
-        (all-or-none c.byte)
+        (λ n. absurd (false≢true (sym (ap (λ x. get_or x at false) n.1 ∙ replicate_rest (total ws) at false) ∙ f)))
+        (all_or_none c.byte)
     by (no n) later =
         let j = at - total ws in
-        let f : get_or (marksOf cs) j false ≡ true =
-        sym (ap (λ n. get_or (own ++ marksOf cs) n false) (omega (arith, operands-length c.byte)) ∙ get_or-append-add own (marksOf cs) j false) ∙ e in
+        let f : get_or (marks_of cs) j false ≡ true =
+        sym (ap (λ n. get_or (own ++ marks_of cs) n false) (omega (arith, operands_length c.byte)) ∙ get_or-append-add own (marks_of cs) j false) ∙ e in
         let o = later j f in
-        let n : length (encode registerPart (c ∷ o.front)) ≡ suc (total ws) + length (encode registerPart o.front) = omega (arith, h.0, length-append (encodeCommand registerPart c) (encode registerPart o.front)) in
+        let n : length (encode register_part (c ∷ o.front)) ≡ suc (total ws) + length (encode register_part o.front) = omega (arith, h.0, length-append (encode_command register_part c) (encode register_part o.front)) in
         record { front = c ∷ o.front; command = o.command; back = o.back; whole = ap (λ ds. c ∷ ds) o.whole; says = o.says; past = omega (arith, n, o.past); within = omega (arith, n, o.within) }
 
-pub places-all : (cs : List Command) → Sized registerPart cs → (at : ℕ) → InOperand cs at → get_or (marksOf cs) at false ≡ true
-places-all cs h at o =
-    let ws = registerPart.widths o.command.byte in
-    let j = at - suc (length (encode registerPart o.front)) in
+pub places_all : (cs : List Command) → Sized register_part cs → (at : ℕ) → InOperand cs at → get_or (marks_of cs) at false ≡ true
+places_all cs h at o =
+    let ws = register_part.widths o.command.byte in
+    let j = at - suc (length (encode register_part o.front)) in
     let l : j < total ws = omega (arith, o.past, o.within) in
-    ap (λ ds. get_or (marksOf ds) at false) o.whole
-    ∙ ap (λ n. get_or (marksOf (o.front ++ (o.command ∷ o.back))) n false) (omega (arith, o.past))
-    ∙ at-operand o.front o.command o.back j (sized-front o.front _ (rw o.whole at h)) l
+    ap (λ ds. get_or (marks_of ds) at false) o.whole
+    ∙ ap (λ n. get_or (marks_of (o.front ++ (o.command ∷ o.back))) n false) (omega (arith, o.past))
+    ∙ at_operand o.front o.command o.back j (sized_front o.front _ (rw o.whole at h)) l
     ∙ ⊎_elim
     (λ m. ap (λ x. get_or x j false) m.1 ∙ get_or-replicate (total ws) j true false l)
     (λ n. absurd (n.0 o.says))
-    (all-or-none o.command.byte)
+    (all_or_none o.command.byte)
   where
-    sized-front : (ds es : List Command) → Sized registerPart (ds ++ es) → Sized registerPart ds
-    sized-front [] es k = tt
-    sized-front (d ∷ ds) es k = (k.0, sized-front ds es k.1)
+    sized_front : (ds es : List Command) → Sized register_part (ds ++ es) → Sized register_part ds
+    sized_front [] es k = tt
+    sized_front (d ∷ ds) es k = (k.0, sized_front ds es k.1)

@@ -12,123 +12,123 @@ use Rattle.integers.specs.Lists.{All}
 use Rattle.integers.proofs.Lists.{◌▹◌}
 use Rattle.wire.specs.Part.{Reading, refused, accepted}
 use Rattle.wire.specs.Rows.{Progress}
-use Rattle.wire.specs.Outcome.{Outcome, refuses, accepts, next, and_then, answerBy, startingAt, addedBy}
+use Rattle.wire.specs.Outcome.{Outcome, refuses, accepts, next, and_then, answer_by, starting_at, added_by}
 use Rattle.register.specs.declared.Register.{Register}
 use Rattle.register.specs.Register.{coefficient}
 use Rattle.scheme.specs.declared.Scheme.{Scheme}
 use Rattle.scheme.specs.Function.{g}
-use Rattle.scheme.specs.Format.{schemeInJob}
+use Rattle.scheme.specs.Format.{scheme_in_job}
 use Rattle.certificate.specs.Certificate.{Certificate}
-use Rattle.certificate.specs.Rules.{ruleOf}
-use Rattle.certificate.specs.Format.{commandsInJob}
-use Rattle.residual.specs.Residual.{nullPart, subtractedPart, nullForms, subtractedForms, reformulated, shifted, R}
+use Rattle.certificate.specs.Rules.{rule_of}
+use Rattle.certificate.specs.Format.{commands_in_job}
+use Rattle.residual.specs.Residual.{null_part, subtracted_part, null_forms, subtracted_forms, reformulated, shifted, R}
 use Rattle.bound.specs.Bound.{carries}
-use Rattle.bound.specs.Format.{dominanceChecked, certificateInJob}
-use Rattle.bound.specs.Check.{withResidual}
-use Rattle.plan.specs.Format.{planInJob}
-use Rattle.job.specs.Outcome.{Parts, withScheme, withCertificate, withPlan, JobPart, partTwo, order, in_turn, ended, tableFromCertificate, tableBy}
+use Rattle.bound.specs.Format.{dominance_checked, certificate_in_job}
+use Rattle.bound.specs.Check.{with_residual}
+use Rattle.plan.specs.Format.{plan_in_job}
+use Rattle.job.specs.Outcome.{Parts, with_scheme, with_certificate, with_plan, JobPart, part_two, order, in_turn, ended, table_from_certificate, table_by}
 use Rattle.hidden.specs.Alike.{blank}
 
-abbrev pub blankParts : Parts → Parts
-blankParts p = record { register = blank p.register; scheme = p.scheme; certificate = p.certificate; plan = p.plan }
+abbrev pub blank_parts : Parts → Parts
+blank_parts p = record { register = blank p.register; scheme = p.scheme; certificate = p.certificate; plan = p.plan }
 
 -- what parts were read, and what they lead to, with the register blank
 
-abbrev blankRead : Reading Parts → Reading Parts
-blankRead (refused number at) = refused number at
-blankRead (accepted p end) = accepted (blankParts p) end
+abbrev blank_read : Reading Parts → Reading Parts
+blank_read (refused number at) = refused number at
+blank_read (accepted p end) = accepted (blank_parts p) end
 
-abbrev blankTurn : Outcome (Parts × ℕ) → Outcome (Parts × ℕ)
-blankTurn (refuses number part at) = refuses number part at
-blankTurn (accepts (p, from)) = accepts (blankParts p, from)
+abbrev blank_turn : Outcome (Parts × ℕ) → Outcome (Parts × ℕ)
+blank_turn (refuses number part at) = refuses number part at
+blank_turn (accepts (p, from)) = accepts (blank_parts p, from)
 
-abbrev pub blankOutcome : Outcome Parts → Outcome Parts
-blankOutcome (refuses number part at) = refuses number part at
-blankOutcome (accepts p) = accepts (blankParts p)
+abbrev pub blank_outcome : Outcome Parts → Outcome Parts
+blank_outcome (refuses number part at) = refuses number part at
+blank_outcome (accepts p) = accepts (blank_parts p)
 
 -- ---- nothing that is hidden is asked for
 
 abbrev Blind : JobPart → Type 0
-Blind k = (p : Parts) (t : List ℕ) → k.reads (blankParts p) t ≡ blankRead (k.reads p t)
+Blind k = (p : Parts) (t : List ℕ) → k.reads (blank_parts p) t ≡ blank_read (k.reads p t)
 
-added : {A : Type 0} (add blankAdd : A → Parts) → ((a : A) → blankAdd a ≡ blankParts (add a)) → (x y : Reading (Progress A)) → y ≡ x → addedBy blankAdd y ≡ blankRead (addedBy add x)
-added add blankAdd h (refused number at) y e = rw e
-added add blankAdd h (accepted p end) y e = rw (e, h p.parsed)
+added : {A : Type 0} (add blank_add : A → Parts) → ((a : A) → blank_add a ≡ blank_parts (add a)) → (x y : Reading (Progress A)) → y ≡ x → added_by blank_add y ≡ blank_read (added_by add x)
+added add blank_add h (refused number at) y e = rw e
+added add blank_add h (accepted p end) y e = rw (e, h p.parsed)
 
-scheme-same : (r : Register) (t : List ℕ) → schemeInJob (blank r) t ≡ schemeInJob r t
-unfolding schemeInJob
-scheme-same r t = refl
+scheme_same : (r : Register) (t : List ℕ) → scheme_in_job (blank r) t ≡ scheme_in_job r t
+unfolding scheme_in_job
+scheme_same r t = refl
 
-commands_same : (r : Register) (sch : Scheme) (t : List ℕ) → commandsInJob (blank r) sch t ≡ commandsInJob r sch t
-unfolding commandsInJob ruleOf
+commands_same : (r : Register) (sch : Scheme) (t : List ℕ) → commands_in_job (blank r) sch t ≡ commands_in_job r sch t
+unfolding commands_in_job rule_of
 commands_same r sch t = refl
 
 residual_same : (r : Register) (sch : Scheme) (cert : Certificate) → R (coefficient (blank r)) (blank r) sch cert ≡ R (coefficient r) r sch cert
-unfolding R shifted reformulated nullForms subtractedForms nullPart subtractedPart ruleOf g
+unfolding R shifted reformulated null_forms subtracted_forms null_part subtracted_part rule_of g
 residual_same r sch cert = refl
 
-carries-same : (r : Register) (sch : Scheme) (cert : Certificate) → carries (coefficient (blank r)) (blank r) sch cert ≡ carries (coefficient r) r sch cert
+carries_same : (r : Register) (sch : Scheme) (cert : Certificate) → carries (coefficient (blank r)) (blank r) sch cert ≡ carries (coefficient r) r sch cert
 unfolding carries
-carries-same r sch cert = rw (residual_same r sch cert)
+carries_same r sch cert = rw (residual_same r sch cert)
 
-certificate-same : (r : Register) (sch : Scheme) (t : List ℕ) → certificateInJob (coefficient (blank r)) (blank r) sch t ≡ certificateInJob (coefficient r) r sch t
-unfolding certificateInJob dominanceChecked
-certificate-same r sch t = rw (commands_same r sch t) (go (commandsInJob r sch t))
+certificate_same : (r : Register) (sch : Scheme) (t : List ℕ) → certificate_in_job (coefficient (blank r)) (blank r) sch t ≡ certificate_in_job (coefficient r) r sch t
+unfolding certificate_in_job dominance_checked
+certificate_same r sch t = rw (commands_same r sch t) (go (commands_in_job r sch t))
   where
-    go : (x : Reading (Progress Certificate)) → dominanceChecked (coefficient (blank r)) (blank r) sch x ≡ dominanceChecked (coefficient r) r sch x
+    go : (x : Reading (Progress Certificate)) → dominance_checked (coefficient (blank r)) (blank r) sch x ≡ dominance_checked (coefficient r) r sch x
     go (refused number at) = refl
-    go (accepted p end) = rw (carries-same r sch p.parsed)
+    go (accepted p end) = rw (carries_same r sch p.parsed)
 
-plan-same : (r : Register) (t : List ℕ) → planInJob (blank r) t ≡ planInJob r t
-unfolding planInJob
-plan-same r t = refl
+plan_same : (r : Register) (t : List ℕ) → plan_in_job (blank r) t ≡ plan_in_job r t
+unfolding plan_in_job
+plan_same r t = refl
 
-blind-two : Blind partTwo
-blind-two p t = added (withScheme p) (withScheme (blankParts p)) (λ a. refl) (schemeInJob p.register t) _ (scheme-same p.register t)
+blind_two : Blind part_two
+blind_two p t = added (with_scheme p) (with_scheme (blank_parts p)) (λ a. refl) (scheme_in_job p.register t) _ (scheme_same p.register t)
 
 blind : (r : Register) → All Blind (order r)
 blind r =
-    blind-two
-    ▹ (λ p t. added (withCertificate p) (withCertificate (blankParts p)) (λ a. refl) (certificateInJob (coefficient p.register) p.register p.scheme t) _ (certificate-same p.register p.scheme t))
-    ▹ (λ p t. added (withPlan p) (withPlan (blankParts p)) (λ a. refl) (planInJob p.register t) _ (plan-same p.register t))
+    blind_two
+    ▹ (λ p t. added (with_certificate p) (with_certificate (blank_parts p)) (λ a. refl) (certificate_in_job (coefficient p.register) p.register p.scheme t) _ (certificate_same p.register p.scheme t))
+    ▹ (λ p t. added (with_plan p) (with_plan (blank_parts p)) (λ a. refl) (plan_in_job p.register t) _ (plan_same p.register t))
     ▹ tt
 
 module _ (s : List ℕ) where
-  turn-blank : (ks : List JobPart) → All Blind ks → (p : Parts) (from : ℕ) → in_turn ks s (blankParts p) from ≡ blankTurn (in_turn ks s p from)
-  turn-blank [] h p from = refl
-  turn-blank (k ∷ ks) h p from = rw (h.0 p (drop from s)) (go (k.reads p (drop from s)) (turn-blank ks h.1))
+  turn_blank : (ks : List JobPart) → All Blind ks → (p : Parts) (from : ℕ) → in_turn ks s (blank_parts p) from ≡ blank_turn (in_turn ks s p from)
+  turn_blank [] h p from = refl
+  turn_blank (k ∷ ks) h p from = rw (h.0 p (drop from s)) (go (k.reads p (drop from s)) (turn_blank ks h.1))
     where
-      go : (x : Reading Parts) → ((p : Parts) (from : ℕ) → in_turn ks s (blankParts p) from ≡ blankTurn (in_turn ks s p from)) →
-          next k.number (startingAt from (blankRead x)) (in_turn ks s) ≡ blankTurn (next k.number (startingAt from x) (in_turn ks s))
+      go : (x : Reading Parts) → ((p : Parts) (from : ℕ) → in_turn ks s (blank_parts p) from ≡ blank_turn (in_turn ks s p from)) →
+          next k.number (starting_at from (blank_read x)) (in_turn ks s) ≡ blank_turn (next k.number (starting_at from x) (in_turn ks s))
       go (refused number at) later = refl
       go (accepted read end) later = later read (from + end)
 
   -- so what follows the register, with it blank
 
-  pub after-blank : (r : Register) (p : Parts) (from last : ℕ) → and_then (in_turn (order r) s (blankParts p) from) (ended last s) ≡ blankOutcome (and_then (in_turn (order r) s p from) (ended last s))
-  after-blank r p from last = rw (turn-blank (order r) (blind r) p from) (go (in_turn (order r) s p from))
+  pub after_blank : (r : Register) (p : Parts) (from last : ℕ) → and_then (in_turn (order r) s (blank_parts p) from) (ended last s) ≡ blank_outcome (and_then (in_turn (order r) s p from) (ended last s))
+  after_blank r p from last = rw (turn_blank (order r) (blind r) p from) (go (in_turn (order r) s p from))
     where
-      close : (b : Bool) (p : Parts) (end : ℕ) → cond b (refuses 12 last end) (accepts (blankParts p)) ≡ blankOutcome (cond b (refuses 12 last end) (accepts p))
+      close : (b : Bool) (p : Parts) (end : ℕ) → cond b (refuses 12 last end) (accepts (blank_parts p)) ≡ blank_outcome (cond b (refuses 12 last end) (accepts p))
       close true p end = refl
       close false p end = refl
 
-      go : (x : Outcome (Parts × ℕ)) → and_then (blankTurn x) (ended last s) ≡ blankOutcome (and_then x (ended last s))
+      go : (x : Outcome (Parts × ℕ)) → and_then (blank_turn x) (ended last s) ≡ blank_outcome (and_then x (ended last s))
       go (refuses number part at) = refl
       go (accepts (p, end)) = close (ltb end (length s)) p end
 
-  table-certificate : (r : Register) (sch : Scheme) (from : ℕ) (lent : List ℤ) → tableFromCertificate s (blank r) sch from lent ≡ tableFromCertificate s r sch from lent
-  table-certificate r sch from lent = rw (commands_same r sch (drop from s)) (go (commandsInJob r sch (drop from s)))
+  table_certificate : (r : Register) (sch : Scheme) (from : ℕ) (lent : List ℤ) → table_from_certificate s (blank r) sch from lent ≡ table_from_certificate s r sch from lent
+  table_certificate r sch from lent = rw (commands_same r sch (drop from s)) (go (commands_in_job r sch (drop from s)))
     where
-      go : (x : Reading (Progress Certificate)) → withResidual (blank r) sch x lent ≡ withResidual r sch x lent
+      go : (x : Reading (Progress Certificate)) → with_residual (blank r) sch x lent ≡ with_residual r sch x lent
       go (refused number at) = refl
       go (accepted p end) = rw (residual_same r sch p.parsed)
 
-  pub table-blank : (p : Parts) (from : ℕ) (lent : List ℤ) → tableBy s lent (in_turn (partTwo ∷ []) s (blankParts p) from) ≡ tableBy s lent (in_turn (partTwo ∷ []) s p from)
-  table-blank p from lent = rw (turn-blank (partTwo ∷ []) (blind-two ▹ tt) p from) (go (in_turn (partTwo ∷ []) s p from))
+  pub table_blank : (p : Parts) (from : ℕ) (lent : List ℤ) → table_by s lent (in_turn (part_two ∷ []) s (blank_parts p) from) ≡ table_by s lent (in_turn (part_two ∷ []) s p from)
+  table_blank p from lent = rw (turn_blank (part_two ∷ []) (blind_two ▹ tt) p from) (go (in_turn (part_two ∷ []) s p from))
     where
-      go : (x : Outcome (Parts × ℕ)) → tableBy s lent (blankTurn x) ≡ tableBy s lent x
+      go : (x : Outcome (Parts × ℕ)) → table_by s lent (blank_turn x) ≡ table_by s lent x
       go (refuses number part at) = refl
-      go (accepts (p, end)) = table-certificate p.register p.scheme end lent
+      go (accepts (p, end)) = table_certificate p.register p.scheme end lent
 
 -- ---- the bytes after the register, and the job's length, are all that is read
 
@@ -138,22 +138,22 @@ module _ (s s' : List ℕ) (l : length s ≡ length s') where
 
   -- parts in turn, and what is made of what they lead to
   module _ {G : Type 0} (refusal : ℕ → ℕ → ℕ → G) (f f' : Parts × ℕ → G) (agree : (p : Parts) (end : ℕ) → drop end s ≡ drop end s' → f (p, end) ≡ f' (p, end)) where
-    turn-same : (ks : List JobPart) (p : Parts) (from : ℕ) → drop from s ≡ drop from s' → answerBy refusal f (in_turn ks s p from) ≡ answerBy refusal f' (in_turn ks s' p from)
-    turn-same [] p from d = agree p from d
-    turn-same (k ∷ ks) p from d = rw (ap (k.reads p) d) (go (k.reads p (drop from s')) (turn-same ks))
+    turn_same : (ks : List JobPart) (p : Parts) (from : ℕ) → drop from s ≡ drop from s' → answer_by refusal f (in_turn ks s p from) ≡ answer_by refusal f' (in_turn ks s' p from)
+    turn_same [] p from d = agree p from d
+    turn_same (k ∷ ks) p from d = rw (ap (k.reads p) d) (go (k.reads p (drop from s')) (turn_same ks))
       where
-        go : (x : Reading Parts) → ((p : Parts) (from : ℕ) → drop from s ≡ drop from s' → answerBy refusal f (in_turn ks s p from) ≡ answerBy refusal f' (in_turn ks s' p from)) →
-            answerBy refusal f (next k.number (startingAt from x) (in_turn ks s)) ≡ answerBy refusal f' (next k.number (startingAt from x) (in_turn ks s'))
+        go : (x : Reading Parts) → ((p : Parts) (from : ℕ) → drop from s ≡ drop from s' → answer_by refusal f (in_turn ks s p from) ≡ answer_by refusal f' (in_turn ks s' p from)) →
+            answer_by refusal f (next k.number (starting_at from x) (in_turn ks s)) ≡ answer_by refusal f' (next k.number (starting_at from x) (in_turn ks s'))
         go (refused number at) later = refl
         go (accepted read end) later = later read (from + end) (further from end d)
 
-  pub after-same : (ks : List JobPart) (p : Parts) (from last : ℕ) → drop from s ≡ drop from s' → and_then (in_turn ks s p from) (ended last s) ≡ and_then (in_turn ks s' p from) (ended last s')
-  after-same ks p from last d =
-      then-is (in_turn ks s p from) (ended last s) ∙ turn-same refuses (ended last s) (ended last s') (λ p end d. rw l) ks p from d ∙ sym (then-is (in_turn ks s' p from) (ended last s'))
+  pub after_same : (ks : List JobPart) (p : Parts) (from last : ℕ) → drop from s ≡ drop from s' → and_then (in_turn ks s p from) (ended last s) ≡ and_then (in_turn ks s' p from) (ended last s')
+  after_same ks p from last d =
+      then_is (in_turn ks s p from) (ended last s) ∙ turn_same refuses (ended last s) (ended last s') (λ p end d. rw l) ks p from d ∙ sym (then_is (in_turn ks s' p from) (ended last s'))
     where
-      then-is : {A B : Type 0} (x : Outcome A) (f : A → Outcome B) → and_then x f ≡ answerBy refuses f x
-      then-is (refuses number part at) f = refl
-      then-is (accepts a) f = refl
+      then_is : {A B : Type 0} (x : Outcome A) (f : A → Outcome B) → and_then x f ≡ answer_by refuses f x
+      then_is (refuses number part at) f = refl
+      then_is (accepts a) f = refl
 
-  pub table-same : (ks : List JobPart) (p : Parts) (from : ℕ) (lent : List ℤ) → drop from s ≡ drop from s' → tableBy s lent (in_turn ks s p from) ≡ tableBy s' lent (in_turn ks s' p from)
-  table-same ks p from lent = turn-same (λ number part at. lent) _ _ (λ p end d. ap (λ t. withResidual p.register p.scheme (commandsInJob p.register p.scheme t) lent) d) ks p from
+  pub table_same : (ks : List JobPart) (p : Parts) (from : ℕ) (lent : List ℤ) → drop from s ≡ drop from s' → table_by s lent (in_turn ks s p from) ≡ table_by s' lent (in_turn ks s' p from)
+  table_same ks p from lent = turn_same (λ number part at. lent) _ _ (λ p end d. ap (λ t. with_residual p.register p.scheme (commands_in_job p.register p.scheme t) lent) d) ks p from

@@ -10,8 +10,8 @@ use lib.Dec.{T}
 use lib.IntN.{ℤ, pos, ◌+ℤ◌, ◌-ℤ◌, ◌*ℤ◌, *ℤ_comm, *ℤ-zero, zero-*ℤ}
 use lib.Signed.{◌≤ℤ◌, ≤ℤ_refl, le_z_yes}
 use Rattle.integers.specs.Integer.{bit}
-use Rattle.integers.specs.Lists.{All, all_below, joinBelow}
-use Rattle.integers.proofs.Ring.{one-*ℤ}
+use Rattle.integers.specs.Lists.{All, all_below, join_below}
+use Rattle.integers.proofs.Ring.{one_*ℤ}
 
 -- ---- tests
 
@@ -19,16 +19,16 @@ pub T_and : (a b : Bool) → T (a && b) ↔ (T a × T b)
 T_and true b = ((λ t. (tt, t)), (λ t. t.1))
 T_and false b = ((λ t. absurd t), (λ t. absurd t.0))
 
-pub T-or : (a b : Bool) → T (a || b) ↔ (T a ⊎ T b)
-T-or true b = ((λ t. inl tt), (λ t. tt))
-T-or false b = ((λ t. inr t), (λ t. ⊎_elim (λ f. absurd f) (λ u. u) t))
+pub T_or : (a b : Bool) → T (a || b) ↔ (T a ⊎ T b)
+T_or true b = ((λ t. inl tt), (λ t. tt))
+T_or false b = ((λ t. inr t), (λ t. ⊎_elim (λ f. absurd f) (λ u. u) t))
 
 -- two tests that pass together are one
-pub T-ext : (a b : Bool) → T a ↔ T b → a ≡ b
-T-ext true true e = refl
-T-ext true false e = absurd (e.0 tt)
-T-ext false true e = absurd (e.1 tt)
-T-ext false false e = refl
+pub T_ext : (a b : Bool) → T a ↔ T b → a ≡ b
+T_ext true true e = refl
+T_ext true false e = absurd (e.0 tt)
+T_ext false true e = absurd (e.1 tt)
+T_ext false false e = refl
 
 pub T_true : (b : Bool) → T b ↔ (b ≡ true)
 T_true true = ((λ t. refl), (λ e. tt))
@@ -40,13 +40,13 @@ flag true t f = t refl
 flag false t f = f refl
 
 -- a disjunction that fails, and a negation
-pub or-none : (a b : Bool) → (a || b) ≡ false → (a ≡ false) × (b ≡ false)
-or-none true b e = absurd (true≢false e)
-or-none false b e = (refl, e)
+pub or_none : (a b : Bool) → (a || b) ≡ false → (a ≡ false) × (b ≡ false)
+or_none true b e = absurd (true≢false e)
+or_none false b e = (refl, e)
 
-pub or-either : (a b : Bool) → (a || b) ≡ true → (a ≡ true) ⊎ (b ≡ true)
-or-either true b e = inl refl
-or-either false b e = inr e
+pub or_either : (a b : Bool) → (a || b) ≡ true → (a ≡ true) ⊎ (b ≡ true)
+or_either true b e = inl refl
+or_either false b e = inr e
 
 pub and_both : (a b : Bool) → (a && b) ≡ true → (a ≡ true) × (b ≡ true)
 and_both true b e = (refl, e)
@@ -57,33 +57,33 @@ pub cond_cases {ℓ} : {A : Type ℓ} (P : A → Type 0) (b : Bool) (x y : A) �
 cond_cases P true x y f g = f tt
 cond_cases P false x y f g = g tt
 
-pub allBelow-at : (n : ℕ) (f : ℕ → Bool) → T (all_below n f) → (i : ℕ) → i < n → T (f i)
+pub all_below_at : (n : ℕ) (f : ℕ → Bool) → T (all_below n f) → (i : ℕ) → i < n → T (f i)
 unfolding all_below
-allBelow-at zero f h i l = absurd (omega arith)
-allBelow-at (suc n) f h i l = go ((T_and (all_below n f) (f n)).0 h) (λ k. allBelow-at n f k i) (ℕ_discrete i n)
+all_below_at zero f h i l = absurd (omega arith)
+all_below_at (suc n) f h i l = go ((T_and (all_below n f) (f n)).0 h) (λ k. all_below_at n f k i) (ℕ_discrete i n)
   where
     go : T (all_below n f) × T (f n) → (T (all_below n f) → i < n → T (f i)) → Dec (i ≡ n) → T (f i)
     go t before (yes e) = rw e t.1
     go t before (no d) = before t.0 (omega arith)
 
-pub allBelow-by : (n : ℕ) (f : ℕ → Bool) → ((i : ℕ) → i < n → T (f i)) → T (all_below n f)
+pub all_below_by : (n : ℕ) (f : ℕ → Bool) → ((i : ℕ) → i < n → T (f i)) → T (all_below n f)
 unfolding all_below
-allBelow-by zero f h = tt
-allBelow-by (suc n) f h = (T_and (all_below n f) (f n)).1 (allBelow-by n f (λ i l. h i (omega arith)), h n (omega arith))
+all_below_by zero f h = tt
+all_below_by (suc n) f h = (T_and (all_below n f) (f n)).1 (all_below_by n f (λ i l. h i (omega arith)), h n (omega arith))
 
 -- ---- bits
 
-pub *-bit : (c : ℤ) (b : Bool) → c *ℤ bit b ≡ cond b c (pos 0)
-*-bit c true = *ℤ_comm c (pos 1) ∙ one-*ℤ c
-*-bit c false = *ℤ-zero c
+pub *_bit : (c : ℤ) (b : Bool) → c *ℤ bit b ≡ cond b c (pos 0)
+*_bit c true = *ℤ_comm c (pos 1) ∙ one_*ℤ c
+*_bit c false = *ℤ-zero c
 
 pub bit_and : (u v : Bool) → bit u *ℤ bit v ≡ bit (u && v)
-bit_and true v = one-*ℤ (bit v)
+bit_and true v = one_*ℤ (bit v)
 bit_and false v = zero-*ℤ (bit v)
 
-pub bit-low : (b : Bool) → pos 0 ≤ℤ bit b
-bit-low true = le_z_yes tt
-bit-low false = le_z_yes tt
+pub bit_low : (b : Bool) → pos 0 ≤ℤ bit b
+bit_low true = le_z_yes tt
+bit_low false = le_z_yes tt
 
 pub bit_high : (b : Bool) → bit b ≤ℤ pos 1
 bit_high true = le_z_yes tt
@@ -95,7 +95,7 @@ and_left false v = ≤ℤ_refl (pos 0)
 
 pub and_right : (u v : Bool) → bit (u && v) ≤ℤ bit v
 and_right true v = ≤ℤ_refl (bit v)
-and_right false v = bit-low v
+and_right false v = bit_low v
 
 pub and_above : (u v : Bool) → (bit u +ℤ bit v -ℤ pos 1) ≤ℤ bit (u && v)
 and_above true true = le_z_yes tt
@@ -118,7 +118,7 @@ pub All-map {ℓ} : {A : Type ℓ} (P Q : A → Type 0) → ((x : A) → P x →
 All-map P Q f [] h = tt
 All-map P Q f (x ∷ l) h = (f x h.0, All-map P Q f l h.1)
 
-pub All-join {ℓ} : {A : Type ℓ} (P : A → Type 0) (n : ℕ) (f : ℕ → List A) → ((i : ℕ) → i < n → All P (f i)) → All P (joinBelow n f)
-unfolding joinBelow
+pub All-join {ℓ} : {A : Type ℓ} (P : A → Type 0) (n : ℕ) (f : ℕ → List A) → ((i : ℕ) → i < n → All P (f i)) → All P (join_below n f)
+unfolding join_below
 All-join P zero f h = tt
-All-join P (suc n) f h = All-append P (joinBelow n f) (f n) (All-join P n f (λ i l. h i (omega arith))) (h n (omega arith))
+All-join P (suc n) f h = All-append P (join_below n f) (f n) (All-join P n f (λ i l. h i (omega arith))) (h n (omega arith))

@@ -23,37 +23,37 @@ fits_signed w z h = record { sfits = below (2 ^ hbits w) z h }
     below b = diff₁ _ λ p q. simp diffs (omega arith)
 
 -- what fits a width is at most its half in absolute value
-pub signed-small : (w : Width) (z : ℤ) → SFits w z → nat_abs z ≤ 2 ^ hbits w
-signed-small w z f = above (2 ^ hbits w) z f.sfits
+pub signed_small : (w : Width) (z : ℤ) → SFits w z → nat_abs z ≤ 2 ^ hbits w
+signed_small w z f = above (2 ^ hbits w) z f.sfits
   where
     above : (b : ℕ) (z : ℤ) → mag z < b → nat_abs z ≤ b
     above b = diff₁ _ λ p q. simp diffs (omega arith)
 
 -- the bits of `z`, read as signed
-pub read-signed : (w : Width) (z : ℤ) → nat_abs z < 2 ^ hbits w → to_z w (of_z w z) ≡ z
-read-signed w z h = to_z-of_z (fits_signed w z h)
+pub read_signed : (w : Width) (z : ℤ) → nat_abs z < 2 ^ hbits w → to_z w (of_z w z) ≡ z
+read_signed w z h = to_z-of_z (fits_signed w z h)
 
 -- bits that an invariant says are those of `z`
-pub read-bits : (w : Width) (z : ℤ) {n : ℕ} → n ≡ of_z w z → nat_abs z < 2 ^ hbits w → to_z w n ≡ z
-read-bits w z e h = ap (to_z w) e ∙ read-signed w z h
+pub read_bits : (w : Width) (z : ℤ) {n : ℕ} → n ≡ of_z w z → nat_abs z < 2 ^ hbits w → to_z w n ≡ z
+read_bits w z e h = ap (to_z w) e ∙ read_signed w z h
 
 -- a number that was cast from an unsigned type
-pub read-unsigned : (w : Width) (n : ℕ) → n < 2 ^ hbits w → to_z w n ≡ pos n
-read-unsigned w n h = to_z_pos w n h
+pub read_unsigned : (w : Width) (n : ℕ) → n < 2 ^ hbits w → to_z w n ≡ pos n
+read_unsigned w n h = to_z_pos w n h
 
 -- a signed number cast to a width that is not narrower
 pub cast_fits : (v w : Width) (z : ℤ) → 2 ^ hbits v < 2 ^ hbits w → SFits v z → SFits w (to_z v (of_z v z))
-cast_fits v w z l f = rw (to_z-of_z f) (fits_signed w z (omega (arith, signed-small v z f)))
+cast_fits v w z l f = rw (to_z-of_z f) (fits_signed w z (omega (arith, signed_small v z f)))
 
-pub cast-read : (v w : Width) (z : ℤ) → 2 ^ hbits v < 2 ^ hbits w → SFits v z → to_z w (of_z w (to_z v (of_z v z))) ≡ z
-cast-read v w z l f = rw (to_z-of_z f) (read-signed w z (omega (arith, signed-small v z f)))
+pub cast_read : (v w : Width) (z : ℤ) → 2 ^ hbits v < 2 ^ hbits w → SFits v z → to_z w (of_z w (to_z v (of_z v z))) ≡ z
+cast_read v w z l f = rw (to_z-of_z f) (read_signed w z (omega (arith, signed_small v z f)))
 
 -- a signed comparison that held, and one that did not
-pub ltZ-true : (a b : ℤ) → lt_z a b ≡ true → a <ℤ b
-ltZ-true a b e = record { lt = subst T (sym e) tt }
+pub lt_z-true : (a b : ℤ) → lt_z a b ≡ true → a <ℤ b
+lt_z-true a b e = record { lt = subst T (sym e) tt }
 
-pub ltZ-false : (a b : ℤ) → lt_z a b ≡ false → b ≤ℤ a
-ltZ-false a b e = lt_z_no (subst (λ x. T (not x)) (sym e) tt)
+pub lt_z-false : (a b : ℤ) → lt_z a b ≡ false → b ≤ℤ a
+lt_z-false a b e = lt_z_no (subst (λ x. T (not x)) (sym e) tt)
 
 -- one bit at place n of a word
 pub one_shifted : (w : Width) (n : ℕ) → n < bits w → 2 ^ n ≡ 1 * 2 ^ n % 2 ^ bits w

@@ -5,60 +5,60 @@ use Prim.Native.Nat.{ℕ, ◌<◌}
 use lib.IntN.{ℤ, pos, ◌+ℤ◌, ◌*ℤ◌, zero-*ℤ}
 use lib.Signed.{◌≤ℤ◌}
 use Rattle.integers.specs.Quadratic.{quadratic, Semidefinite}
-use Rattle.integers.proofs.Ring.{*ℤ-assoc, *ℤ-distribʳ}
+use Rattle.integers.proofs.Ring.{*ℤ_assoc, *ℤ_distribʳ}
 use Rattle.integers.proofs.Solver.{quote, atoms, ring}
-use Rattle.integers.proofs.Order.{nonneg, +ℤ-nonneg, *ℤ-nonneg}
+use Rattle.integers.proofs.Order.{nonneg, +ℤ_nonneg, *ℤ_nonneg}
 use Rattle.integers.specs.Lists.{All}
-use Rattle.integers.specs.Sum.{sumBelow, sumOver}
-use Rattle.integers.proofs.Sum.{sumBelow-cong, sumBelow-0, sumBelow-product, sumOver-nonneg, linear}
+use Rattle.integers.specs.Sum.{sum_below, sum_over}
+use Rattle.integers.proofs.Sum.{sum_below_cong, sum_below_0, sum_below_product, sum_over_nonneg, linear}
 use Rattle.integers.proofs.Lists.{All-map}
 
-pub quadratic-cong : (n : ℕ) (a b : ℕ → ℕ → ℤ) (x : ℕ → ℤ) → ((i j : ℕ) → i < n → j < n → a i j ≡ b i j) → quadratic n a x ≡ quadratic n b x
+pub quadratic_cong : (n : ℕ) (a b : ℕ → ℕ → ℤ) (x : ℕ → ℤ) → ((i j : ℕ) → i < n → j < n → a i j ≡ b i j) → quadratic n a x ≡ quadratic n b x
 unfolding quadratic
-quadratic-cong n a b x h = sumBelow-cong n _ _ λ i l. sumBelow-cong n _ _ λ j k. rw (h i j l k)
+quadratic_cong n a b x h = sum_below_cong n _ _ λ i l. sum_below_cong n _ _ λ j k. rw (h i j l k)
 
 pub quadratic-+ : (n : ℕ) (a b : ℕ → ℕ → ℤ) (x : ℕ → ℤ) → quadratic n (λ i j. a i j +ℤ b i j) x ≡ quadratic n a x +ℤ quadratic n b x
 unfolding quadratic
-quadratic-+ n a b x = simp (linear, *ℤ-distribʳ)
+quadratic-+ n a b x = simp (linear, *ℤ_distribʳ)
 
 pub quadratic-* : (n : ℕ) (c : ℤ) (a : ℕ → ℕ → ℤ) (x : ℕ → ℤ) → quadratic n (λ i j. c *ℤ a i j) x ≡ c *ℤ quadratic n a x
 unfolding quadratic
-quadratic-* n c a x = simp (linear, *ℤ-assoc)
+quadratic-* n c a x = simp (linear, *ℤ_assoc)
 
-pub quadratic-0 : (n : ℕ) (x : ℕ → ℤ) → quadratic n (λ i j. pos 0) x ≡ pos 0
+pub quadratic_0 : (n : ℕ) (x : ℕ → ℤ) → quadratic n (λ i j. pos 0) x ≡ pos 0
 unfolding quadratic
-quadratic-0 n x = sumBelow-cong n _ _ (λ i h. sumBelow-cong n _ _ (λ j k. simp zero-*ℤ) ∙ sumBelow-0 n) ∙ sumBelow-0 n
+quadratic_0 n x = sum_below_cong n _ _ (λ i h. sum_below_cong n _ _ (λ j k. simp zero-*ℤ) ∙ sum_below_0 n) ∙ sum_below_0 n
 
 -- a table that is a sum over a list
-pub quadratic-sumOver {ℓ} : {A : Type ℓ} (n : ℕ) (l : List A) (a : A → ℕ → ℕ → ℤ) (x : ℕ → ℤ) →
-    quadratic n (λ i j. sumOver l (λ e. a e i j)) x ≡ sumOver l (λ e. quadratic n (a e) x)
-unfolding sumOver
-quadratic-sumOver n [] a x = quadratic-0 n x
-quadratic-sumOver n (e ∷ l) a x =
-    quadratic-+ n (a e) (λ i j. sumOver l (λ e. a e i j)) x ∙ ap (λ u. quadratic n (a e) x +ℤ u) (quadratic-sumOver n l a x)
+pub quadratic-sum_over {ℓ} : {A : Type ℓ} (n : ℕ) (l : List A) (a : A → ℕ → ℕ → ℤ) (x : ℕ → ℤ) →
+    quadratic n (λ i j. sum_over l (λ e. a e i j)) x ≡ sum_over l (λ e. quadratic n (a e) x)
+unfolding sum_over
+quadratic-sum_over n [] a x = quadratic_0 n x
+quadratic-sum_over n (e ∷ l) a x =
+    quadratic-+ n (a e) (λ i j. sum_over l (λ e. a e i j)) x ∙ ap (λ u. quadratic n (a e) x +ℤ u) (quadratic-sum_over n l a x)
 
 -- the form of v vᵀ is the square of Σ v i x i
-pub quadratic-square : (n : ℕ) (v x : ℕ → ℤ) → quadratic n (λ i j. v i *ℤ v j) x ≡ sumBelow n (λ i. v i *ℤ x i) *ℤ sumBelow n (λ i. v i *ℤ x i)
+pub quadratic_square : (n : ℕ) (v x : ℕ → ℤ) → quadratic n (λ i j. v i *ℤ v j) x ≡ sum_below n (λ i. v i *ℤ x i) *ℤ sum_below n (λ i. v i *ℤ x i)
 unfolding quadratic
-quadratic-square n v x =
-    (sumBelow-cong n _ _ λ i l. sumBelow-cong n _ _ λ j k.
+quadratic_square n v x =
+    (sum_below_cong n _ _ λ i l. sum_below_cong n _ _ λ j k.
     atoms (v i ∷ v j ∷ x i ∷ x j ∷ []) λ ρ a b c d. simp (a, b, c, d, quote) (ring _ _ _ tt))
-    ∙ sym (sumBelow-product n n (λ i. v i *ℤ x i) (λ i. v i *ℤ x i))
+    ∙ sym (sum_below_product n n (λ i. v i *ℤ x i) (λ i. v i *ℤ x i))
 
 -- ---- positive semidefinite matrices
 
-pub semidefinite-cong : (n : ℕ) (a b : ℕ → ℕ → ℤ) → ((i j : ℕ) → i < n → j < n → a i j ≡ b i j) → Semidefinite n a → Semidefinite n b
-semidefinite-cong n a b h p x = subst (λ z. pos 0 ≤ℤ z) (quadratic-cong n a b x h) (p x)
+pub semidefinite_cong : (n : ℕ) (a b : ℕ → ℕ → ℤ) → ((i j : ℕ) → i < n → j < n → a i j ≡ b i j) → Semidefinite n a → Semidefinite n b
+semidefinite_cong n a b h p x = subst (λ z. pos 0 ≤ℤ z) (quadratic_cong n a b x h) (p x)
 
-pub semidefinite-+ : (n : ℕ) (a b : ℕ → ℕ → ℤ) → Semidefinite n a → Semidefinite n b → Semidefinite n (λ i j. a i j +ℤ b i j)
-semidefinite-+ n a b p q x = rw (quadratic-+ n a b x) (+ℤ-nonneg _ _ (p x) (q x))
+pub semidefinite_+ : (n : ℕ) (a b : ℕ → ℕ → ℤ) → Semidefinite n a → Semidefinite n b → Semidefinite n (λ i j. a i j +ℤ b i j)
+semidefinite_+ n a b p q x = rw (quadratic-+ n a b x) (+ℤ_nonneg _ _ (p x) (q x))
 
-pub semidefinite-* : (n : ℕ) (c : ℤ) (a : ℕ → ℕ → ℤ) → pos 0 ≤ℤ c → Semidefinite n a → Semidefinite n (λ i j. c *ℤ a i j)
-semidefinite-* n c a h p x = rw (quadratic-* n c a x) (*ℤ-nonneg _ _ h (p x))
+pub semidefinite_* : (n : ℕ) (c : ℤ) (a : ℕ → ℕ → ℤ) → pos 0 ≤ℤ c → Semidefinite n a → Semidefinite n (λ i j. c *ℤ a i j)
+semidefinite_* n c a h p x = rw (quadratic-* n c a x) (*ℤ_nonneg _ _ h (p x))
 
-pub semidefinite-square : (n : ℕ) (v : ℕ → ℤ) → Semidefinite n (λ i j. v i *ℤ v j)
-semidefinite-square n v x = rw (quadratic-square n v x) (search nonneg)
+pub semidefinite_square : (n : ℕ) (v : ℕ → ℤ) → Semidefinite n (λ i j. v i *ℤ v j)
+semidefinite_square n v x = rw (quadratic_square n v x) (search nonneg)
 
-pub semidefinite-sumOver {ℓ} : {A : Type ℓ} (n : ℕ) (l : List A) (a : A → ℕ → ℕ → ℤ) → All (λ e. Semidefinite n (a e)) l → Semidefinite n (λ i j. sumOver l (λ e. a e i j))
-semidefinite-sumOver n l a h x =
-    rw (quadratic-sumOver n l a x) (sumOver-nonneg l (λ e. quadratic n (a e) x) (All-map _ _ (λ e p. p x) l h))
+pub semidefinite_sum_over {ℓ} : {A : Type ℓ} (n : ℕ) (l : List A) (a : A → ℕ → ℕ → ℤ) → All (λ e. Semidefinite n (a e)) l → Semidefinite n (λ i j. sum_over l (λ e. a e i j))
+semidefinite_sum_over n l a h x =
+    rw (quadratic-sum_over n l a x) (sum_over_nonneg l (λ e. quadratic n (a e) x) (All-map _ _ (λ e p. p x) l h))

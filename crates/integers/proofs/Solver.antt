@@ -11,7 +11,7 @@ use lib.Dec.{T, compare_is_eq, eqb, eqb→eq}
 use lib.ListN.{length}
 use lib.IntN.{ℤ, pos, negsuc, neg_ℤ, ◌+ℤ◌, ◌*ℤ◌, +ℤ_idl, +ℤ_idr, +ℤ_assoc, *ℤ-zero, zero-*ℤ}
 use Rattle.integers.proofs.Diff.{diff₁, diffs}
-use Rattle.integers.proofs.Ring.{*ℤ-assoc, *ℤ-distribʳ, *ℤ-distribˡ, one-*ℤ, +ℤ-interchange, +ℤ-left-comm, *ℤ-interchange, *ℤ-left-comm}
+use Rattle.integers.proofs.Ring.{*ℤ_assoc, *ℤ_distribʳ, *ℤ_distribˡ, one_*ℤ, +ℤ_interchange, +ℤ_left_comm, *ℤ_interchange, *ℤ_left_comm}
 
 pub data Expr : Type 0 where
   var : ℕ → Expr
@@ -41,13 +41,13 @@ pub data Poly : Type 0 where
   none : Poly
   term : ℤ → Mono → Poly → Poly
 
-monoVal : (ℕ → ℤ) → Mono → ℤ
-monoVal ρ [] = pos 1
-monoVal ρ (i ∷ m) = ρ i *ℤ monoVal ρ m
+mono_val : (ℕ → ℤ) → Mono → ℤ
+mono_val ρ [] = pos 1
+mono_val ρ (i ∷ m) = ρ i *ℤ mono_val ρ m
 
-polyVal : (ℕ → ℤ) → Poly → ℤ
-polyVal ρ none = pos 0
-polyVal ρ (term c m p) = c *ℤ monoVal ρ m +ℤ polyVal ρ p
+poly_val : (ℕ → ℤ) → Poly → ℤ
+poly_val ρ none = pos 0
+poly_val ρ (term c m p) = c *ℤ mono_val ρ m +ℤ poly_val ρ p
 
 -- one of three, by a comparison
 abbrev pub branch {ℓ} : {A : Type ℓ} → Ordering → A → A → A → A
@@ -55,26 +55,26 @@ branch Ordering.lt l e g = l
 branch Ordering.eq l e g = e
 branch Ordering.gt l e g = g
 
-abbrev pub insertVar : ℕ → Mono → Mono
-insertVar i [] = i ∷ []
-insertVar i (j ∷ m) =
-    let g = j ∷ insertVar i m in
+abbrev pub insert_var : ℕ → Mono → Mono
+insert_var i [] = i ∷ []
+insert_var i (j ∷ m) =
+    let g = j ∷ insert_var i m in
     let l = i ∷ (j ∷ m) in
     branch (compare i j) l l g
 
-abbrev pub mulMono : Mono → Mono → Mono
-mulMono [] n = n
-mulMono (i ∷ m) n = insertVar i (mulMono m n)
+abbrev pub mul_mono : Mono → Mono → Mono
+mul_mono [] n = n
+mul_mono (i ∷ m) n = insert_var i (mul_mono m n)
 
 -- by degree, then lexicographically: an order that multiplying by a monomial keeps
-abbrev pub compareVars : Mono → Mono → Ordering
-compareVars [] [] = Ordering.eq
-compareVars [] (j ∷ n) = Ordering.lt
-compareVars (i ∷ m) [] = Ordering.gt
-compareVars (i ∷ m) (j ∷ n) = let r = compareVars m n in branch (compare i j) Ordering.lt r Ordering.gt
+abbrev pub compare_vars : Mono → Mono → Ordering
+compare_vars [] [] = Ordering.eq
+compare_vars [] (j ∷ n) = Ordering.lt
+compare_vars (i ∷ m) [] = Ordering.gt
+compare_vars (i ∷ m) (j ∷ n) = let r = compare_vars m n in branch (compare i j) Ordering.lt r Ordering.gt
 
-abbrev pub compareMono : Mono → Mono → Ordering
-compareMono m n = let r = compareVars m n in branch (compare (length m) (length n)) Ordering.lt r Ordering.gt
+abbrev pub compare_mono : Mono → Mono → Ordering
+compare_mono m n = let r = compare_vars m n in branch (compare (length m) (length n)) Ordering.lt r Ordering.gt
 
 -- a term with the coefficient 0 is left out
 abbrev pub cons : ℤ → Mono → Poly → Poly
@@ -89,189 +89,189 @@ merge c m p f (term d n q) =
     let l = term c m (f (term d n q)) in
     let e = cons (c +ℤ d) m (f q) in
     let g = term d n (merge c m p f q) in
-    branch (compareMono m n) l e g
+    branch (compare_mono m n) l e g
 
-abbrev pub addPoly : Poly → Poly → Poly
-addPoly none q = q
-addPoly (term c m p) q = merge c m p (addPoly p) q
+abbrev pub add_poly : Poly → Poly → Poly
+add_poly none q = q
+add_poly (term c m p) q = merge c m p (add_poly p) q
 
-abbrev pub mulTerm : ℤ → Mono → Poly → Poly
-mulTerm c m none = none
-mulTerm c m (term d n p) = term (c *ℤ d) (mulMono m n) (mulTerm c m p)
+abbrev pub mul_term : ℤ → Mono → Poly → Poly
+mul_term c m none = none
+mul_term c m (term d n p) = term (c *ℤ d) (mul_mono m n) (mul_term c m p)
 
-abbrev pub mulPoly : Poly → Poly → Poly
-mulPoly none q = none
-mulPoly (term c m p) q = addPoly (mulTerm c m q) (mulPoly p q)
+abbrev pub mul_poly : Poly → Poly → Poly
+mul_poly none q = none
+mul_poly (term c m p) q = add_poly (mul_term c m q) (mul_poly p q)
 
 abbrev pub normal : Expr → Poly
 normal (var i) = term (pos 1) (i ∷ []) none
 normal (lit n) = cons (pos n) [] none
 normal (neglit n) = term (negsuc n) [] none
-normal (neg e) = mulTerm (negsuc 0) [] (normal e)
-normal (e ⊕ f) = addPoly (normal e) (normal f)
-normal (e ⊗ f) = mulPoly (normal e) (normal f)
+normal (neg e) = mul_term (negsuc 0) [] (normal e)
+normal (e ⊕ f) = add_poly (normal e) (normal f)
+normal (e ⊗ f) = mul_poly (normal e) (normal f)
 
 -- ---- a normal form has its expression's value
 
-branch-ind {ℓ} : {A : Type 0} (P : A → Type ℓ) (o : Ordering) (l e g : A) → P l → (T (compare_is_eq o) → P e) → P g → P (branch o l e g)
-branch-ind P Ordering.lt l e g pl pe pg = pl
-branch-ind P Ordering.eq l e g pl pe pg = pe tt
-branch-ind P Ordering.gt l e g pl pe pg = pg
+branch_ind {ℓ} : {A : Type 0} (P : A → Type ℓ) (o : Ordering) (l e g : A) → P l → (T (compare_is_eq o) → P e) → P g → P (branch o l e g)
+branch_ind P Ordering.lt l e g pl pe pg = pl
+branch_ind P Ordering.eq l e g pl pe pg = pe tt
+branch_ind P Ordering.gt l e g pl pe pg = pg
 
-insertVar-val : (ρ : ℕ → ℤ) (i : ℕ) (m : Mono) → monoVal ρ (insertVar i m) ≡ ρ i *ℤ monoVal ρ m
-unfolding monoVal
-insertVar-val ρ i [] = refl
-insertVar-val ρ i (j ∷ m) =
-    branch-ind (λ x. monoVal ρ x ≡ ρ i *ℤ (ρ j *ℤ monoVal ρ m)) (compare i j) (i ∷ (j ∷ m)) (i ∷ (j ∷ m)) (j ∷ insertVar i m)
-    refl (λ t. refl) (ap (λ x. ρ j *ℤ x) (insertVar-val ρ i m) ∙ *ℤ-left-comm (ρ j) (ρ i) (monoVal ρ m))
+insert_var_val : (ρ : ℕ → ℤ) (i : ℕ) (m : Mono) → mono_val ρ (insert_var i m) ≡ ρ i *ℤ mono_val ρ m
+unfolding mono_val
+insert_var_val ρ i [] = refl
+insert_var_val ρ i (j ∷ m) =
+    branch_ind (λ x. mono_val ρ x ≡ ρ i *ℤ (ρ j *ℤ mono_val ρ m)) (compare i j) (i ∷ (j ∷ m)) (i ∷ (j ∷ m)) (j ∷ insert_var i m)
+    refl (λ t. refl) (ap (λ x. ρ j *ℤ x) (insert_var_val ρ i m) ∙ *ℤ_left_comm (ρ j) (ρ i) (mono_val ρ m))
 
-mulMono-val : (ρ : ℕ → ℤ) (m n : Mono) → monoVal ρ (mulMono m n) ≡ monoVal ρ m *ℤ monoVal ρ n
-unfolding monoVal
-mulMono-val ρ [] n = sym (one-*ℤ (monoVal ρ n))
-mulMono-val ρ (i ∷ m) n =
-    insertVar-val ρ i (mulMono m n) ∙ ap (λ x. ρ i *ℤ x) (mulMono-val ρ m n) ∙ sym (*ℤ-assoc (ρ i) (monoVal ρ m) (monoVal ρ n))
+mul_mono_val : (ρ : ℕ → ℤ) (m n : Mono) → mono_val ρ (mul_mono m n) ≡ mono_val ρ m *ℤ mono_val ρ n
+unfolding mono_val
+mul_mono_val ρ [] n = sym (one_*ℤ (mono_val ρ n))
+mul_mono_val ρ (i ∷ m) n =
+    insert_var_val ρ i (mul_mono m n) ∙ ap (λ x. ρ i *ℤ x) (mul_mono_val ρ m n) ∙ sym (*ℤ_assoc (ρ i) (mono_val ρ m) (mono_val ρ n))
 
-compareVars-eq : (m n : Mono) → T (compare_is_eq (compareVars m n)) → m ≡ n
-compareVars-eq [] [] t = refl
-compareVars-eq [] (j ∷ n) t = absurd t
-compareVars-eq (i ∷ m) [] t = absurd t
-compareVars-eq (i ∷ m) (j ∷ n) t =
-    branch-ind (λ o. T (compare_is_eq o) → ◌≡◌ {A = Mono} (i ∷ m) (j ∷ n)) (compare i j) Ordering.lt (compareVars m n) Ordering.gt
-    (λ u. absurd u) (λ e u. ap₂ ◌∷◌ (eqb→eq i j e) (compareVars-eq m n u)) (λ u. absurd u) t
+compare_vars_eq : (m n : Mono) → T (compare_is_eq (compare_vars m n)) → m ≡ n
+compare_vars_eq [] [] t = refl
+compare_vars_eq [] (j ∷ n) t = absurd t
+compare_vars_eq (i ∷ m) [] t = absurd t
+compare_vars_eq (i ∷ m) (j ∷ n) t =
+    branch_ind (λ o. T (compare_is_eq o) → ◌≡◌ {A = Mono} (i ∷ m) (j ∷ n)) (compare i j) Ordering.lt (compare_vars m n) Ordering.gt
+    (λ u. absurd u) (λ e u. ap₂ ◌∷◌ (eqb→eq i j e) (compare_vars_eq m n u)) (λ u. absurd u) t
 
-compareMono-eq : (m n : Mono) → T (compare_is_eq (compareMono m n)) → m ≡ n
-compareMono-eq m n t =
-    branch-ind (λ o. T (compare_is_eq o) → m ≡ n) (compare (length m) (length n)) Ordering.lt (compareVars m n) Ordering.gt
-    (λ u. absurd u) (λ e u. compareVars-eq m n u) (λ u. absurd u) t
+compare_mono_eq : (m n : Mono) → T (compare_is_eq (compare_mono m n)) → m ≡ n
+compare_mono_eq m n t =
+    branch_ind (λ o. T (compare_is_eq o) → m ≡ n) (compare (length m) (length n)) Ordering.lt (compare_vars m n) Ordering.gt
+    (λ u. absurd u) (λ e u. compare_vars_eq m n u) (λ u. absurd u) t
 
-cons-val : (ρ : ℕ → ℤ) (c : ℤ) (m : Mono) (p : Poly) → polyVal ρ (cons c m p) ≡ c *ℤ monoVal ρ m +ℤ polyVal ρ p
-unfolding polyVal
-cons-val ρ (pos zero) m p = simp (zero-*ℤ, +ℤ_idl)
-cons-val ρ (pos (suc n)) m p = refl
-cons-val ρ (negsuc n) m p = refl
+cons_val : (ρ : ℕ → ℤ) (c : ℤ) (m : Mono) (p : Poly) → poly_val ρ (cons c m p) ≡ c *ℤ mono_val ρ m +ℤ poly_val ρ p
+unfolding poly_val
+cons_val ρ (pos zero) m p = simp (zero-*ℤ, +ℤ_idl)
+cons_val ρ (pos (suc n)) m p = refl
+cons_val ρ (negsuc n) m p = refl
 
-merge-val : (ρ : ℕ → ℤ) (c : ℤ) (m : Mono) (p : Poly) (f : Poly → Poly) → ((q : Poly) → polyVal ρ (f q) ≡ polyVal ρ p +ℤ polyVal ρ q) →
-    (q : Poly) → polyVal ρ (merge c m p f q) ≡ c *ℤ monoVal ρ m +ℤ polyVal ρ p +ℤ polyVal ρ q
-unfolding polyVal
-merge-val ρ c m p f h none = sym (+ℤ_idr (c *ℤ monoVal ρ m +ℤ polyVal ρ p))
-merge-val ρ c m p f h (term d n q) =
-    branch-ind (λ x. polyVal ρ x ≡ c *ℤ monoVal ρ m +ℤ polyVal ρ p +ℤ (d *ℤ monoVal ρ n +ℤ polyVal ρ q)) (compareMono m n)
+merge_val : (ρ : ℕ → ℤ) (c : ℤ) (m : Mono) (p : Poly) (f : Poly → Poly) → ((q : Poly) → poly_val ρ (f q) ≡ poly_val ρ p +ℤ poly_val ρ q) →
+    (q : Poly) → poly_val ρ (merge c m p f q) ≡ c *ℤ mono_val ρ m +ℤ poly_val ρ p +ℤ poly_val ρ q
+unfolding poly_val
+merge_val ρ c m p f h none = sym (+ℤ_idr (c *ℤ mono_val ρ m +ℤ poly_val ρ p))
+merge_val ρ c m p f h (term d n q) =
+    branch_ind (λ x. poly_val ρ x ≡ c *ℤ mono_val ρ m +ℤ poly_val ρ p +ℤ (d *ℤ mono_val ρ n +ℤ poly_val ρ q)) (compare_mono m n)
     (term c m (f (term d n q))) (cons (c +ℤ d) m (f q)) (term d n (merge c m p f q))
-    (ap (λ x. c *ℤ monoVal ρ m +ℤ x) (h (term d n q)) ∙ sym (+ℤ_assoc (c *ℤ monoVal ρ m) (polyVal ρ p) (d *ℤ monoVal ρ n +ℤ polyVal ρ q)))
-    (λ t. cons-val ρ (c +ℤ d) m (f q)
-    ∙ ap (λ x. (c +ℤ d) *ℤ monoVal ρ m +ℤ x) (h q)
-    ∙ collect c d (monoVal ρ m) (polyVal ρ p) (polyVal ρ q)
-    ∙ ap (λ x. c *ℤ monoVal ρ m +ℤ polyVal ρ p +ℤ (d *ℤ monoVal ρ x +ℤ polyVal ρ q)) (compareMono-eq m n t))
-    (ap (λ x. d *ℤ monoVal ρ n +ℤ x) (merge-val ρ c m p f h q) ∙ +ℤ-left-comm (d *ℤ monoVal ρ n) (c *ℤ monoVal ρ m +ℤ polyVal ρ p) (polyVal ρ q))
+    (ap (λ x. c *ℤ mono_val ρ m +ℤ x) (h (term d n q)) ∙ sym (+ℤ_assoc (c *ℤ mono_val ρ m) (poly_val ρ p) (d *ℤ mono_val ρ n +ℤ poly_val ρ q)))
+    (λ t. cons_val ρ (c +ℤ d) m (f q)
+    ∙ ap (λ x. (c +ℤ d) *ℤ mono_val ρ m +ℤ x) (h q)
+    ∙ collect c d (mono_val ρ m) (poly_val ρ p) (poly_val ρ q)
+    ∙ ap (λ x. c *ℤ mono_val ρ m +ℤ poly_val ρ p +ℤ (d *ℤ mono_val ρ x +ℤ poly_val ρ q)) (compare_mono_eq m n t))
+    (ap (λ x. d *ℤ mono_val ρ n +ℤ x) (merge_val ρ c m p f h q) ∙ +ℤ_left_comm (d *ℤ mono_val ρ n) (c *ℤ mono_val ρ m +ℤ poly_val ρ p) (poly_val ρ q))
   where
     collect : (c d x y z : ℤ) → (c +ℤ d) *ℤ x +ℤ (y +ℤ z) ≡ c *ℤ x +ℤ y +ℤ (d *ℤ x +ℤ z)
-    collect c d x y z = ap (λ w. w +ℤ (y +ℤ z)) (*ℤ-distribʳ c d x) ∙ +ℤ-interchange (c *ℤ x) (d *ℤ x) y z
+    collect c d x y z = ap (λ w. w +ℤ (y +ℤ z)) (*ℤ_distribʳ c d x) ∙ +ℤ_interchange (c *ℤ x) (d *ℤ x) y z
 
-addPoly-val : (ρ : ℕ → ℤ) (p q : Poly) → polyVal ρ (addPoly p q) ≡ polyVal ρ p +ℤ polyVal ρ q
-unfolding polyVal
-addPoly-val ρ none q = sym (+ℤ_idl (polyVal ρ q))
-addPoly-val ρ (term c m p) q = merge-val ρ c m p (addPoly p) (addPoly-val ρ p) q
+add_poly_val : (ρ : ℕ → ℤ) (p q : Poly) → poly_val ρ (add_poly p q) ≡ poly_val ρ p +ℤ poly_val ρ q
+unfolding poly_val
+add_poly_val ρ none q = sym (+ℤ_idl (poly_val ρ q))
+add_poly_val ρ (term c m p) q = merge_val ρ c m p (add_poly p) (add_poly_val ρ p) q
 
-mulTerm-val : (ρ : ℕ → ℤ) (c : ℤ) (m : Mono) (p : Poly) → polyVal ρ (mulTerm c m p) ≡ c *ℤ monoVal ρ m *ℤ polyVal ρ p
-unfolding polyVal
-mulTerm-val ρ c m none = sym (*ℤ-zero (c *ℤ monoVal ρ m))
-mulTerm-val ρ c m (term d n p) =
-    ap₂ (λ x y. c *ℤ d *ℤ x +ℤ y) (mulMono-val ρ m n) (mulTerm-val ρ c m p)
-    ∙ (ap (λ x. x +ℤ c *ℤ monoVal ρ m *ℤ polyVal ρ p) (*ℤ-interchange c d (monoVal ρ m) (monoVal ρ n))
-    ∙ sym (*ℤ-distribˡ (c *ℤ monoVal ρ m) (d *ℤ monoVal ρ n) (polyVal ρ p)))
+mul_term_val : (ρ : ℕ → ℤ) (c : ℤ) (m : Mono) (p : Poly) → poly_val ρ (mul_term c m p) ≡ c *ℤ mono_val ρ m *ℤ poly_val ρ p
+unfolding poly_val
+mul_term_val ρ c m none = sym (*ℤ-zero (c *ℤ mono_val ρ m))
+mul_term_val ρ c m (term d n p) =
+    ap₂ (λ x y. c *ℤ d *ℤ x +ℤ y) (mul_mono_val ρ m n) (mul_term_val ρ c m p)
+    ∙ (ap (λ x. x +ℤ c *ℤ mono_val ρ m *ℤ poly_val ρ p) (*ℤ_interchange c d (mono_val ρ m) (mono_val ρ n))
+    ∙ sym (*ℤ_distribˡ (c *ℤ mono_val ρ m) (d *ℤ mono_val ρ n) (poly_val ρ p)))
 
-mulPoly-val : (ρ : ℕ → ℤ) (p q : Poly) → polyVal ρ (mulPoly p q) ≡ polyVal ρ p *ℤ polyVal ρ q
-unfolding polyVal
-mulPoly-val ρ none q = sym (zero-*ℤ (polyVal ρ q))
-mulPoly-val ρ (term c m p) q =
-    addPoly-val ρ (mulTerm c m q) (mulPoly p q)
-    ∙ ap₂ ◌+ℤ◌ (mulTerm-val ρ c m q) (mulPoly-val ρ p q)
-    ∙ sym (*ℤ-distribʳ (c *ℤ monoVal ρ m) (polyVal ρ p) (polyVal ρ q))
+mul_poly_val : (ρ : ℕ → ℤ) (p q : Poly) → poly_val ρ (mul_poly p q) ≡ poly_val ρ p *ℤ poly_val ρ q
+unfolding poly_val
+mul_poly_val ρ none q = sym (zero-*ℤ (poly_val ρ q))
+mul_poly_val ρ (term c m p) q =
+    add_poly_val ρ (mul_term c m q) (mul_poly p q)
+    ∙ ap₂ ◌+ℤ◌ (mul_term_val ρ c m q) (mul_poly_val ρ p q)
+    ∙ sym (*ℤ_distribʳ (c *ℤ mono_val ρ m) (poly_val ρ p) (poly_val ρ q))
 
 -- a constant
-constant-val : (a : ℤ) → a *ℤ pos 1 +ℤ pos 0 ≡ a
-constant-val = diff₁ _ λ p q. simp diffs (omega arith)
+constant_val : (a : ℤ) → a *ℤ pos 1 +ℤ pos 0 ≡ a
+constant_val = diff₁ _ λ p q. simp diffs (omega arith)
 
-normal-val : (ρ : ℕ → ℤ) (e : Expr) → polyVal ρ (normal e) ≡ ⟦ e ⟧ ρ
-unfolding polyVal monoVal ⟦◌⟧
-normal-val ρ (var i) = variable (ρ i)
+normal_val : (ρ : ℕ → ℤ) (e : Expr) → poly_val ρ (normal e) ≡ ⟦ e ⟧ ρ
+unfolding poly_val mono_val ⟦◌⟧
+normal_val ρ (var i) = variable (ρ i)
   where
     variable : (a : ℤ) → pos 1 *ℤ (a *ℤ pos 1) +ℤ pos 0 ≡ a
     variable = diff₁ _ λ p q. simp diffs (omega arith)
-normal-val ρ (lit n) = cons-val ρ (pos n) [] none ∙ constant-val (pos n)
-normal-val ρ (neglit n) = constant-val (negsuc n)
-normal-val ρ (neg e) =
-    mulTerm-val ρ (negsuc 0) [] (normal e) ∙ ap (λ x. negsuc 0 *ℤ pos 1 *ℤ x) (normal-val ρ e) ∙ minus (⟦ e ⟧ ρ)
+normal_val ρ (lit n) = cons_val ρ (pos n) [] none ∙ constant_val (pos n)
+normal_val ρ (neglit n) = constant_val (negsuc n)
+normal_val ρ (neg e) =
+    mul_term_val ρ (negsuc 0) [] (normal e) ∙ ap (λ x. negsuc 0 *ℤ pos 1 *ℤ x) (normal_val ρ e) ∙ minus (⟦ e ⟧ ρ)
   where
     minus : (a : ℤ) → negsuc 0 *ℤ pos 1 *ℤ a ≡ neg_ℤ a
     minus = diff₁ _ λ p q. simp diffs (omega arith)
-normal-val ρ (e ⊕ f) = addPoly-val ρ (normal e) (normal f) ∙ ap₂ ◌+ℤ◌ (normal-val ρ e) (normal-val ρ f)
-normal-val ρ (e ⊗ f) = mulPoly-val ρ (normal e) (normal f) ∙ ap₂ ◌*ℤ◌ (normal-val ρ e) (normal-val ρ f)
+normal_val ρ (e ⊕ f) = add_poly_val ρ (normal e) (normal f) ∙ ap₂ ◌+ℤ◌ (normal_val ρ e) (normal_val ρ f)
+normal_val ρ (e ⊗ f) = mul_poly_val ρ (normal e) (normal f) ∙ ap₂ ◌*ℤ◌ (normal_val ρ e) (normal_val ρ f)
 
 -- two normal forms are one
-abbrev pub sameCoef : ℤ → ℤ → Bool
-sameCoef (pos a) (pos b) = eqb a b
-sameCoef (pos a) (negsuc b) = false
-sameCoef (negsuc a) (pos b) = false
-sameCoef (negsuc a) (negsuc b) = eqb a b
+abbrev pub same_coef : ℤ → ℤ → Bool
+same_coef (pos a) (pos b) = eqb a b
+same_coef (pos a) (negsuc b) = false
+same_coef (negsuc a) (pos b) = false
+same_coef (negsuc a) (negsuc b) = eqb a b
 
-abbrev pub samePoly : Poly → Poly → Bool
-samePoly none none = true
-samePoly none (term d n q) = false
-samePoly (term c m p) none = false
-samePoly (term c m p) (term d n q) =
-    let r = samePoly p q in
-    let s = cond (compare_is_eq (compareMono m n)) r false in
-    cond (sameCoef c d) s false
+abbrev pub same_poly : Poly → Poly → Bool
+same_poly none none = true
+same_poly none (term d n q) = false
+same_poly (term c m p) none = false
+same_poly (term c m p) (term d n q) =
+    let r = same_poly p q in
+    let s = cond (compare_is_eq (compare_mono m n)) r false in
+    cond (same_coef c d) s false
 
-sameCoef-eq : (c d : ℤ) → T (sameCoef c d) → c ≡ d
-sameCoef-eq (pos a) (pos b) t = ap pos (eqb→eq a b t)
-sameCoef-eq (pos a) (negsuc b) t = absurd t
-sameCoef-eq (negsuc a) (pos b) t = absurd t
-sameCoef-eq (negsuc a) (negsuc b) t = ap negsuc (eqb→eq a b t)
+same_coef_eq : (c d : ℤ) → T (same_coef c d) → c ≡ d
+same_coef_eq (pos a) (pos b) t = ap pos (eqb→eq a b t)
+same_coef_eq (pos a) (negsuc b) t = absurd t
+same_coef_eq (negsuc a) (pos b) t = absurd t
+same_coef_eq (negsuc a) (negsuc b) t = ap negsuc (eqb→eq a b t)
 
 both : (b c : Bool) → T (cond b c false) → T b × T c
 both true c t = (tt, t)
 both false c t = absurd t
 
-samePoly-eq : (p q : Poly) → T (samePoly p q) → p ≡ q
-samePoly-eq none none t = refl
-samePoly-eq none (term d n q) t = absurd t
-samePoly-eq (term c m p) none t = absurd t
-samePoly-eq (term c m p) (term d n q) t =
-    let (u, v) = both (sameCoef c d) (cond (compare_is_eq (compareMono m n)) (samePoly p q) false) t in
-    let (w, z) = both (compare_is_eq (compareMono m n)) (samePoly p q) v in
-    ap₃ term (sameCoef-eq c d u) (compareMono-eq m n w) (samePoly-eq p q z)
+same_poly_eq : (p q : Poly) → T (same_poly p q) → p ≡ q
+same_poly_eq none none t = refl
+same_poly_eq none (term d n q) t = absurd t
+same_poly_eq (term c m p) none t = absurd t
+same_poly_eq (term c m p) (term d n q) t =
+    let (u, v) = both (same_coef c d) (cond (compare_is_eq (compare_mono m n)) (same_poly p q) false) t in
+    let (w, z) = both (compare_is_eq (compare_mono m n)) (same_poly p q) v in
+    ap₃ term (same_coef_eq c d u) (compare_mono_eq m n w) (same_poly_eq p q z)
   where
     ap₃ : (f : ℤ → Mono → Poly → Poly) {a b : ℤ} {m n : Mono} {p q : Poly} → a ≡ b → m ≡ n → p ≡ q → f a m p ≡ f b n q
     ap₃ f x y z = λ i. f (x i) (y i) (z i)
 
-pub ring : (e f : Expr) (ρ : ℕ → ℤ) → T (samePoly (normal e) (normal f)) → ⟦ e ⟧ ρ ≡ ⟦ f ⟧ ρ
-ring e f ρ t = sym (normal-val ρ e) ∙ ap (polyVal ρ) (samePoly-eq (normal e) (normal f) t) ∙ normal-val ρ f
+pub ring : (e f : Expr) (ρ : ℕ → ℤ) → T (same_poly (normal e) (normal f)) → ⟦ e ⟧ ρ ≡ ⟦ f ⟧ ρ
+ring e f ρ t = sym (normal_val ρ e) ∙ ap (poly_val ρ) (same_poly_eq (normal e) (normal f) t) ∙ normal_val ρ f
 
 -- ---- reading an expression off a goal: `quote` turns each side into some `⟦ e ⟧ ρ`
 
-pub quote-neg : (e : Expr) (ρ : ℕ → ℤ) → neg_ℤ (⟦ e ⟧ ρ) ≡ ⟦ neg e ⟧ ρ
+pub quote_neg : (e : Expr) (ρ : ℕ → ℤ) → neg_ℤ (⟦ e ⟧ ρ) ≡ ⟦ neg e ⟧ ρ
 unfolding ⟦◌⟧
-quote-neg e ρ = refl
+quote_neg e ρ = refl
 
-pub quote-+ : (e f : Expr) (ρ : ℕ → ℤ) → ⟦ e ⟧ ρ +ℤ ⟦ f ⟧ ρ ≡ ⟦ e ⊕ f ⟧ ρ
+pub quote_+ : (e f : Expr) (ρ : ℕ → ℤ) → ⟦ e ⟧ ρ +ℤ ⟦ f ⟧ ρ ≡ ⟦ e ⊕ f ⟧ ρ
 unfolding ⟦◌⟧
-quote-+ e f ρ = refl
+quote_+ e f ρ = refl
 
-pub quote-* : (e f : Expr) (ρ : ℕ → ℤ) → ⟦ e ⟧ ρ *ℤ ⟦ f ⟧ ρ ≡ ⟦ e ⊗ f ⟧ ρ
+pub quote_* : (e f : Expr) (ρ : ℕ → ℤ) → ⟦ e ⟧ ρ *ℤ ⟦ f ⟧ ρ ≡ ⟦ e ⊗ f ⟧ ρ
 unfolding ⟦◌⟧
-quote-* e f ρ = refl
+quote_* e f ρ = refl
 
-pub quote-pos : (ρ : ℕ → ℤ) (n : ℕ) → pos n ≡ ⟦ lit n ⟧ ρ
+pub quote_pos : (ρ : ℕ → ℤ) (n : ℕ) → pos n ≡ ⟦ lit n ⟧ ρ
 unfolding ⟦◌⟧
-quote-pos ρ n = refl
+quote_pos ρ n = refl
 
-pub quote-negsuc : (ρ : ℕ → ℤ) (n : ℕ) → negsuc n ≡ ⟦ neglit n ⟧ ρ
+pub quote_negsuc : (ρ : ℕ → ℤ) (n : ℕ) → negsuc n ≡ ⟦ neglit n ⟧ ρ
 unfolding ⟦◌⟧
-quote-negsuc ρ n = refl
+quote_negsuc ρ n = refl
 
-pub ruleset quote = (quote-neg, quote-+, quote-*, quote-pos, quote-negsuc)
+pub ruleset quote = (quote_neg, quote_+, quote_*, quote_pos, quote_negsuc)
 
 index : List ℤ → ℕ → ℤ
 index [] i = pos 0

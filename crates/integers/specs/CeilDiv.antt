@@ -2,9 +2,9 @@
 use Rattle.std.specs.Prelude.{ℕ, suc, ◌+◌, ◌-◌, ◌/◌, ℤ, pos, negsuc, neg_ℤ, ◌*ℤ◌, ◌≤ℤ◌}
 
 -- t / s rounded up to an integer, where s is not 0
-unfoldable pub ceilDiv : ℤ → ℕ → ℤ
-ceilDiv (pos t) s = pos ((t + (s - 1)) / s)
-ceilDiv (negsuc t) s = neg_ℤ (pos (suc t / s))
+unfoldable pub ceil_div : ℤ → ℕ → ℤ
+ceil_div (pos t) s = pos ((t + (s - 1)) / s)
+ceil_div (negsuc t) s = neg_ℤ (pos (suc t / s))
 
 -- r is the least integer with t ≤ r s
 pub record IsCeilDiv (t : ℤ) (s : ℕ) (r : ℤ) : Type 0 where

@@ -2,13 +2,13 @@
 use Rattle.std.specs.Prelude.{Bool, cond, ℕ, suc, ℤ, pos, negsuc, nat_abs}
 
 -- an integer is its positive part minus its negative part, one of which is 0
-abbrev pub posPart : ℤ → ℕ
-posPart (pos n) = n
-posPart (negsuc n) = 0
+abbrev pub pos_part : ℤ → ℕ
+pos_part (pos n) = n
+pos_part (negsuc n) = 0
 
-abbrev pub negPart : ℤ → ℕ
-negPart (pos n) = 0
-negPart (negsuc n) = suc n
+abbrev pub neg_part : ℤ → ℕ
+neg_part (pos n) = 0
+neg_part (negsuc n) = suc n
 
 -- the absolute value
 unfoldable pub abs : ℤ → ℤ

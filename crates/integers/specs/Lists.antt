@@ -12,25 +12,25 @@ all_below zero f = true
 all_below (suc n) f = all_below n f && f n
 
 -- a test that passes at some of 0, 1, .. n − 1
-abbrev pub anyBelow : ℕ → (ℕ → Bool) → Bool
-anyBelow zero f = false
-anyBelow (suc n) f = anyBelow n f || f n
+abbrev pub any_below : ℕ → (ℕ → Bool) → Bool
+any_below zero f = false
+any_below (suc n) f = any_below n f || f n
 
 -- the first number below n at which a test passes, or n where there is none
-unfoldable pub firstBelow : ℕ → (ℕ → Bool) → ℕ
-firstBelow zero f = 0
-firstBelow (suc n) f = let v = firstBelow n f in cond (eqb v n && not (f n)) (suc n) v
+unfoldable pub first_below : ℕ → (ℕ → Bool) → ℕ
+first_below zero f = 0
+first_below (suc n) f = let v = first_below n f in cond (eqb v n && not (f n)) (suc n) v
 
 -- the lists f 0, f 1, .. f (n − 1), one after the other
-unfoldable pub joinBelow {ℓ} : {A : Type ℓ} → ℕ → (ℕ → List A) → List A
-joinBelow zero f = []
-joinBelow (suc n) f = joinBelow n f ++ f n
+unfoldable pub join_below {ℓ} : {A : Type ℓ} → ℕ → (ℕ → List A) → List A
+join_below zero f = []
+join_below (suc n) f = join_below n f ++ f n
 
 -- the lexicographic order of lists of numbers of one length: by the first number, then by the second, and so on
-unfoldable pub comesBefore : List ℕ → List ℕ → Bool
-comesBefore [] ys = false
-comesBefore (x ∷ xs) [] = false
-comesBefore (x ∷ xs) (y ∷ ys) = ltb x y || eqb x y && comesBefore xs ys
+unfoldable pub comes_before : List ℕ → List ℕ → Bool
+comes_before [] ys = false
+comes_before (x ∷ xs) [] = false
+comes_before (x ∷ xs) (y ∷ ys) = ltb x y || eqb x y && comes_before xs ys
 
 -- an array with room for `size` entries, of which those past the first n are d
 pub record Column {A : Type 0} (size n : ℕ) (d : A) (l : List A) : Type 0 where

@@ -1,21 +1,21 @@
 -- The parts of a job after each other, positions from the job's start, and the table after a job.
 use Rattle.std.specs.Prelude.{ℕ, cond, List, [], ◌∷◌, ltb, eqb, ℤ, ◌-ℤ◌, length, drop}
 use Rattle.wire.specs.Part.{Reading}
-use Rattle.wire.specs.Outcome.{Outcome, refuses, accepts, next, and_then, answerBy, startingAt, addedBy}
+use Rattle.wire.specs.Outcome.{Outcome, refuses, accepts, next, and_then, answer_by, starting_at, added_by}
 use Rattle.register.specs.declared.Register.{Register}
 use Rattle.register.specs.Register.{coefficient}
-use Rattle.register.specs.Format.{registerInJob}
+use Rattle.register.specs.Format.{register_in_job}
 use Rattle.scheme.specs.declared.Scheme.{Scheme}
 use Rattle.scheme.specs.Scheme as S
-use Rattle.scheme.specs.Format.{schemeInJob}
+use Rattle.scheme.specs.Format.{scheme_in_job}
 use Rattle.certificate.specs.Certificate.{Certificate}
 use Rattle.certificate.specs.Certificate as C
 use Rattle.bound.specs.Bound.{bound}
-use Rattle.certificate.specs.Format.{commandsInJob}
-use Rattle.bound.specs.Format.{certificateInJob}
-use Rattle.bound.specs.Check.{withResidual}
+use Rattle.certificate.specs.Format.{commands_in_job}
+use Rattle.bound.specs.Format.{certificate_in_job}
+use Rattle.bound.specs.Check.{with_residual}
 use Rattle.plan.specs.Plan.{cost}
-use Rattle.plan.specs.Format.{planInJob}
+use Rattle.plan.specs.Format.{plan_in_job}
 
 -- the parts of a job; a part that is not read yet is empty
 pub record Parts : Type 0 where
@@ -24,17 +24,17 @@ pub record Parts : Type 0 where
   pub certificate : Certificate
   pub plan : ℕ
 
-abbrev pub ofRegister : Register → Parts
-ofRegister reg = record { register = reg; scheme = S.fresh; certificate = C.fresh; plan = 0 }
+abbrev pub of_register : Register → Parts
+of_register reg = record { register = reg; scheme = S.fresh; certificate = C.fresh; plan = 0 }
 
-abbrev pub withScheme : Parts → Scheme → Parts
-withScheme p sch = record { register = p.register; scheme = sch; certificate = p.certificate; plan = p.plan }
+abbrev pub with_scheme : Parts → Scheme → Parts
+with_scheme p sch = record { register = p.register; scheme = sch; certificate = p.certificate; plan = p.plan }
 
-abbrev pub withCertificate : Parts → Certificate → Parts
-withCertificate p cert = record { register = p.register; scheme = p.scheme; certificate = cert; plan = p.plan }
+abbrev pub with_certificate : Parts → Certificate → Parts
+with_certificate p cert = record { register = p.register; scheme = p.scheme; certificate = cert; plan = p.plan }
 
-abbrev pub withPlan : Parts → ℕ → Parts
-withPlan p plan = record { register = p.register; scheme = p.scheme; certificate = p.certificate; plan = plan }
+abbrev pub with_plan : Parts → ℕ → Parts
+with_plan p plan = record { register = p.register; scheme = p.scheme; certificate = p.certificate; plan = plan }
 
 -- ---- the parts after the register
 
@@ -43,25 +43,25 @@ pub record JobPart : Type 0 where
   pub number : ℕ
   pub reads : Parts → List ℕ → Reading Parts
 
-abbrev pub partTwo : JobPart
-partTwo = record { number = 2; reads = λ p s. addedBy (withScheme p) (schemeInJob p.register s) }
+abbrev pub part_two : JobPart
+part_two = record { number = 2; reads = λ p s. added_by (with_scheme p) (scheme_in_job p.register s) }
 
-abbrev pub partThree : JobPart
-partThree = record { number = 3; reads = λ p s. addedBy (withCertificate p) (certificateInJob (coefficient p.register) p.register p.scheme s) }
+abbrev pub part_three : JobPart
+part_three = record { number = 3; reads = λ p s. added_by (with_certificate p) (certificate_in_job (coefficient p.register) p.register p.scheme s) }
 
-abbrev pub partFour : JobPart
-partFour = record { number = 4; reads = λ p s. addedBy (withPlan p) (planInJob p.register s) }
+abbrev pub part_four : JobPart
+part_four = record { number = 4; reads = λ p s. added_by (with_plan p) (plan_in_job p.register s) }
 
 -- their order, the same for every register
 abbrev pub order : Register → List JobPart
-order reg = partTwo ∷ partThree ∷ partFour ∷ []
+order reg = part_two ∷ part_three ∷ part_four ∷ []
 
 -- ---- a job
 
 -- parts of a job s after each other: each is read with the parts before it, and the next starts where it ends
 abbrev pub in_turn : List JobPart → List ℕ → Parts → ℕ → Outcome (Parts × ℕ)
 in_turn [] s p from = accepts (p, from)
-in_turn (k ∷ ks) s p from = next k.number (startingAt from (k.reads p (drop from s))) (in_turn ks s)
+in_turn (k ∷ ks) s p from = next k.number (starting_at from (k.reads p (drop from s))) (in_turn ks s)
 
 -- the number of the last part, n where there are none
 abbrev pub last_of : ℕ → List JobPart → ℕ
@@ -75,21 +75,21 @@ ended last s (p, end) = cond (ltb end (length s)) (refuses 12 last end) (accepts
 -- part 1, and then the others in their order: a refusal's number, part and position from the job's start, or the parts
 unfoldable pub outcome : List ℕ → Outcome Parts
 outcome s =
-    next 1 (registerInJob s) λ one end.
+    next 1 (register_in_job s) λ one end.
     let reg = one.parsed in
-    and_then (in_turn (order reg) s (ofRegister reg) end) (ended (last_of 1 (order reg)) s)
+    and_then (in_turn (order reg) s (of_register reg) end) (ended (last_of 1 (order reg)) s)
 
 -- the bound, the cost of the plan, and the gap
 
-abbrev pub boundOf : Parts → ℤ
-boundOf p = bound p.certificate
+abbrev pub bound_of : Parts → ℤ
+bound_of p = bound p.certificate
 
-abbrev pub costOf : Parts → ℤ
-costOf p = cost (coefficient p.register) p.register p.plan
+abbrev pub cost_of : Parts → ℤ
+cost_of p = cost (coefficient p.register) p.register p.plan
 
 -- gap = cost − bound
 abbrev pub gap_of : Parts → ℤ
-gap_of p = costOf p -ℤ boundOf p
+gap_of p = cost_of p -ℤ bound_of p
 
 -- ---- the table after a job: R once the certificate's commands are read to their end, whatever follows; else unchanged
 
@@ -99,12 +99,12 @@ before n [] = []
 before n (k ∷ ks) = cond (eqb k.number n) [] (k ∷ before n ks)
 
 -- once parts 1 and 2 are read, and part 3 starts at a position
-abbrev pub tableFromCertificate : List ℕ → Register → Scheme → ℕ → List ℤ → List ℤ
-tableFromCertificate s reg sch from lent = withResidual reg sch (commandsInJob reg sch (drop from s)) lent
+abbrev pub table_from_certificate : List ℕ → Register → Scheme → ℕ → List ℤ → List ℤ
+table_from_certificate s reg sch from lent = with_residual reg sch (commands_in_job reg sch (drop from s)) lent
 
 -- by what the parts before part 3 lead to
-abbrev pub tableBy : List ℕ → List ℤ → Outcome (Parts × ℕ) → List ℤ
-tableBy s lent x = answerBy (λ number part at. lent) (λ (p, from). tableFromCertificate s p.register p.scheme from lent) x
+abbrev pub table_by : List ℕ → List ℤ → Outcome (Parts × ℕ) → List ℤ
+table_by s lent x = answer_by (λ number part at. lent) (λ (p, from). table_from_certificate s p.register p.scheme from lent) x
 
-unfoldable pub tableAfter : List ℕ → List ℤ → List ℤ
-tableAfter s lent = tableBy s lent (next 1 (registerInJob s) λ one end. let reg = one.parsed in in_turn (before 3 (order reg)) s (ofRegister reg) end)
+unfoldable pub table_after : List ℕ → List ℤ → List ℤ
+table_after s lent = table_by s lent (next 1 (register_in_job s) λ one end. let reg = one.parsed in in_turn (before 3 (order reg)) s (of_register reg) end)

@@ -4,21 +4,21 @@ use Rattle.wire.specs.Outcome.{Outcome, and_then}
 use Rattle.register.specs.declared.Register.{Register}
 use Rattle.scheme.specs.declared.Scheme.{Scheme}
 use Rattle.certificate.specs.Certificate.{Certificate}
-use Rattle.job.specs.Outcome.{Parts, ofRegister, withScheme, withCertificate, JobPart, partTwo, partThree, partFour, order, in_turn, ended, tableBy}
+use Rattle.job.specs.Outcome.{Parts, of_register, with_scheme, with_certificate, JobPart, part_two, part_three, part_four, order, in_turn, ended, table_by}
 
 -- these parts from a position on, with those before them, and the job's end
 abbrev pub rest : List ℕ → List JobPart → Parts → ℕ → Outcome Parts
 rest s ks p from = and_then (in_turn ks s p from) (ended 4 s)
 
-abbrev pub fromScheme : List ℕ → Register → ℕ → Outcome Parts
-fromScheme s reg from = rest s (order reg) (ofRegister reg) from
+abbrev pub from_scheme : List ℕ → Register → ℕ → Outcome Parts
+from_scheme s reg from = rest s (order reg) (of_register reg) from
 
-abbrev pub fromCertificate : List ℕ → Register → Scheme → ℕ → Outcome Parts
-fromCertificate s reg sch from = rest s (partThree ∷ partFour ∷ []) (withScheme (ofRegister reg) sch) from
+abbrev pub from_certificate : List ℕ → Register → Scheme → ℕ → Outcome Parts
+from_certificate s reg sch from = rest s (part_three ∷ part_four ∷ []) (with_scheme (of_register reg) sch) from
 
-abbrev pub fromPlan : List ℕ → Register → Scheme → Certificate → ℕ → Outcome Parts
-fromPlan s reg sch cert from = rest s (partFour ∷ []) (withCertificate (withScheme (ofRegister reg) sch) cert) from
+abbrev pub from_plan : List ℕ → Register → Scheme → Certificate → ℕ → Outcome Parts
+from_plan s reg sch cert from = rest s (part_four ∷ []) (with_certificate (with_scheme (of_register reg) sch) cert) from
 
 -- the table
-abbrev pub tableFromScheme : List ℕ → Register → ℕ → List ℤ → List ℤ
-tableFromScheme s reg from lent = tableBy s lent (in_turn (partTwo ∷ []) s (ofRegister reg) from)
+abbrev pub table_from_scheme : List ℕ → Register → ℕ → List ℤ → List ℤ
+table_from_scheme s reg from lent = table_by s lent (in_turn (part_two ∷ []) s (of_register reg) from)

@@ -3,16 +3,16 @@
 #![tactic(auto)]
 
 ghost use Rattle.std.specs.Prelude.{◌≡◌, ◌≤◌, ◌<◌, nat_abs, length};
-ghost use Rattle.forms.specs.Table.{tableNumbers};
+ghost use Rattle.forms.specs.Table.{table_numbers};
 ghost use Rattle.register.specs.Valid.{Within, Valid as RegisterValid};
 ghost use Rattle.scheme.specs.Valid.{Valid as SchemeValid};
-ghost use Rattle.certificate.specs.Limits.{maxTarget};
+ghost use Rattle.certificate.specs.Limits.{max_target};
 ghost use Rattle.certificate.specs.Certificate.{Certificate};
-ghost use Rattle.bound.specs.Bound.{bound as boundIn};
-ghost use Rattle.job.specs.Tally.{suppliers, raised as oneMore, withAccepted, withRefused, fresh as freshTally, withPair};
-ghost use Rattle.job.specs.Outcome.{outcome, tableAfter, tableFromCertificate};
-ghost use Rattle.job.specs.Rest.{fromScheme, fromCertificate, fromPlan, tableFromScheme};
-ghost use Rattle.job.specs.Answer.{refusedRead, acceptedRead, jobRead, refusedAnswer, jobAnswer, jobTable};
+ghost use Rattle.bound.specs.Bound.{bound as bound_in};
+ghost use Rattle.job.specs.Tally.{suppliers, raised as one_more, with_accepted, with_refused, fresh as fresh_tally, with_pair};
+ghost use Rattle.job.specs.Outcome.{outcome, table_after, table_from_certificate};
+ghost use Rattle.job.specs.Rest.{from_scheme, from_certificate, from_plan, table_from_scheme};
+ghost use Rattle.job.specs.Answer.{refused_read, accepted_read, job_read, refused_answer, job_answer, job_table};
 
 use bound::check::check_certificate;
 use forms::WorkingTable;
@@ -67,7 +67,7 @@ impl Counters {
     pub const MAX_COUNT: u32 = 4_294_967_295;
 
     fn raised(count: u32) -> u32
-        ensures { result ≡ oneMore count }
+        ensures { result ≡ one_more count }
     {
         if count < Counters::MAX_COUNT {
             return count + 1;
@@ -76,7 +76,7 @@ impl Counters {
     }
 
     fn with_accepted(self) -> Counters
-        ensures { result ≡ withAccepted self }
+        ensures { result ≡ with_accepted self }
     {
         Counters {
             accepted: Counters::raised(self.accepted),
@@ -85,7 +85,7 @@ impl Counters {
     }
 
     fn with_refused(self) -> Counters
-        ensures { result ≡ withRefused self }
+        ensures { result ≡ with_refused self }
     {
         Counters {
             accepted: self.accepted,
@@ -99,7 +99,7 @@ impl Tally {
     pub const SUPPLIERS: usize = 16;
 
     pub fn fresh() -> Tally
-        ensures { result ≡ freshTally }
+        ensures { result ≡ fresh_tally }
     {
         let none = Counters {
             accepted: 0,
@@ -113,7 +113,7 @@ impl Tally {
     // The same tally with another pair for a supplier.
     fn with_pair(self, supplier: usize, pair: Counters) -> Tally
         requires { supplier < suppliers }
-        ensures { result ≡ withPair supplier pair self }
+        ensures { result ≡ with_pair supplier pair self }
     {
         let mut next = self;
         next.pairs[supplier] = pair;
@@ -123,7 +123,7 @@ impl Tally {
 
 impl JobRead {
     fn refused(number: u8, part: u8, position: usize) -> JobRead
-        ensures { result ≡ refusedRead number part position }
+        ensures { result ≡ refused_read number part position }
     {
         JobRead {
             number: number,
@@ -139,8 +139,8 @@ impl JobRead {
 
     fn accepted(register: Register, plan: u32, bound: i64) -> JobRead
         requires within { Within register }
-        requires bound_bound { nat_abs bound ≤ maxTarget }
-        ensures { result ≡ acceptedRead register plan bound }
+        requires bound_bound { nat_abs bound ≤ max_target }
+        ensures { result ≡ accepted_read register plan bound }
     {
         let cost = cost_of(register, plan);
         let gap = cost - bound;
@@ -159,7 +159,7 @@ impl JobRead {
 
 impl JobAnswer {
     fn refused(number: u8, part: u8, position: usize, tally: Tally) -> JobAnswer
-        ensures { result ≡ refusedAnswer number part position tally }
+        ensures { result ≡ refused_answer number part position tally }
     {
         JobAnswer {
             number: number,
@@ -177,9 +177,9 @@ impl JobAnswer {
 fn from_plan(job: &[u8], from: usize, register: Register, bound: i64) -> JobRead
     requires from_in_bounds { from ≤ length job.now }
     requires within { Within register }
-    requires bound_bound { nat_abs bound ≤ maxTarget }
-    ensures { (scheme : Scheme) (certificate : Certificate) → bound ≡ boundIn certificate →
-        result ≡ jobRead (fromPlan job.now register scheme certificate from) }
+    requires bound_bound { nat_abs bound ≤ max_target }
+    ensures { (scheme : Scheme) (certificate : Certificate) → bound ≡ bound_in certificate →
+        result ≡ job_read (from_plan job.now register scheme certificate from) }
 {
     let part = read_plan(&job[from..], register);
     let number = part.number;
@@ -204,9 +204,9 @@ fn from_certificate(
     requires from_in_bounds { from ≤ length job.now }
     requires register_valid { RegisterValid register }
     requires scheme_valid { SchemeValid register scheme }
-    requires table_numbers_in_bounds { tableNumbers ≤ length table.old }
-    ensures value { result ≡ jobRead (fromCertificate job.now register scheme from) }
-    ensures table_after { table.new ≡ tableFromCertificate job.now register scheme from table.old }
+    requires table_numbers_in_bounds { table_numbers ≤ length table.old }
+    ensures value { result ≡ job_read (from_certificate job.now register scheme from) }
+    ensures table_after { table.new ≡ table_from_certificate job.now register scheme from table.old }
 {
     let part = check_certificate(&job[from..], register, scheme, table);
     let number = part.number;
@@ -221,9 +221,9 @@ fn from_certificate(
 fn from_scheme(job: &[u8], from: usize, register: Register, table: &mut [i64]) -> JobRead
     requires from_in_bounds { from ≤ length job.now }
     requires register_valid { RegisterValid register }
-    requires table_numbers_in_bounds { tableNumbers ≤ length table.old }
-    ensures value { result ≡ jobRead (fromScheme job.now register from) }
-    ensures table_after { table.new ≡ tableFromScheme job.now register from table.old }
+    requires table_numbers_in_bounds { table_numbers ≤ length table.old }
+    ensures value { result ≡ job_read (from_scheme job.now register from) }
+    ensures table_after { table.new ≡ table_from_scheme job.now register from table.old }
 {
     let part = read_scheme(&job[from..], register);
     let number = part.number;
@@ -236,9 +236,9 @@ fn from_scheme(job: &[u8], from: usize, register: Register, table: &mut [i64]) -
 
 // The four parts after each other. The table holds R where `3F` is reached.
 pub fn read_job(job: &[u8], table: &mut [i64]) -> JobRead
-    requires { tableNumbers ≤ length table.old }
-    ensures value { result ≡ jobRead (outcome job.now) }
-    ensures table_after { table.new ≡ tableAfter job.now table.old }
+    requires { table_numbers ≤ length table.old }
+    ensures value { result ≡ job_read (outcome job.now) }
+    ensures table_after { table.new ≡ table_after job.now table.old }
 {
     let part = read_register(job);
     let number = part.number;
@@ -257,8 +257,8 @@ pub extern "C" fn feedcheck_job(
     supplier: u8,
     tally: Tally,
 ) -> JobAnswer
-    ensures value { result ≡ jobAnswer job.now table.old supplier tally }
-    ensures table_after { table.new ≡ jobTable job.now table.old supplier }
+    ensures value { result ≡ job_answer job.now table.old supplier tally }
+    ensures table_after { table.new ≡ job_table job.now table.old supplier }
 {
     let index = supplier as usize;
     if index >= Tally::SUPPLIERS {

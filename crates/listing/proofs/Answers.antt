@@ -10,68 +10,68 @@ use lib.ListN.{length, take, drop}
 use lib.Seq.{take_at}
 use borrow.Author.Tests.{lt-ltb, le-ltb}
 use Rattle.integers.proofs.Lists.{flag}
-use Rattle.forms.specs.Table.{tableNumbers}
-use Rattle.job.specs.Outcome.{outcome, tableAfter}
+use Rattle.forms.specs.Table.{table_numbers}
+use Rattle.job.specs.Outcome.{outcome, table_after}
 use Rattle.wire.specs.declared.WriterAnswer.{WriterAnswer}
 use Rattle.wire.specs.Number.{written}
-use Rattle.wire.specs.Writer.{refusedAnswer, writtenAnswer, bytesAnswer, withFront}
-use Rattle.wire.proofs.Written.{written-front}
-use Rattle.wire.proofs.Writer.{HandedBack, bytes-short, bytes_fit, bytes_back}
+use Rattle.wire.specs.Writer.{refused_answer, written_answer, bytes_answer, with_front}
+use Rattle.wire.proofs.Written.{written_front}
+use Rattle.wire.proofs.Writer.{HandedBack, bytes_short, bytes_fit, bytes_back}
 use Rattle.listing.specs.Listing.{PlanLines, listed}
-use Rattle.listing.specs.Answer.{listingRoom, answerWith, bufferWith, listingTable}
+use Rattle.listing.specs.Answer.{listing_room, answer_with, buffer_with, listing_table}
 
 -- ---- bytes and a lent buffer
 
 module _ (bytes lent : List ℕ) where
   abbrev Leaves : WriterAnswer → List ℕ → Type 0
-  Leaves a out = (a ≡ bytesAnswer bytes lent) × (out ≡ withFront bytes lent)
+  Leaves a out = (a ≡ bytes_answer bytes lent) × (out ≡ with_front bytes lent)
 
-  pub no_room : (count : ℕ) → count ≡ length bytes → length lent < count → Leaves (refusedAnswer 11 0 0) lent
-  no_room count e l = bytes-short bytes lent (omega arith)
+  pub no_room : (count : ℕ) → count ≡ length bytes → length lent < count → Leaves (refused_answer 11 0 0) lent
+  no_room count e l = bytes_short bytes lent (omega arith)
 
   -- the bytes at the front of an array, copied
   pub copied : (own : List ℕ) (count : ℕ) (array out : List ℕ) → count ≡ length bytes → array ≡ written own 0 bytes → length bytes ≤ length own →
-      count ≤ length lent → out ≡ take count array ++ drop count lent → Leaves (writtenAnswer count) out
+      count ≤ length lent → out ≡ take count array ++ drop count lent → Leaves (written_answer count) out
   copied own count array out e f h l d =
       let fit : length bytes ≤ length lent = omega arith in
       let w = bytes_fit bytes lent fit in
-      let front : take (length bytes) array ≡ bytes = ap (take (length bytes)) (f ∙ written-front own bytes h) ∙ take_at bytes (drop (length bytes) own) (length bytes) refl in
-      (ap writtenAnswer e ∙ w.0, d ∙ rw (e, front) (sym (written-front lent bytes fit)) ∙ w.1)
+      let front : take (length bytes) array ≡ bytes = ap (take (length bytes)) (f ∙ written_front own bytes h) ∙ take_at bytes (drop (length bytes) own) (length bytes) refl in
+      (ap written_answer e ∙ w.0, d ∙ rw (e, front) (sym (written_front lent bytes fit)) ∙ w.1)
 
 -- ---- the call
 
 module _ (lines : PlanLines) (job : List ℕ) (table : List ℤ) (buffer : List ℕ) where
   abbrev Answered : WriterAnswer → List ℤ → List ℕ → Type 0
-  Answered a table' buffer' = (a ≡ answerWith lines job table buffer) × ((table' ≡ listingTable job table) × (buffer' ≡ bufferWith lines job table buffer))
+  Answered a table' buffer' = (a ≡ answer_with lines job table buffer) × ((table' ≡ listing_table job table) × (buffer' ≡ buffer_with lines job table buffer))
 
-  pub short-table : length table < tableNumbers → Answered (refusedAnswer 11 0 0) table buffer
-  unfolding answerWith listingTable bufferWith
-  short-table l = let t = lt-ltb (length table) tableNumbers l in (rw t, (rw t, rw t))
+  pub short_table : length table < table_numbers → Answered (refused_answer 11 0 0) table buffer
+  unfolding answer_with listing_table buffer_with
+  short_table l = let t = lt-ltb (length table) table_numbers l in (rw t, (rw t, rw t))
 
-  pub long-table : tableNumbers ≤ length table → (bytes : List ℕ) → bytes ≡ listed lines (outcome job) → (a : WriterAnswer) (table' : List ℤ) (buffer' : List ℕ) →
-      table' ≡ tableAfter job table → (a ≡ bytesAnswer bytes buffer) × (buffer' ≡ withFront bytes buffer) → Answered a table' buffer'
-  unfolding answerWith listingTable bufferWith
-  long-table l bytes e a table' buffer' d w =
-      let t = le-ltb (length table) tableNumbers l in
+  pub long_table : table_numbers ≤ length table → (bytes : List ℕ) → bytes ≡ listed lines (outcome job) → (a : WriterAnswer) (table' : List ℤ) (buffer' : List ℕ) →
+      table' ≡ table_after job table → (a ≡ bytes_answer bytes buffer) × (buffer' ≡ with_front bytes buffer) → Answered a table' buffer'
+  unfolding answer_with listing_table buffer_with
+  long_table l bytes e a table' buffer' d w =
+      let t = le-ltb (length table) table_numbers l in
       (w.0 ∙ rw (t, e), (d ∙ rw t, w.1 ∙ rw (t, e)))
 
   -- where the call answers 0, it hands the lines back
-  pub handed-back : (answerWith lines job table buffer).number ≡ 0 → HandedBack (listed lines (outcome job)) buffer (answerWith lines job table buffer) (bufferWith lines job table buffer)
-  unfolding answerWith bufferWith
-  handed-back z = flag (ltb (length table) tableNumbers) short λ t. bytes_back (listed lines (outcome job)) buffer _ _ (rw t) (rw t) z
+  pub handed_back : (answer_with lines job table buffer).number ≡ 0 → HandedBack (listed lines (outcome job)) buffer (answer_with lines job table buffer) (buffer_with lines job table buffer)
+  unfolding answer_with buffer_with
+  handed_back z = flag (ltb (length table) table_numbers) short λ t. bytes_back (listed lines (outcome job)) buffer _ _ (rw t) (rw t) z
     where
-      short : ltb (length table) tableNumbers ≡ true → HandedBack (listed lines (outcome job)) buffer (answerWith lines job table buffer) (bufferWith lines job table buffer)
+      short : ltb (length table) table_numbers ≡ true → HandedBack (listed lines (outcome job)) buffer (answer_with lines job table buffer) (buffer_with lines job table buffer)
       short t =
-          let w : answerWith lines job table buffer ≡ refusedAnswer 11 0 0 = rw t in
+          let w : answer_with lines job table buffer ≡ refused_answer 11 0 0 = rw t in
           let n : ◌≡◌ {A = ℕ} 11 0 = ap (λ x. x.number) (sym w) ∙ z in
           absurd (omega arith)
 
   -- a buffer that has room for every listing
-  pub enough : tableNumbers ≤ length table → listingRoom ≤ length buffer → length (listed lines (outcome job)) ≤ listingRoom →
-      (answerWith lines job table buffer ≡ writtenAnswer (length (listed lines (outcome job)))) × (bufferWith lines job table buffer ≡ listed lines (outcome job) ++ drop (length (listed lines (outcome job))) buffer)
-  unfolding answerWith bufferWith
+  pub enough : table_numbers ≤ length table → listing_room ≤ length buffer → length (listed lines (outcome job)) ≤ listing_room →
+      (answer_with lines job table buffer ≡ written_answer (length (listed lines (outcome job)))) × (buffer_with lines job table buffer ≡ listed lines (outcome job) ++ drop (length (listed lines (outcome job))) buffer)
+  unfolding answer_with buffer_with
   enough l m k =
-      let t = le-ltb (length table) tableNumbers l in
+      let t = le-ltb (length table) table_numbers l in
       let fit : length (listed lines (outcome job)) ≤ length buffer = omega arith in
       let w = bytes_fit (listed lines (outcome job)) buffer fit in
-      (rw t (sym w.0), rw t (sym w.1 ∙ written-front buffer (listed lines (outcome job)) fit))
+      (rw t (sym w.0), rw t (sym w.1 ∙ written_front buffer (listed lines (outcome job)) fit))

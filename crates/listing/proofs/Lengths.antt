@@ -11,117 +11,117 @@ use lib.Dec.{eqb}
 use mir.Syntax.{w64}
 use mir.Val.{SFits}
 use Rattle.integers.specs.Integer.{bit}
-use Rattle.integers.specs.Lists.{joinBelow}
+use Rattle.integers.specs.Lists.{join_below}
 use Rattle.integers.proofs.Lists.{flag, cond_cases}
-use Rattle.integers.proofs.Machine.{signed-small}
+use Rattle.integers.proofs.Machine.{signed_small}
 use Rattle.register.specs.declared.Register.{Register}
-use Rattle.register.specs.Limits.{maxChoices, maxTank, longDay}
+use Rattle.register.specs.Limits.{max_choices, max_tank, long_day}
 use Rattle.register.specs.Register.{tank, minute}
 use Rattle.register.specs.Valid.{Within}
-use Rattle.register.proofs.Entries.{day-within}
-use Rattle.sets.specs.Sets.{isMember}
-use Rattle.text.specs.Text.{digitsTo, digits, decimal, line}
-use Rattle.text.proofs.Lines.{line-no-longer, natural-no-longer, integer-no-longer}
+use Rattle.register.proofs.Entries.{day_within}
+use Rattle.sets.specs.Sets.{is_member}
+use Rattle.text.specs.Text.{digits_to, digits, decimal, line}
+use Rattle.text.proofs.Lines.{line_no_longer, natural_no_longer, integer_no_longer}
 use Rattle.job.specs.declared.JobRead.{JobRead}
-use Rattle.listing.specs.Listing.{PlanLines, choiceLine, choiceLines, fedLine, fedLines, supplierLines, boundLine, acceptedLines}
-use Rattle.listing.specs.ByLetter.{linesUnder, linesFor}
-use Rattle.listing.specs.Answer.{longestNumber, longestListing, listingRoom, lines_of}
+use Rattle.listing.specs.Listing.{PlanLines, choice_line, choice_lines, fed_line, fed_lines, supplier_lines, bound_line, accepted_lines}
+use Rattle.listing.specs.ByLetter.{lines_under, lines_for}
+use Rattle.listing.specs.Answer.{longest_number, longest_listing, listing_room, lines_of}
 
 -- the lines under `T`, under `F` and under `C`
 module _ (r : Register) (plan : ℕ) where
-  pub choice-lines : linesUnder 0x54 r plan ≡ choiceLines r
-  unfolding linesUnder choiceLines
-  choice-lines = refl
+  pub choice_lines_lem : lines_under 0x54 r plan ≡ choice_lines r
+  unfolding lines_under choice_lines
+  choice_lines_lem = refl
 
-  pub fed-lines : linesUnder 0x46 r plan ≡ fedLines r plan
-  unfolding linesUnder fedLines
-  fed-lines = refl
+  pub fed_lines_lem : lines_under 0x46 r plan ≡ fed_lines r plan
+  unfolding lines_under fed_lines
+  fed_lines_lem = refl
 
-  pub supplier-lines : linesUnder 0x43 r plan ≡ supplierLines r plan
-  unfolding linesUnder supplierLines
-  supplier-lines = refl
+  pub supplier_lines_lem : lines_under 0x43 r plan ≡ supplier_lines r plan
+  unfolding lines_under supplier_lines
+  supplier_lines_lem = refl
 
 module _ (lines : PlanLines) (r : Register) (plan : ℕ) (bound cost gap : ℤ) where
-  pub accepted-is : acceptedLines lines r plan bound cost gap ≡ lines r plan ++ boundLine bound cost gap
-  unfolding acceptedLines
-  accepted-is = refl
+  pub accepted_is : accepted_lines lines r plan bound cost gap ≡ lines r plan ++ bound_line bound cost gap
+  unfolding accepted_lines
+  accepted_is = refl
 
-  pub length-accepted : length (acceptedLines lines r plan bound cost gap) ≡ length (lines r plan) + length (boundLine bound cost gap)
-  length-accepted = ap length accepted-is ∙ length-append (lines r plan) (boundLine bound cost gap)
+  pub length_accepted : length (accepted_lines lines r plan bound cost gap) ≡ length (lines r plan) + length (bound_line bound cost gap)
+  length_accepted = ap length accepted_is ∙ length-append (lines r plan) (bound_line bound cost gap)
 
 -- ---- bounds
 
-joins-short : (n : ℕ) (f : ℕ → List ℕ) (b : ℕ) → ((i : ℕ) → i < n → length (f i) ≤ b) → (m : ℕ) → n ≤ m → length (joinBelow n f) ≤ m * b
-unfolding joinBelow
-joins-short zero f b h m l = omega arith
-joins-short (suc n) f b h zero l = absurd (omega arith)
-joins-short (suc n) f b h (suc m) l =
-    rw (length-append (joinBelow n f) (f n), suc-mul) (omega (arith, joins-short n f b (λ i l. h i (omega arith)) m (omega arith), h n (omega arith)))
+joins_short : (n : ℕ) (f : ℕ → List ℕ) (b : ℕ) → ((i : ℕ) → i < n → length (f i) ≤ b) → (m : ℕ) → n ≤ m → length (join_below n f) ≤ m * b
+unfolding join_below
+joins_short zero f b h m l = omega arith
+joins_short (suc n) f b h zero l = absurd (omega arith)
+joins_short (suc n) f b h (suc m) l =
+    rw (length-append (join_below n f) (f n), suc-mul) (omega (arith, joins_short n f b (λ i l. h i (omega arith)) m (omega arith), h n (omega arith)))
 
 module _ (r : Register) (w : Within r) where
-  last-minute : (i : ℕ) → i < r.choices → minute r i ≤ longDay - 1
-  last-minute i l = omega (arith, (w.choices.each i l).minute-below, day-within r w)
+  last_minute : (i : ℕ) → i < r.choices → minute r i ≤ long_day - 1
+  last_minute i l = omega (arith, (w.choices.each i l).minute_below, day_within r w)
 
-  choices-short : length (choiceLines r) ≤ maxChoices * length (choiceLine maxChoices maxTank (longDay - 1))
-  unfolding choiceLines
-  choices-short = joins-short r.choices _ _ (λ i l.
+  choices_short : length (choice_lines r) ≤ max_choices * length (choice_line max_choices max_tank (long_day - 1))
+  unfolding choice_lines
+  choices_short = joins_short r.choices _ _ (λ i l.
       let c = w.choices.each i l in
-      line-no-longer 0x54 0x54 (pos i ∷ pos (tank r i) ∷ pos (minute r i) ∷ []) (pos maxChoices ∷ pos maxTank ∷ pos (longDay - 1) ∷ [])
-      (natural-no-longer _ _ (omega (arith, w.choices.few)), (natural-no-longer _ _ c.tank-within, (natural-no-longer _ _ (last-minute i l), tt))))
-      maxChoices w.choices.few
+      line_no_longer 0x54 0x54 (pos i ∷ pos (tank r i) ∷ pos (minute r i) ∷ []) (pos max_choices ∷ pos max_tank ∷ pos (long_day - 1) ∷ [])
+      (natural_no_longer _ _ (omega (arith, w.choices.few)), (natural_no_longer _ _ c.tank_within, (natural_no_longer _ _ (last_minute i l), tt))))
+      max_choices w.choices.few
 
-  pub fed-short : (plan : ℕ) → length (fedLines r plan) ≤ maxChoices * length (fedLine maxTank (longDay - 1))
-  unfolding fedLines
-  fed-short plan = joins-short r.choices _ _ (λ i l.
+  pub fed_short : (plan : ℕ) → length (fed_lines r plan) ≤ max_choices * length (fed_line max_tank (long_day - 1))
+  unfolding fed_lines
+  fed_short plan = joins_short r.choices _ _ (λ i l.
       let c = w.choices.each i l in
-      cond_cases (λ x. length x ≤ length (fedLine maxTank (longDay - 1))) (isMember i plan) (fedLine (tank r i) (minute r i)) []
-      (λ _. line-no-longer 0x46 0x46 (pos (tank r i) ∷ pos (minute r i) ∷ []) (pos maxTank ∷ pos (longDay - 1) ∷ []) (natural-no-longer _ _ c.tank-within, (natural-no-longer _ _ (last-minute i l), tt)))
+      cond_cases (λ x. length x ≤ length (fed_line max_tank (long_day - 1))) (is_member i plan) (fed_line (tank r i) (minute r i)) []
+      (λ _. line_no_longer 0x46 0x46 (pos (tank r i) ∷ pos (minute r i) ∷ []) (pos max_tank ∷ pos (long_day - 1) ∷ []) (natural_no_longer _ _ c.tank_within, (natural_no_longer _ _ (last_minute i l), tt)))
       (λ _. omega arith))
-      maxChoices w.choices.few
+      max_choices w.choices.few
 
-  supplier-short : (plan : ℕ) → length (supplierLines r plan) ≤ maxChoices * length (choiceLine maxChoices maxTank (longDay - 1))
-  unfolding supplierLines
-  supplier-short plan = joins-short r.choices _ _ (λ i l.
-      line-no-longer 0x43 0x54 (pos i ∷ bit (isMember i plan) ∷ []) (pos maxChoices ∷ pos maxTank ∷ pos (longDay - 1) ∷ [])
-      (natural-no-longer _ _ (omega (arith, w.choices.few)), (bit-short (isMember i plan), tt)))
-      maxChoices w.choices.few
+  supplier_short : (plan : ℕ) → length (supplier_lines r plan) ≤ max_choices * length (choice_line max_choices max_tank (long_day - 1))
+  unfolding supplier_lines
+  supplier_short plan = joins_short r.choices _ _ (λ i l.
+      line_no_longer 0x43 0x54 (pos i ∷ bit (is_member i plan) ∷ []) (pos max_choices ∷ pos max_tank ∷ pos (long_day - 1) ∷ [])
+      (natural_no_longer _ _ (omega (arith, w.choices.few)), (bit_short (is_member i plan), tt)))
+      max_choices w.choices.few
     where
-      bit-short : (b : Bool) → length (decimal (bit b)) ≤ length (decimal (pos maxTank))
-      bit-short true = natural-no-longer 1 maxTank (omega arith)
-      bit-short false = natural-no-longer 0 maxTank (omega arith)
+      bit_short : (b : Bool) → length (decimal (bit b)) ≤ length (decimal (pos max_tank))
+      bit_short true = natural_no_longer 1 max_tank (omega arith)
+      bit_short false = natural_no_longer 0 max_tank (omega arith)
 
   -- for a supplier and for a farm
-  plan-short : (supplier : Bool) (plan : ℕ) → length (linesFor supplier r plan) ≤ maxChoices * (length (choiceLine maxChoices maxTank (longDay - 1)) + length (fedLine maxTank (longDay - 1)))
-  plan-short true plan = omega (arith, supplier-short plan)
-  plan-short false plan = omega (arith, length-append (choiceLines r) (fedLines r plan), choices-short, fed-short plan)
+  plan_short : (supplier : Bool) (plan : ℕ) → length (lines_for supplier r plan) ≤ max_choices * (length (choice_line max_choices max_tank (long_day - 1)) + length (fed_line max_tank (long_day - 1)))
+  plan_short true plan = omega (arith, supplier_short plan)
+  plan_short false plan = omega (arith, length-append (choice_lines r) (fed_lines r plan), choices_short, fed_short plan)
 
 -- numbers of 64 bits
-pub small-no-longer : (z : ℤ) → nat_abs z ≤ 2 ^ 63 → length (decimal z) ≤ length (decimal longestNumber)
-small-no-longer z h = integer-no-longer z (2 ^ 63 - 1) h
+pub small_no_longer : (z : ℤ) → nat_abs z ≤ 2 ^ 63 → length (decimal z) ≤ length (decimal longest_number)
+small_no_longer z h = integer_no_longer z (2 ^ 63 - 1) h
 
-pub lines-short : (supplier : Bool) (read : JobRead) → Within read.register → read.number < 2 ^ 8 → read.position < 2 ^ 63 →
-    SFits w64 read.bound → SFits w64 read.cost → SFits w64 read.gap → length (lines_of (linesFor supplier) read) ≤ longestListing
-unfolding lines_of longestListing
-lines-short supplier read w n p b c g =
+pub lines_short : (supplier : Bool) (read : JobRead) → Within read.register → read.number < 2 ^ 8 → read.position < 2 ^ 63 →
+    SFits w64 read.bound → SFits w64 read.cost → SFits w64 read.gap → length (lines_of (lines_for supplier) read) ≤ longest_listing
+unfolding lines_of longest_listing
+lines_short supplier read w n p b c g =
     let r = read.register in
     flag (eqb read.number 0)
     (λ t. rw t (omega (
       arith,
-      length-accepted (linesFor supplier) r read.plan read.bound read.cost read.gap,
-      plan-short r w supplier read.plan,
-      line-no-longer 0x42 0x42 (read.bound ∷ read.cost ∷ read.gap ∷ []) (longestNumber ∷ longestNumber ∷ longestNumber ∷ [])
-          (small-no-longer _ (signed-small w64 read.bound b), (small-no-longer _ (signed-small w64 read.cost c), (small-no-longer _ (signed-small w64 read.gap g), tt))),
+      length_accepted (lines_for supplier) r read.plan read.bound read.cost read.gap,
+      plan_short r w supplier read.plan,
+      line_no_longer 0x42 0x42 (read.bound ∷ read.cost ∷ read.gap ∷ []) (longest_number ∷ longest_number ∷ longest_number ∷ [])
+          (small_no_longer _ (signed_small w64 read.bound b), (small_no_longer _ (signed_small w64 read.cost c), (small_no_longer _ (signed_small w64 read.gap g), tt))),
     )))
     (λ f. rw f (omega (
       arith,
-      line-no-longer 0x52 0x42 (pos read.number ∷ pos read.position ∷ []) (longestNumber ∷ longestNumber ∷ longestNumber ∷ [])
-          (small-no-longer (pos read.number) (omega arith), (small-no-longer (pos read.position) (omega arith), tt)),
+      line_no_longer 0x52 0x42 (pos read.number ∷ pos read.position ∷ []) (longest_number ∷ longest_number ∷ longest_number ∷ [])
+          (small_no_longer (pos read.number) (omega arith), (small_no_longer (pos read.position) (omega arith), tt)),
     )))
 
-pub longest-is : longestListing ≡ 929
-unfolding longestListing line flat_map decimal digits digitsTo
-longest-is = refl
+pub longest_is : longest_listing ≡ 929
+unfolding longest_listing line flat_map decimal digits digits_to
+longest_is = refl
 
 -- the room that users are told is enough for the longest listing
-pub longest-fits : longestListing ≤ listingRoom
-longest-fits = omega (arith, longest-is)
+pub longest_fits : longest_listing ≤ listing_room
+longest_fits = omega (arith, longest_is)

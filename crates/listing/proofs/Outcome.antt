@@ -11,50 +11,50 @@ use mir.Val.{SFits}
 use borrow.Author.Tests.{ne_eqb}
 use Rattle.wire.specs.Outcome.{Outcome, refuses, accepts}
 use Rattle.register.specs.Valid.{Within}
-use Rattle.register.proofs.Entries.{fresh-within}
+use Rattle.register.proofs.Entries.{fresh_within}
 use Rattle.integers.proofs.Machine.{fits_signed}
-use Rattle.integers.proofs.Order.{natAbs-sub}
-use Rattle.plan.proofs.Bounds.{cost-small}
-use Rattle.job.specs.Outcome.{Parts, outcome, boundOf, costOf, gap_of}
-use Rattle.job.specs.Answer.{jobRead}
-use Rattle.bound.proofs.Bound.{bound-small}
-use Rattle.job.proofs.Sound.{Sound, outcome-sound}
-use Rattle.job.proofs.Prefix.{jobReach, reach-is}
-use Rattle.job.proofs.Ranges.{Ranged, outcome-ranged}
+use Rattle.integers.proofs.Order.{nat_abs_sub}
+use Rattle.plan.proofs.Bounds.{cost_small}
+use Rattle.job.specs.Outcome.{Parts, outcome, bound_of, cost_of, gap_of}
+use Rattle.job.specs.Answer.{job_read}
+use Rattle.bound.proofs.Bound.{bound_small}
+use Rattle.job.proofs.Sound.{Sound, outcome_sound}
+use Rattle.job.proofs.Prefix.{job_reach, reach_is}
+use Rattle.job.proofs.Ranges.{Ranged, outcome_ranged}
 use Rattle.listing.specs.Listing.{PlanLines, listed}
-use Rattle.listing.specs.ByLetter.{linesFor}
-use Rattle.listing.specs.Answer.{longestListing, listingRoom, lines_of}
-use Rattle.listing.proofs.Lengths.{lines-short, longest-fits}
+use Rattle.listing.specs.ByLetter.{lines_for}
+use Rattle.listing.specs.Answer.{longest_listing, listing_room, lines_of}
+use Rattle.listing.proofs.Lengths.{lines_short, longest_fits}
 
-pub read-within : (o : Outcome Parts) → Sound o → Within (jobRead o).register
-read-within (refuses number part at) h = fresh-within
-read-within (accepts p) h = h.register.within
+pub read_within : (o : Outcome Parts) → Sound o → Within (job_read o).register
+read_within (refuses number part at) h = fresh_within
+read_within (accepts p) h = h.register.within
 
-pub read-lines : (lines : PlanLines) (o : Outcome Parts) → Sound o → lines_of lines (jobRead o) ≡ listed lines o
+pub read_lines : (lines : PlanLines) (o : Outcome Parts) → Sound o → lines_of lines (job_read o) ≡ listed lines o
 unfolding lines_of listed
-read-lines lines (refuses number part at) h = rw (ne_eqb number 0 h)
-read-lines lines (accepts p) h = refl
+read_lines lines (refuses number part at) h = rw (ne_eqb number 0 h)
+read_lines lines (accepts p) h = refl
 
-pub read-position : (o : Outcome Parts) → Ranged jobReach o → (jobRead o).position < 2 ^ 63
-read-position (refuses number part at) k = omega (arith, k.1, reach-is)
-read-position (accepts p) k = omega arith
+pub read_position : (o : Outcome Parts) → Ranged job_reach o → (job_read o).position < 2 ^ 63
+read_position (refuses number part at) k = omega (arith, k.1, reach_is)
+read_position (accepts p) k = omega arith
 
 -- the lines of every job, for a farm and for a supplier, are no longer than the longest
-pub listing-longest : (supplier : Bool) (s : List ℕ) → length (listed (linesFor supplier) (outcome s)) ≤ longestListing
-listing-longest supplier s = rw (← (read-lines (linesFor supplier) (outcome s) (outcome-sound s))) (by (outcome s) (outcome-sound s) (outcome-ranged s))
+pub listing_longest : (supplier : Bool) (s : List ℕ) → length (listed (lines_for supplier) (outcome s)) ≤ longest_listing
+listing_longest supplier s = rw (← (read_lines (lines_for supplier) (outcome s) (outcome_sound s))) (by (outcome s) (outcome_sound s) (outcome_ranged s))
   where
     none : SFits w64 (pos 0)
     none = fits_signed w64 (pos 0) (omega arith)
 
-    by : (o : Outcome Parts) → Sound o → Ranged jobReach o → length (lines_of (linesFor supplier) (jobRead o)) ≤ longestListing
-    by (refuses number part at) h k = lines-short supplier (jobRead (refuses number part at)) fresh-within (omega (arith, k.0)) (read-position (refuses number part at) k) none none none
+    by : (o : Outcome Parts) → Sound o → Ranged job_reach o → length (lines_of (lines_for supplier) (job_read o)) ≤ longest_listing
+    by (refuses number part at) h k = lines_short supplier (job_read (refuses number part at)) fresh_within (omega (arith, k.0)) (read_position (refuses number part at) k) none none none
     by (accepts p) h k =
         let w = h.register.within in
-        let c = cost-small p.register p.plan w in
-        let b = bound-small p.certificate h.certificate.within.scale-above h.certificate.within.target-within in
-        lines-short supplier (jobRead (accepts p)) w (omega arith) (omega arith) (fits_signed w64 (boundOf p) (omega (arith, b))) (fits_signed w64 (costOf p) (omega (arith, c)))
-        (fits_signed w64 (gap_of p) (omega (arith, natAbs-sub (costOf p) (boundOf p), b, c)))
+        let c = cost_small p.register p.plan w in
+        let b = bound_small p.certificate h.certificate.within.scale_above h.certificate.within.target_within in
+        lines_short supplier (job_read (accepts p)) w (omega arith) (omega arith) (fits_signed w64 (bound_of p) (omega (arith, b))) (fits_signed w64 (cost_of p) (omega (arith, c)))
+        (fits_signed w64 (gap_of p) (omega (arith, nat_abs_sub (cost_of p) (bound_of p), b, c)))
 
 -- and fit a buffer of 4,096 bytes
-pub listing-short : (supplier : Bool) (s : List ℕ) → length (listed (linesFor supplier) (outcome s)) ≤ listingRoom
-listing-short supplier s = omega (arith, listing-longest supplier s, longest-fits)
+pub listing_short : (supplier : Bool) (s : List ℕ) → length (listed (lines_for supplier) (outcome s)) ≤ listing_room
+listing_short supplier s = omega (arith, listing_longest supplier s, longest_fits)

@@ -4,13 +4,13 @@
 
 ghost use Rattle.std.specs.Prelude.{◌≡◌, ◌++◌, ◌+◌, ◌^◌, ◌≤◌, ◌<◌, length, take, drop};
 ghost use Rattle.job.specs.Outcome.{outcome};
-ghost use Rattle.register.specs.Limits.{maxChoices};
+ghost use Rattle.register.specs.Limits.{max_choices};
 ghost use Rattle.register.specs.Valid.{Within};
 ghost use Rattle.wire.specs.Number.{written};
-ghost use Rattle.wire.specs.Writer.{bytesAnswer, withFront};
-ghost use Rattle.listing.specs.Listing.{acceptedLines, refusalLine, listed, listing, supplierListing};
-ghost use Rattle.listing.specs.ByLetter.{lineUnder, linesUnder, linesFor};
-ghost use Rattle.listing.specs.Answer.{listingRoom, lines_of, answerWith, bufferWith, listingAnswer, listingTable, listingBuffer, supplierAnswer, supplierBuffer};
+ghost use Rattle.wire.specs.Writer.{bytes_answer, with_front};
+ghost use Rattle.listing.specs.Listing.{accepted_lines, refusal_line, listed, listing, supplier_listing};
+ghost use Rattle.listing.specs.ByLetter.{line_under, lines_under, lines_for};
+ghost use Rattle.listing.specs.Answer.{listing_room, lines_of, answer_with, buffer_with, listing_answer, listing_table, listing_buffer, supplier_answer, supplier_buffer};
 
 use forms::WorkingTable;
 use job::{JobRead, read_job};
@@ -36,10 +36,10 @@ fn put_choice(
     tank: u16,
     minute: u16,
 ) -> usize
-    requires choice_le_max_choices { choice ≤ maxChoices }
-    requires minute_in_bounds { at + length (lineUnder letter fed choice tank minute) ≤ length out.old }
-    ensures value { result ≡ at + length (lineUnder letter fed choice tank minute) }
-    ensures out_after { out.new ≡ written out.old at (lineUnder letter fed choice tank minute) }
+    requires choice_le_max_choices { choice ≤ max_choices }
+    requires minute_in_bounds { at + length (line_under letter fed choice tank minute) ≤ length out.old }
+    ensures value { result ≡ at + length (line_under letter fed choice tank minute) }
+    ensures out_after { out.new ≡ written out.old at (line_under letter fed choice tank minute) }
 {
     if letter == 0x54 {
         let numbers = [choice as i64, tank as i64, minute as i64];
@@ -58,10 +58,10 @@ fn put_choice(
 
 // Writes the line of each choice with a letter. Returns the position after them.
 pub fn put_choices(register: Register, plan: u32, letter: u8, out: &mut [u8], start: usize) -> usize
-    requires choices_le_max_choices { register.choices ≤ maxChoices }
-    requires plan_in_bounds { start + length (linesUnder letter register plan) ≤ length out.old }
-    ensures value { result ≡ start + length (linesUnder letter register plan) }
-    ensures out_after { out.new ≡ written out.old start (linesUnder letter register plan) }
+    requires choices_le_max_choices { register.choices ≤ max_choices }
+    requires plan_in_bounds { start + length (lines_under letter register plan) ≤ length out.old }
+    ensures value { result ≡ start + length (lines_under letter register plan) }
+    ensures out_after { out.new ≡ written out.old start (lines_under letter register plan) }
 {
     let mut at = start;
     let mut i = 0;
@@ -83,10 +83,10 @@ pub fn put_choices(register: Register, plan: u32, letter: u8, out: &mut [u8], st
 
 // Writes the lines of the choices at the front, those of a supplier or those of a farm. Returns their count of bytes.
 fn put_plan(register: Register, plan: u32, supplier: bool, out: &mut [u8]) -> usize
-    requires choices_le_max_choices { register.choices ≤ maxChoices }
-    requires plan_in_bounds { length (linesFor supplier register plan) ≤ length out.old }
-    ensures value { result ≡ length (linesFor supplier register plan) }
-    ensures out_after { out.new ≡ written out.old 0 (linesFor supplier register plan) }
+    requires choices_le_max_choices { register.choices ≤ max_choices }
+    requires plan_in_bounds { length (lines_for supplier register plan) ≤ length out.old }
+    ensures value { result ≡ length (lines_for supplier register plan) }
+    ensures out_after { out.new ≡ written out.old 0 (lines_for supplier register plan) }
 {
     if supplier {
         return put_choices(register, plan, 0x43, out, 0);
@@ -105,10 +105,10 @@ fn put_accepted(
     gap: i64,
     out: &mut [u8],
 ) -> usize
-    requires choices_le_max_choices { register.choices ≤ maxChoices }
-    requires gap_in_bounds { length (acceptedLines (linesFor supplier) register plan bound cost gap) ≤ length out.old }
-    ensures value { result ≡ length (acceptedLines (linesFor supplier) register plan bound cost gap) }
-    ensures out_after { out.new ≡ written out.old 0 (acceptedLines (linesFor supplier) register plan bound cost gap) }
+    requires choices_le_max_choices { register.choices ≤ max_choices }
+    requires gap_in_bounds { length (accepted_lines (lines_for supplier) register plan bound cost gap) ≤ length out.old }
+    ensures value { result ≡ length (accepted_lines (lines_for supplier) register plan bound cost gap) }
+    ensures out_after { out.new ≡ written out.old 0 (accepted_lines (lines_for supplier) register plan bound cost gap) }
 {
     let end = put_plan(register, plan, supplier, out);
     let numbers = [bound, cost, gap];
@@ -118,9 +118,9 @@ fn put_accepted(
 // Writes the line of a refusal at the front. Returns its count of bytes.
 pub fn put_refusal(number: u8, position: usize, out: &mut [u8]) -> usize
     requires position_bound { position < 2 ^ 63 }
-    requires position_in_bounds { length (refusalLine number position) ≤ length out.old }
-    ensures value { result ≡ length (refusalLine number position) }
-    ensures out_after { out.new ≡ written out.old 0 (refusalLine number position) }
+    requires position_in_bounds { length (refusal_line number position) ≤ length out.old }
+    ensures value { result ≡ length (refusal_line number position) }
+    ensures out_after { out.new ≡ written out.old 0 (refusal_line number position) }
 {
     let numbers = [number as i64, position as i64];
     text::put_line(out, 0, 0x52, &numbers)
@@ -141,11 +141,11 @@ fn copy_front(from: &[u8], count: usize, out: &mut [u8])
 
 // Writes the lines of what reading a job gave at the front. Returns their count of bytes.
 fn put_lines(read: JobRead, supplier: bool, out: &mut [u8]) -> usize
-    requires choices_le_max_choices { read.register.choices ≤ maxChoices }
+    requires choices_le_max_choices { read.register.choices ≤ max_choices }
     requires position_bound { read.position < 2 ^ 63 }
-    requires read_in_bounds { length (lines_of (linesFor supplier) read) ≤ length out.old }
-    ensures value { result ≡ length (lines_of (linesFor supplier) read) }
-    ensures out_after { out.new ≡ written out.old 0 (lines_of (linesFor supplier) read) }
+    requires read_in_bounds { length (lines_of (lines_for supplier) read) ≤ length out.old }
+    ensures value { result ≡ length (lines_of (lines_for supplier) read) }
+    ensures out_after { out.new ≡ written out.old 0 (lines_of (lines_for supplier) read) }
 {
     let number = read.number;
     if number != 0 {
@@ -166,8 +166,8 @@ fn put_lines(read: JobRead, supplier: bool, out: &mut [u8]) -> usize
 fn write_lines(read: JobRead, supplier: bool, buffer: &mut [u8]) -> WriterAnswer
     requires within { Within read.register }
     requires position_bound { read.position < 2 ^ 63 }
-    ensures value { result ≡ bytesAnswer (lines_of (linesFor supplier) read) buffer.old }
-    ensures buffer_after { buffer.new ≡ withFront (lines_of (linesFor supplier) read) buffer.old }
+    ensures value { result ≡ bytes_answer (lines_of (lines_for supplier) read) buffer.old }
+    ensures buffer_after { buffer.new ≡ with_front (lines_of (lines_for supplier) read) buffer.old }
 {
     let mut lines = [0u8; Listing::MAX_BYTES];
     let count = put_lines(read, supplier, &mut lines);
@@ -180,10 +180,10 @@ fn write_lines(read: JobRead, supplier: bool, buffer: &mut [u8]) -> WriterAnswer
 
 // Reads a job and writes its lines, those of a supplier or those of a farm.
 fn write_listing(job: &[u8], table: &mut [i64], supplier: bool, buffer: &mut [u8]) -> WriterAnswer
-    ensures value { result ≡ answerWith (linesFor supplier) job.now table.old buffer.old }
-    ensures table_after { table.new ≡ listingTable job.now table.old }
-    ensures buffer_after { buffer.new ≡ bufferWith (linesFor supplier) job.now table.old buffer.old }
-    ensures job_len_bound { length (listed (linesFor supplier) (outcome job.now)) ≤ listingRoom }
+    ensures value { result ≡ answer_with (lines_for supplier) job.now table.old buffer.old }
+    ensures table_after { table.new ≡ listing_table job.now table.old }
+    ensures buffer_after { buffer.new ≡ buffer_with (lines_for supplier) job.now table.old buffer.old }
+    ensures job_len_bound { length (listed (lines_for supplier) (outcome job.now)) ≤ listing_room }
 {
     if table.len() < WorkingTable::NUMBERS {
         return WriterAnswer::refused(11, 0, 0);
@@ -200,10 +200,10 @@ pub extern "C" fn feedcheck_listing(
     table: &mut [i64],
     buffer: &mut [u8],
 ) -> WriterAnswer
-    ensures value { result ≡ listingAnswer job.now table.old buffer.old }
-    ensures table_after { table.new ≡ listingTable job.now table.old }
-    ensures buffer_after { buffer.new ≡ listingBuffer job.now table.old buffer.old }
-    ensures job_len_bound { length (listing (outcome job.now)) ≤ listingRoom }
+    ensures value { result ≡ listing_answer job.now table.old buffer.old }
+    ensures table_after { table.new ≡ listing_table job.now table.old }
+    ensures buffer_after { buffer.new ≡ listing_buffer job.now table.old buffer.old }
+    ensures job_len_bound { length (listing (outcome job.now)) ≤ listing_room }
 {
     write_listing(job, table, false, buffer)
 }
@@ -215,10 +215,10 @@ pub extern "C" fn feedcheck_supplier_listing(
     table: &mut [i64],
     buffer: &mut [u8],
 ) -> WriterAnswer
-    ensures value { result ≡ supplierAnswer job.now table.old buffer.old }
-    ensures table_after { table.new ≡ listingTable job.now table.old }
-    ensures buffer_after { buffer.new ≡ supplierBuffer job.now table.old buffer.old }
-    ensures job_len_bound { length (supplierListing (outcome job.now)) ≤ listingRoom }
+    ensures value { result ≡ supplier_answer job.now table.old buffer.old }
+    ensures table_after { table.new ≡ listing_table job.now table.old }
+    ensures buffer_after { buffer.new ≡ supplier_buffer job.now table.old buffer.old }
+    ensures job_len_bound { length (supplier_listing (outcome job.now)) ≤ listing_room }
 {
     write_listing(job, table, true, buffer)
 }

@@ -10,38 +10,38 @@ use native.Mathlib.Decide.{dec_lt}
 use lib.IntN.{ℤ, pos, ◌*ℤ◌}
 use lib.ListN.{length}
 use borrow.Author.Tests.{lt-ltb, le-ltb}
-use Rattle.wire.specs.Outcome.{Outcome, refuses, accepts, answerBy}
+use Rattle.wire.specs.Outcome.{Outcome, refuses, accepts, answer_by}
 use Rattle.wire.proofs.Outcome.{Numbered}
 use Rattle.forms.specs.Form.{value, entry}
-use Rattle.forms.specs.Table.{tableNumbers, tableValue}
-use Rattle.forms.proofs.Table.{tableValue-form, withTable-length, withTable-past}
+use Rattle.forms.specs.Table.{table_numbers, table_value}
+use Rattle.forms.proofs.Table.{table_value_form, with_table-length, with_table_past}
 use Rattle.register.specs.declared.Register.{Register}
 use Rattle.register.specs.Register.{coefficient}
 use Rattle.register.specs.Valid as R
 use Rattle.scheme.specs.declared.Scheme.{Scheme}
 use Rattle.scheme.specs.Scheme.{side}
 use Rattle.scheme.specs.Filling.{Filling, factor}
-use Rattle.scheme.specs.Answer.{openParts}
+use Rattle.scheme.specs.Answer.{open_parts}
 use Rattle.scheme.specs.Valid.{Valid}
-use Rattle.scheme.proofs.Opened.{Opened, opened, opening-numbered, register-bytes, scheme-bytes}
+use Rattle.scheme.proofs.Opened.{Opened, opened, opening_numbered, register_bytes, scheme_bytes}
 use Rattle.plan.specs.Fits.{Fits}
-use Rattle.plan.proofs.Fits.{register-fits?}
+use Rattle.plan.proofs.Fits.{register_fits?}
 use Rattle.penalty.specs.Penalty.{h}
 use Rattle.penalty.specs.Demand.{Holds, Made}
-use Rattle.penalty.specs.Answer.{answer, penaltyAnswer, withPenalty, penaltyTable}
-use Rattle.penalty.proofs.Penalty.{below-h}
-use Rattle.penalty.proofs.Bounds.{side-square}
-use Rattle.penalty.proofs.Least.{table-twice, table-least-where}
-use Rattle.penalty.proofs.Answers.{parts-accepted}
+use Rattle.penalty.specs.Answer.{answer, penalty_answer, with_penalty, penalty_table}
+use Rattle.penalty.proofs.Penalty.{below_h}
+use Rattle.penalty.proofs.Bounds.{side_square}
+use Rattle.penalty.proofs.Least.{table_twice, table_least_where}
+use Rattle.penalty.proofs.Answers.{parts_accepted}
 
 -- the table of h does
-pub penalty-holds : (reg : Register) (sch : Scheme) → R.Valid reg → Valid reg sch → (lent : List ℤ) → tableNumbers ≤ length lent → Holds reg sch lent (withPenalty reg sch lent)
-penalty-holds reg sch ok valid lent l = record {
+pub penalty_holds : (reg : Register) (sch : Scheme) → R.Valid reg → Valid reg sch → (lent : List ℤ) → table_numbers ≤ length lent → Holds reg sch lent (with_penalty reg sch lent)
+penalty_holds reg sch ok valid lent l = record {
   reads = reads;
-  twice = λ z. table-twice c reg sch valid lent z ∙ ap (λ v. pos 2 *ℤ v) (sym (reads z));
-  least = λ plan fits. table-least-where c reg sch valid lent (Fits reg) (register-fits? reg) plan fits;
-  long = withTable-length n (entry (h c reg sch)) lent fits;
-  past = withTable-past n (entry (h c reg sch)) lent;
+  twice = λ z. table_twice c reg sch valid lent z ∙ ap (λ v. pos 2 *ℤ v) (sym (reads z));
+  least = λ plan fits. table_least_where c reg sch valid lent (Fits reg) (register_fits? reg) plan fits;
+  long = with_table-length n (entry (h c reg sch)) lent fits;
+  past = with_table_past n (entry (h c reg sch)) lent;
 }
   where
     c : ℕ → ℤ
@@ -51,55 +51,55 @@ penalty-holds reg sch ok valid lent l = record {
     n = side reg.choices sch
 
     fits : n * n ≤ length lent
-    fits = omega (arith, side-square reg sch ok.within valid)
+    fits = omega (arith, side_square reg sch ok.within valid)
 
-    reads : (z : Filling) → tableValue n (withPenalty reg sch lent) (factor z) ≡ value (factor z) (h c reg sch)
-    reads z = tableValue-form (below-h c reg sch valid) lent (factor z)
+    reads : (z : Filling) → table_value n (with_penalty reg sch lent) (factor z) ≡ value (factor z) (h c reg sch)
+    reads z = table_value_form (below_h c reg sch valid) lent (factor z)
 
 -- ---- over bytes
 
 -- where both parts are accepted, the call answers zeros and its table is what is demanded
-module _ (register scheme : List ℕ) (lent : List ℤ) (l : tableNumbers ≤ length lent) (reg : Register) (sch : Scheme) (o : Opened register scheme reg sch) where
-  pub made-answer : penaltyAnswer register scheme lent ≡ answer 0 0 0
-  made-answer = sym (parts-accepted register scheme lent l reg sch o).answers
+module _ (register scheme : List ℕ) (lent : List ℤ) (l : table_numbers ≤ length lent) (reg : Register) (sch : Scheme) (o : Opened register scheme reg sch) where
+  pub made_answer : penalty_answer register scheme lent ≡ answer 0 0 0
+  made_answer = sym (parts_accepted register scheme lent l reg sch o).answers
 
-  pub made_holds : Holds reg sch lent (penaltyTable register scheme lent)
+  pub made_holds : Holds reg sch lent (penalty_table register scheme lent)
   made_holds =
-      subst (Holds reg sch lent) (parts-accepted register scheme lent l reg sch o).holds
-      (penalty-holds reg sch o.register-valid o.scheme-valid lent l)
+      subst (Holds reg sch lent) (parts_accepted register scheme lent l reg sch o).holds
+      (penalty_holds reg sch o.register_valid o.scheme_valid lent l)
 
 -- zeros are answered only there
 module _ (register scheme : List ℕ) (lent : List ℤ) where
-  pub zeros-made : penaltyAnswer register scheme lent ≡ answer 0 0 0 → Made register scheme lent
-  unfolding penaltyAnswer
-  zeros-made e = go (dec_lt (length lent) tableNumbers)
+  pub zeros_made : penalty_answer register scheme lent ≡ answer 0 0 0 → Made register scheme lent
+  unfolding penalty_answer
+  zeros_made e = go (dec_lt (length lent) table_numbers)
     where
-      both : tableNumbers ≤ length lent → (x : Outcome (Register × Scheme)) → openParts register scheme ≡ x → Numbered x → answerBy answer (λ parts. answer 0 0 0) x ≡ answer 0 0 0 → Made register scheme lent
+      both : table_numbers ≤ length lent → (x : Outcome (Register × Scheme)) → open_parts register scheme ≡ x → Numbered x → answer_by answer (λ parts. answer 0 0 0) x ≡ answer 0 0 0 → Made register scheme lent
       both l (refuses n part at) x d f = absurd (d (ap (λ a. a.number) f))
       both l (accepts (reg, sch)) x d f =
           let o = opened register scheme reg sch x in
           record {
             reg = reg;
             sch = sch;
-            register-is = register-bytes register scheme reg sch o;
-            scheme-is = scheme-bytes register scheme reg sch o;
-            register-valid = o.register-valid;
-            scheme-valid = o.scheme-valid;
+            register_is = register_bytes register scheme reg sch o;
+            scheme_is = scheme_bytes register scheme reg sch o;
+            register_valid = o.register_valid;
+            scheme_valid = o.scheme_valid;
             holds = made_holds register scheme lent l reg sch o;
           }
 
-      go : Dec (length lent < tableNumbers) → Made register scheme lent
-      go (yes l) = let z : ◌≡◌ {A = ℕ} 11 0 = ap (λ a. a.number) (rw (lt-ltb (length lent) tableNumbers l) at e) in absurd (omega arith)
-      go (no l) = both (omega arith) (openParts register scheme) refl (opening-numbered register scheme) (rw (le-ltb (length lent) tableNumbers (omega arith)) at e)
+      go : Dec (length lent < table_numbers) → Made register scheme lent
+      go (yes l) = let z : ◌≡◌ {A = ℕ} 11 0 = ap (λ a. a.number) (rw (lt-ltb (length lent) table_numbers l) at e) in absurd (omega arith)
+      go (no l) = both (omega arith) (open_parts register scheme) refl (opening_numbered register scheme) (rw (le-ltb (length lent) table_numbers (omega arith)) at e)
 
-  pub refused-unchanged : ((penaltyAnswer register scheme lent).number ≡ 0 → ⊥) → penaltyTable register scheme lent ≡ lent
-  unfolding penaltyAnswer penaltyTable
-  refused-unchanged h = go (dec_lt (length lent) tableNumbers)
+  pub refused_unchanged : ((penalty_answer register scheme lent).number ≡ 0 → ⊥) → penalty_table register scheme lent ≡ lent
+  unfolding penalty_answer penalty_table
+  refused_unchanged h = go (dec_lt (length lent) table_numbers)
     where
-      both : (x : Outcome (Register × Scheme)) → ((answerBy answer (λ parts. answer 0 0 0) x).number ≡ 0 → ⊥) → answerBy (λ number part at. lent) (λ (reg, sch). withPenalty reg sch lent) x ≡ lent
+      both : (x : Outcome (Register × Scheme)) → ((answer_by answer (λ parts. answer 0 0 0) x).number ≡ 0 → ⊥) → answer_by (λ number part at. lent) (λ (reg, sch). with_penalty reg sch lent) x ≡ lent
       both (refuses n part at) d = refl
       both (accepts a) d = absurd (d refl)
 
-      go : Dec (length lent < tableNumbers) → penaltyTable register scheme lent ≡ lent
-      go (yes l) = rw (lt-ltb (length lent) tableNumbers l)
-      go (no l) = let e = le-ltb (length lent) tableNumbers (omega arith) in rw e (both (openParts register scheme) (rw e at h))
+      go : Dec (length lent < table_numbers) → penalty_table register scheme lent ≡ lent
+      go (yes l) = rw (lt-ltb (length lent) table_numbers l)
+      go (no l) = let e = le-ltb (length lent) table_numbers (omega arith) in rw e (both (open_parts register scheme) (rw e at h))

@@ -10,27 +10,27 @@ use lib.Dec.{T, eqb, eqb→eq}
 use lib.IntN.{ℤ, pos, nat_abs, ◌*ℤ◌, zero-*ℤ, *ℤ-zero}
 use borrow.Author.Tests.{eq-eqb, ne_eqb}
 use Rattle.integers.specs.Integer.{abs}
-use Rattle.integers.specs.Sum.{sumBelow}
-use Rattle.integers.proofs.Sum.{natAbs-sum}
+use Rattle.integers.specs.Sum.{sum_below}
+use Rattle.integers.proofs.Sum.{nat_abs-sum}
 use Rattle.register.specs.declared.Register.{Register}
-use Rattle.register.specs.Limits.{maxCoefficient}
+use Rattle.register.specs.Limits.{max_coefficient}
 use Rattle.register.specs.Register.{coefficient}
 use Rattle.register.specs.Valid.{Within}
 use Rattle.scheme.specs.declared.Scheme.{Scheme}
-use Rattle.scheme.specs.Scheme.{left, right, variables, splitLeft, splitRight}
+use Rattle.scheme.specs.Scheme.{left, right, variables, split_left, split_right}
 use Rattle.scheme.specs.Valid.{Products, SplitOf, Valid}
-use Rattle.integers.proofs.Lists.{T-or}
-use Rattle.scheme.proofs.Table.{split-of}
-use Rattle.scheme.proofs.Variables.{upward-choice, upward-product, left-falls, variable-ind}
-use Rattle.penalty.specs.Weights.{reaches, uses, contribution, weight, maxProductWeight}
+use Rattle.integers.proofs.Lists.{T_or}
+use Rattle.scheme.proofs.Table.{split_of}
+use Rattle.scheme.proofs.Variables.{upward_choice, upward_product, left_falls, variable_ind}
+use Rattle.penalty.specs.Weights.{reaches, uses, contribution, weight, max_product_weight}
 use Rattle.penalty.specs.Operands.{Lent, Falling}
 
 -- ---- which products a variable reaches
 
 -- a choice reaches none
-pub reaches-choice : (n : ℕ) (s : Scheme) (k i : ℕ) → i < n → reaches n s k i ≡ false
+pub reaches_choice : (n : ℕ) (s : Scheme) (k i : ℕ) → i < n → reaches n s k i ≡ false
 unfolding reaches
-reaches-choice n s k = upward-choice n s _ _
+reaches_choice n s k = upward_choice n s _ _
 
 -- k is the left or the right operand of a product that passes the test
 pub record OperandOf (n : ℕ) (s : Scheme) (test : ℕ → Bool) (k : ℕ) : Type 0 where
@@ -41,99 +41,99 @@ pub record OperandOf (n : ℕ) (s : Scheme) (test : ℕ → Bool) (k : ℕ) : Ty
   pub operand : (k ≡ left n s j) ⊎ (k ≡ right n s j)
 
 -- and of one that passes another test, where that product does
-pub operand-by : {n : ℕ} {s : Scheme} {f g : ℕ → Bool} {k : ℕ} (p : OperandOf n s f k) → T (g p.j) → OperandOf n s g k
-operand-by p t = record { j = p.j; product = p.product; there = p.there; passes = t; operand = p.operand }
+pub operand_by : {n : ℕ} {s : Scheme} {f g : ℕ → Bool} {k : ℕ} (p : OperandOf n s f k) → T (g p.j) → OperandOf n s g k
+operand_by p t = record { j = p.j; product = p.product; there = p.there; passes = t; operand = p.operand }
 
 module _ (n : ℕ) (s : Scheme) (products : Products n s) where
-  pub reaches-product : (k v : ℕ) → n ≤ v → v < variables n s → reaches n s k v ≡ (eqb v k || (reaches n s k (left n s v) || reaches n s k (right n s v)))
+  pub reaches_product : (k v : ℕ) → n ≤ v → v < variables n s → reaches n s k v ≡ (eqb v k || (reaches n s k (left n s v) || reaches n s k (right n s v)))
   unfolding reaches
-  reaches-product k v l m = upward-product n s _ _ v l (left-falls n s products v l m) (products v l m).falls
+  reaches_product k v l m = upward_product n s _ _ v l (left_falls n s products v l m) (products v l m).falls
 
   -- a variable reaches no product after it
-  pub reaches-below : (k v : ℕ) → v < variables n s → v < k → reaches n s k v ≡ false
-  reaches-below k = variable-ind n s products (λ v. v < k → reaches n s k v ≡ false) (λ i l h. reaches-choice n s k i l) product
+  pub reaches_below : (k v : ℕ) → v < variables n s → v < k → reaches n s k v ≡ false
+  reaches_below k = variable_ind n s products (λ v. v < k → reaches n s k v ≡ false) (λ i l h. reaches_choice n s k i l) product
     where
       product : (v : ℕ) → n ≤ v → v < variables n s → (left n s v < k → reaches n s k (left n s v) ≡ false) → (right n s v < k → reaches n s k (right n s v) ≡ false) → v < k → reaches n s k v ≡ false
       product v l m a b h =
           rw (
-            reaches-product k v l m,
+            reaches_product k v l m,
             ne_eqb v k (λ e. omega arith),
-            a (omega (arith, left-falls n s products v l m)),
+            a (omega (arith, left_falls n s products v l m)),
             b (omega (arith, (products v l m).falls)),
           )
 
   -- by cases
-  reaches-cases : (k v : ℕ) → n ≤ v → v < variables n s → T (reaches n s k v) ↔ ((v ≡ k) ⊎ (T (reaches n s k (left n s v)) ⊎ T (reaches n s k (right n s v))))
-  reaches-cases k v l m = rw (reaches-product k v l m) (
-    (λ t. elim ((T-or (eqb v k) _).0 t) [ inl e ↦ inl (eqb→eq v k e) | inr u ↦ inr ((T-or (reaches n s k (left n s v)) _).0 u) ]),
-    (λ t. (T-or (eqb v k) _).1 (elim t [ inl e ↦ inl (rw (eq-eqb v k e) tt) | inr u ↦ inr ((T-or (reaches n s k (left n s v)) _).1 u) ])),
+  reaches_cases : (k v : ℕ) → n ≤ v → v < variables n s → T (reaches n s k v) ↔ ((v ≡ k) ⊎ (T (reaches n s k (left n s v)) ⊎ T (reaches n s k (right n s v))))
+  reaches_cases k v l m = rw (reaches_product k v l m) (
+    (λ t. elim ((T_or (eqb v k) _).0 t) [ inl e ↦ inl (eqb→eq v k e) | inr u ↦ inr ((T_or (reaches n s k (left n s v)) _).0 u) ]),
+    (λ t. (T_or (eqb v k) _).1 (elim t [ inl e ↦ inl (rw (eq-eqb v k e) tt) | inr u ↦ inr ((T_or (reaches n s k (left n s v)) _).1 u) ])),
   )
 
   -- a product reaches itself, and what a variable reaches by way of another it reaches
-  pub reaches-self : (k : ℕ) → n ≤ k → k < variables n s → T (reaches n s k k)
-  reaches-self k l m = (reaches-cases k k l m).1 (inl refl)
+  pub reaches_self : (k : ℕ) → n ≤ k → k < variables n s → T (reaches n s k k)
+  reaches_self k l m = (reaches_cases k k l m).1 (inl refl)
 
-  pub reaches-trans : (j k v : ℕ) → v < variables n s → T (reaches n s j v) → T (reaches n s k j) → T (reaches n s k v)
-  reaches-trans j k = variable-ind n s products (λ v. T (reaches n s j v) → T (reaches n s k j) → T (reaches n s k v)) choice product
+  pub reaches_trans : (j k v : ℕ) → v < variables n s → T (reaches n s j v) → T (reaches n s k j) → T (reaches n s k v)
+  reaches_trans j k = variable_ind n s products (λ v. T (reaches n s j v) → T (reaches n s k j) → T (reaches n s k v)) choice product
     where
       choice : (i : ℕ) → i < n → T (reaches n s j i) → T (reaches n s k j) → T (reaches n s k i)
-      choice i l t u = absurd (rw (reaches-choice n s j i l) at t)
+      choice i l t u = absurd (rw (reaches_choice n s j i l) at t)
 
       product : (v : ℕ) → n ≤ v → v < variables n s →
           (T (reaches n s j (left n s v)) → T (reaches n s k j) → T (reaches n s k (left n s v))) →
           (T (reaches n s j (right n s v)) → T (reaches n s k j) → T (reaches n s k (right n s v))) →
           T (reaches n s j v) → T (reaches n s k j) → T (reaches n s k v)
       product v l m a b t u =
-          elim ((reaches-cases j v l m).0 t) [
+          elim ((reaches_cases j v l m).0 t) [
             | inl e ↦ rw e u
-            | inr (inl x) ↦ (reaches-cases k v l m).1 (inr (inl (a x u)))
-            | inr (inr x) ↦ (reaches-cases k v l m).1 (inr (inr (b x u)))
+            | inr (inl x) ↦ (reaches_cases k v l m).1 (inr (inl (a x u)))
+            | inr (inr x) ↦ (reaches_cases k v l m).1 (inr (inr (b x u)))
           ]
 
   -- a variable reaches product k just when it is k or reaches a product of which k is left or right
-  pub reaches-iff : (k v : ℕ) → n ≤ k → k < variables n s → v < variables n s → T (reaches n s k v) ↔ ((v ≡ k) ⊎ OperandOf n s (λ j. reaches n s j v) k)
-  reaches-iff k v a m l = (down v l, (λ t. ⊎_elim (λ e. rw e (reaches-self k a m)) up t))
+  pub reaches_iff : (k v : ℕ) → n ≤ k → k < variables n s → v < variables n s → T (reaches n s k v) ↔ ((v ≡ k) ⊎ OperandOf n s (λ j. reaches n s j v) k)
+  reaches_iff k v a m l = (down v l, (λ t. ⊎_elim (λ e. rw e (reaches_self k a m)) up t))
     where
       up : OperandOf n s (λ j. reaches n s j v) k → T (reaches n s k v)
       up p =
-          reaches-trans p.j k v l p.passes
-          ((reaches-cases k p.j p.product p.there).1 (inr (⊎_elim (λ e. inl (rw (← e) (reaches-self k a m))) (λ e. inr (rw (← e) (reaches-self k a m))) p.operand)))
+          reaches_trans p.j k v l p.passes
+          ((reaches_cases k p.j p.product p.there).1 (inr (⊎_elim (λ e. inl (rw (← e) (reaches_self k a m))) (λ e. inr (rw (← e) (reaches_self k a m))) p.operand)))
 
       down : (v : ℕ) → v < variables n s → T (reaches n s k v) → (v ≡ k) ⊎ OperandOf n s (λ j. reaches n s j v) k
-      down = variable-ind n s products _ (λ i l t. absurd (rw (reaches-choice n s k i l) at t)) product
+      down = variable_ind n s products _ (λ i l t. absurd (rw (reaches_choice n s k i l) at t)) product
         where
           product : (v : ℕ) → n ≤ v → v < variables n s →
               (T (reaches n s k (left n s v)) → (left n s v ≡ k) ⊎ OperandOf n s (λ j. reaches n s j (left n s v)) k) →
               (T (reaches n s k (right n s v)) → (right n s v ≡ k) ⊎ OperandOf n s (λ j. reaches n s j (right n s v)) k) →
               T (reaches n s k v) → (v ≡ k) ⊎ OperandOf n s (λ j. reaches n s j v) k
-          product v l m x y t = ⊎_elim inl (λ u. inr (⊎_elim (λ u. left' (x u)) (λ u. right' (y u)) u)) ((reaches-cases k v l m).0 t)
+          product v l m x y t = ⊎_elim inl (λ u. inr (⊎_elim (λ u. left' (x u)) (λ u. right' (y u)) u)) ((reaches_cases k v l m).0 t)
             where
               here : (k ≡ left n s v) ⊎ (k ≡ right n s v) → OperandOf n s (λ j. reaches n s j v) k
-              here o = record { j = v; product = l; there = m; passes = reaches-self v l m; operand = o }
+              here o = record { j = v; product = l; there = m; passes = reaches_self v l m; operand = o }
 
               left' : (left n s v ≡ k) ⊎ OperandOf n s (λ j. reaches n s j (left n s v)) k → OperandOf n s (λ j. reaches n s j v) k
               left' (inl e) = here (inl (sym e))
-              left' (inr p) = operand-by p ((reaches-cases p.j v l m).1 (inr (inl p.passes)))
+              left' (inr p) = operand_by p ((reaches_cases p.j v l m).1 (inr (inl p.passes)))
 
               right' : (right n s v ≡ k) ⊎ OperandOf n s (λ j. reaches n s j (right n s v)) k → OperandOf n s (λ j. reaches n s j v) k
               right' (inl e) = here (inr (sym e))
-              right' (inr p) = operand-by p ((reaches-cases p.j v l m).1 (inr (inr p.passes)))
+              right' (inr p) = operand_by p ((reaches_cases p.j v l m).1 (inr (inr p.passes)))
 
 -- ---- which products a term uses
 
 -- the scope paper's own definition of use, with the split in place of `reaches`, holds of `uses`
-pub uses-iff : (r : Register) (s : Scheme) → Valid r s → (t k : ℕ) → t < r.terms → r.choices ≤ k → k < variables r.choices s →
-    T (uses r.choices s k t) ↔ (((k ≡ splitLeft s t) ⊎ (k ≡ splitRight s t)) ⊎ OperandOf r.choices s (λ j. uses r.choices s j t) k)
+pub uses_iff : (r : Register) (s : Scheme) → Valid r s → (t k : ℕ) → t < r.terms → r.choices ≤ k → k < variables r.choices s →
+    T (uses r.choices s k t) ↔ (((k ≡ split_left s t) ⊎ (k ≡ split_right s t)) ⊎ OperandOf r.choices s (λ j. uses r.choices s j t) k)
 unfolding uses
-uses-iff r s valid t k h a m = (
-  (λ u. elim ((T-or (reaches n s k (splitLeft s t)) _).0 u) [
-    | inl x ↦ ⊎_elim (λ e. inl (inl (sym e))) (λ p. inr (operand-by p ((T-or (reaches n s p.j (splitLeft s t)) _).1 (inl p.passes)))) (of_left.0 x)
-    | inr x ↦ ⊎_elim (λ e. inl (inr (sym e))) (λ p. inr (operand-by p ((T-or (reaches n s p.j (splitLeft s t)) _).1 (inr p.passes)))) (of_right.0 x)
+uses_iff r s valid t k h a m = (
+  (λ u. elim ((T_or (reaches n s k (split_left s t)) _).0 u) [
+    | inl x ↦ ⊎_elim (λ e. inl (inl (sym e))) (λ p. inr (operand_by p ((T_or (reaches n s p.j (split_left s t)) _).1 (inl p.passes)))) (of_left.0 x)
+    | inr x ↦ ⊎_elim (λ e. inl (inr (sym e))) (λ p. inr (operand_by p ((T_or (reaches n s p.j (split_left s t)) _).1 (inr p.passes)))) (of_right.0 x)
   ]),
-  (λ u. (T-or (reaches n s k (splitLeft s t)) _).1 (elim u [
+  (λ u. (T_or (reaches n s k (split_left s t)) _).1 (elim u [
     | inl (inl e) ↦ inl (of_left.1 (inl (sym e)))
     | inl (inr e) ↦ inr (of_right.1 (inl (sym e)))
-    | inr p ↦ ⊎_elim (λ w. inl (of_left.1 (inr (operand-by p w)))) (λ w. inr (of_right.1 (inr (operand-by p w)))) ((T-or (reaches n s p.j (splitLeft s t)) _).0 p.passes)
+    | inr p ↦ ⊎_elim (λ w. inl (of_left.1 (inr (operand_by p w)))) (λ w. inr (of_right.1 (inr (operand_by p w)))) ((T_or (reaches n s p.j (split_left s t)) _).0 p.passes)
   ])),
 )
   where
@@ -141,36 +141,36 @@ uses-iff r s valid t k h a m = (
     n = r.choices
 
     split : SplitOf r s t
-    split = split-of valid t h
+    split = split_of valid t h
 
-    of_left : T (reaches n s k (splitLeft s t)) ↔ ((splitLeft s t ≡ k) ⊎ OperandOf n s (λ j. reaches n s j (splitLeft s t)) k)
-    of_left = reaches-iff n s valid.within.products k (splitLeft s t) a m (omega (arith, split.ordered, split.there))
+    of_left : T (reaches n s k (split_left s t)) ↔ ((split_left s t ≡ k) ⊎ OperandOf n s (λ j. reaches n s j (split_left s t)) k)
+    of_left = reaches_iff n s valid.within.products k (split_left s t) a m (omega (arith, split.ordered, split.there))
 
-    of_right : T (reaches n s k (splitRight s t)) ↔ ((splitRight s t ≡ k) ⊎ OperandOf n s (λ j. reaches n s j (splitRight s t)) k)
-    of_right = reaches-iff n s valid.within.products k (splitRight s t) a m split.there
+    of_right : T (reaches n s k (split_right s t)) ↔ ((split_right s t ≡ k) ⊎ OperandOf n s (λ j. reaches n s j (split_right s t)) k)
+    of_right = reaches_iff n s valid.within.products k (split_right s t) a m split.there
 
 -- ---- operands that are lent
 
-pub falling-below : {n v w : ℕ} {ls rs : List ℕ} → Falling n v ls rs → w ≤ v → Falling n w ls rs
-falling-below h l = record { there = omega (arith, h.there); falls = λ u a b. h.falls u a (omega arith) }
+pub falling_below : {n v w : ℕ} {ls rs : List ℕ} → Falling n v ls rs → w ≤ v → Falling n w ls rs
+falling_below h l = record { there = omega (arith, h.there); falls = λ u a b. h.falls u a (omega arith) }
 
-pub falling-of : {r : Register} {s : Scheme} → Valid r s → (v : ℕ) → v < variables r.choices s → Falling r.choices v s.lefts s.rights
-falling-of {r} {s} valid v l =
+pub falling_of : {r : Register} {s : Scheme} → Valid r s → (v : ℕ) → v < variables r.choices s → Falling r.choices v s.lefts s.rights
+falling_of {r} {s} valid v l =
     let products = valid.within.products in
     record {
-      there = omega (arith, valid.within.products-within);
-      falls = λ u a b. (left-falls r.choices s products u a (omega arith), (products u a (omega arith)).falls);
+      there = omega (arith, valid.within.products_within);
+      falls = λ u a b. (left_falls r.choices s products u a (omega arith), (products u a (omega arith)).falls);
     }
 
 pub lent_of : {r : Register} {s : Scheme} → Valid r s → Lent r.choices s s.lefts s.rights
-lent_of valid = record { lefts-are = refl; rights-are = refl; products = valid.within.products }
+lent_of valid = record { lefts_are = refl; rights_are = refl; products = valid.within.products }
 
 -- ---- weights
 
 module _ (c : ℕ → ℤ) (n : ℕ) (s : Scheme) (k t : ℕ) where
   -- a term that uses product k adds |coefficient|, others nothing
-  pub contribution-used : T (uses n s k t) → contribution c n s k t ≡ abs (c t)
-  contribution-used u = go (uses n s k t) u
+  pub contribution_used : T (uses n s k t) → contribution c n s k t ≡ abs (c t)
+  contribution_used u = go (uses n s k t) u
     where
       go : (b : Bool) → T b → cond b (abs (c t)) (pos 0) ≡ abs (c t)
       go true u = refl
@@ -183,9 +183,9 @@ module _ (c : ℕ → ℤ) (n : ℕ) (s : Scheme) (k t : ℕ) where
       go true = refl
       go false = zero-*ℤ y ∙ sym (*ℤ-zero (abs (c t)))
 
-  pub contribution-small : (b : ℕ) → nat_abs (c t) ≤ b → nat_abs (contribution c n s k t) ≤ b
+  pub contribution_small : (b : ℕ) → nat_abs (c t) ≤ b → nat_abs (contribution c n s k t) ≤ b
   unfolding abs
-  contribution-small b l = go (uses n s k t)
+  contribution_small b l = go (uses n s k t)
     where
       go : (u : Bool) → nat_abs (cond u (abs (c t)) (pos 0)) ≤ b
       go true = l
@@ -193,10 +193,10 @@ module _ (c : ℕ → ℤ) (n : ℕ) (s : Scheme) (k t : ℕ) where
 
 -- of a register within the limits, also of the first terms alone
 module _ (r : Register) (s : Scheme) (k : ℕ) (within : Within r) where
-  pub contributions-small : (t : ℕ) → t ≤ r.terms → nat_abs (sumBelow t (contribution (coefficient r) r.choices s k)) ≤ maxProductWeight
-  contributions-small t l =
-      omega (arith, within.terms.few, natAbs-sum t maxCoefficient (contribution (coefficient r) r.choices s k) (λ i m. contribution-small (coefficient r) r.choices s k i maxCoefficient (within.terms.each i (omega arith)).coefficient-within))
+  pub contributions_small : (t : ℕ) → t ≤ r.terms → nat_abs (sum_below t (contribution (coefficient r) r.choices s k)) ≤ max_product_weight
+  contributions_small t l =
+      omega (arith, within.terms.few, nat_abs-sum t max_coefficient (contribution (coefficient r) r.choices s k) (λ i m. contribution_small (coefficient r) r.choices s k i max_coefficient (within.terms.each i (omega arith)).coefficient_within))
 
-  pub weight-small : nat_abs (weight (coefficient r) r s k) ≤ maxProductWeight
+  pub weight_small : nat_abs (weight (coefficient r) r s k) ≤ max_product_weight
   unfolding weight
-  weight-small = contributions-small r.terms (le_refl r.terms)
+  weight_small = contributions_small r.terms (le_refl r.terms)

@@ -6,22 +6,22 @@ use mathlib.Core.Bool.{Bool, true, false, cond}
 use lib.IntN.{pos, negsuc, ◌+ℤ◌, ◌*ℤ◌}
 use lib.ListN.{get_or}
 use Rattle.integers.specs.Integer.{abs, bit}
-use Rattle.integers.specs.Lists.{joinBelow}
-use Rattle.integers.specs.Sum.{sumBelow, sumOver}
+use Rattle.integers.specs.Lists.{join_below}
+use Rattle.integers.specs.Sum.{sum_below, sum_over}
 use Rattle.forms.specs.Form.{value, entry, times}
 use Rattle.register.specs.Register.{coefficient}
 use Rattle.scheme.specs.Variables.{up_to, upward}
 use Rattle.scheme.specs.Filling.{Filling, factor}
 use Rattle.scheme.specs.Function.{g, term}
-use Rattle.register.proofs.Example.{exampleRegister}
-use Rattle.scheme.proofs.Example.{exampleScheme, builtScheme}
+use Rattle.register.proofs.Example.{example_register}
+use Rattle.scheme.proofs.Example.{example_scheme, built_scheme}
 use Rattle.penalty.specs.Weights.{reaches, uses, weight}
 use Rattle.penalty.specs.Penalty.{bracket, h}
 
 -- W5: the bracket where (z_k, z_l, z_r) is 000, 001, .. 111, in this order
 pub w5 : (k l r : ℕ) (z : Filling) → value (factor z) (bracket k l r)
     ≡ get_or (pos 0 ∷ pos 0 ∷ pos 0 ∷ pos 1 ∷ pos 3 ∷ pos 1 ∷ pos 1 ∷ pos 0 ∷ []) (cond (z k) 4 0 + cond (z l) 2 0 + cond (z r) 1 0) (pos 0)
-unfolding value bracket sumOver
+unfolding value bracket sum_over
 w5 k l r z = eight (z k) (z l) (z r)
   where
     eight : (a b c : Bool) →
@@ -37,16 +37,16 @@ w5 k l r z = eight (z k) (z l) (z r)
     eight true true true = refl
 
 -- W6: P_3 = 5
-pub w6 : weight (coefficient exampleRegister) exampleRegister builtScheme 3 ≡ pos 5
-unfolding weight uses reaches upward up_to sumBelow abs
+pub w6 : weight (coefficient example_register) example_register built_scheme 3 ≡ pos 5
+unfolding weight uses reaches upward up_to sum_below abs
 w6 = refl
 
 -- in the example's scheme the last term uses both products
-weights : map (weight (coefficient exampleRegister) exampleRegister exampleScheme) (3 ∷ 4 ∷ []) ≡ pos 5 ∷ pos 5 ∷ []
-unfolding weight uses reaches upward up_to sumBelow abs
+weights : map (weight (coefficient example_register) example_register example_scheme) (3 ∷ 4 ∷ []) ≡ pos 5 ∷ pos 5 ∷ []
+unfolding weight uses reaches upward up_to sum_below abs
 weights = refl
 
 -- an entry of its table: −2 P_3
-table : entry (h (coefficient exampleRegister) exampleRegister exampleScheme) 4 1 ≡ negsuc 9
-unfolding entry h g weight uses reaches upward up_to sumBelow sumOver abs joinBelow term bracket times
+table : entry (h (coefficient example_register) example_register example_scheme) 4 1 ≡ negsuc 9
+unfolding entry h g weight uses reaches upward up_to sum_below sum_over abs join_below term bracket times
 table = refl

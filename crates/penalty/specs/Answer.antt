@@ -1,13 +1,13 @@
 -- What the penalty call answers and what its lent table then holds, by what reading the two parts leads to.
 use Rattle.std.specs.Prelude.{ℕ, cond, List, ltb, ℤ, length}
-use Rattle.wire.specs.Outcome.{answerBy}
+use Rattle.wire.specs.Outcome.{answer_by}
 use Rattle.forms.specs.Form.{entry}
-use Rattle.forms.specs.Table.{tableNumbers, withTable}
+use Rattle.forms.specs.Table.{table_numbers, with_table}
 use Rattle.register.specs.declared.Register.{Register}
 use Rattle.register.specs.Register.{coefficient}
 use Rattle.scheme.specs.declared.Scheme.{Scheme}
 use Rattle.scheme.specs.Scheme.{side}
-use Rattle.scheme.specs.Answer.{openParts}
+use Rattle.scheme.specs.Answer.{open_parts}
 use Rattle.penalty.specs.declared.PenaltyAnswer.{PenaltyAnswer}
 use Rattle.penalty.specs.Penalty.{h}
 
@@ -16,17 +16,17 @@ answer number part at = record { number = number; part = part; position = at }
 
 -- number, part and position of a refusal, or zeros, of the bytes of parts 1 and 2 and the lent run: a table below 4,225 numbers
 -- is found before all else
-unfoldable pub penaltyAnswer : List ℕ → List ℕ → List ℤ → PenaltyAnswer
-penaltyAnswer register scheme lent =
-    cond (ltb (length lent) tableNumbers) (answer 11 0 0)
-    (answerBy answer (λ parts. answer 0 0 0) (openParts register scheme))
+unfoldable pub penalty_answer : List ℕ → List ℕ → List ℤ → PenaltyAnswer
+penalty_answer register scheme lent =
+    cond (ltb (length lent) table_numbers) (answer 11 0 0)
+    (answer_by answer (λ parts. answer 0 0 0) (open_parts register scheme))
 
 -- the table of h at the front of a lent run; the rest of it is kept
-abbrev pub withPenalty : Register → Scheme → List ℤ → List ℤ
-withPenalty reg sch = withTable (side reg.choices sch) (entry (h (coefficient reg) reg sch))
+abbrev pub with_penalty : Register → Scheme → List ℤ → List ℤ
+with_penalty reg sch = with_table (side reg.choices sch) (entry (h (coefficient reg) reg sch))
 
 -- the table holds h where both parts are accepted, and else is unchanged
-unfoldable pub penaltyTable : List ℕ → List ℕ → List ℤ → List ℤ
-penaltyTable register scheme lent =
-    cond (ltb (length lent) tableNumbers) lent
-    (answerBy (λ number part at. lent) (λ (reg, sch). withPenalty reg sch lent) (openParts register scheme))
+unfoldable pub penalty_table : List ℕ → List ℕ → List ℤ → List ℤ
+penalty_table register scheme lent =
+    cond (ltb (length lent) table_numbers) lent
+    (answer_by (λ number part at. lent) (λ (reg, sch). with_penalty reg sch lent) (open_parts register scheme))

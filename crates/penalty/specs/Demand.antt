@@ -2,7 +2,7 @@
 use Rattle.std.specs.Prelude.{ℕ, ◌*◌, ◌≤◌, ◌≡◌, List, ℤ, pos, ◌*ℤ◌, length, get_or}
 use Rattle.wire.specs.Number.{Bytes}
 use Rattle.forms.specs.Form.{value}
-use Rattle.forms.specs.Table.{tableSum, tableValue}
+use Rattle.forms.specs.Table.{table_sum, table_value}
 use Rattle.register.specs.declared.Register.{Register}
 use Rattle.register.specs.Register.{coefficient}
 use Rattle.register.specs.Encoding as RE
@@ -16,16 +16,16 @@ use Rattle.penalty.specs.Penalty.{h}
 use Rattle.plan.specs.Plan.{Plan}
 use Rattle.plan.specs.Fits.{Fits}
 use Rattle.penalty.specs.Least.{SameLeastWhere}
-use Rattle.penalty.specs.Answer.{penaltyTable}
+use Rattle.penalty.specs.Answer.{penalty_table}
 
 -- what is demanded of a table that holds the penalty form of a register and a scheme, where `lent` was lent
 pub record Holds (reg : Register) (sch : Scheme) (lent table : List ℤ) : Type 0 where
   -- the value read from it at every filling is that of h, and the sum is exactly twice the value
-  pub reads : (z : Filling) → tableValue (side reg.choices sch) table (factor z) ≡ value (factor z) (h (coefficient reg) reg sch)
-  pub twice : (z : Filling) → tableSum (side reg.choices sch) table (factor z) ≡ pos 2 *ℤ tableValue (side reg.choices sch) table (factor z)
+  pub reads : (z : Filling) → table_value (side reg.choices sch) table (factor z) ≡ value (factor z) (h (coefficient reg) reg sch)
+  pub twice : (z : Filling) → table_sum (side reg.choices sch) table (factor z) ≡ pos 2 *ℤ table_value (side reg.choices sch) table (factor z)
   -- where some plan fits, the least value over the fillings whose choices fit is the least cost over the plans that fit, and every
   -- such filling that reaches it carries a plan of exactly that cost
-  pub least : (plan : Plan reg.choices) → Fits reg plan.fed → SameLeastWhere (Fits reg) (coefficient reg) reg (λ z. tableValue (side reg.choices sch) table (factor z))
+  pub least : (plan : Plan reg.choices) → Fits reg plan.fed → SameLeastWhere (Fits reg) (coefficient reg) reg (λ z. table_value (side reg.choices sch) table (factor z))
   -- nothing else has changed
   pub long : length table ≡ length lent
   pub past : (k : ℕ) → side reg.choices sch * side reg.choices sch ≤ k → get_or table k (pos 0) ≡ get_or lent k (pos 0)
@@ -35,8 +35,8 @@ pub record Holds (reg : Register) (sch : Scheme) (lent table : List ℤ) : Type 
 pub record Made (register scheme : List ℕ) (lent : List ℤ) : Type 0 where
   pub reg : Register
   pub sch : Scheme
-  pub register-is : Bytes register → RE.Encodes reg register
-  pub scheme-is : SE.Encodes reg sch scheme
-  pub register-valid : R.Valid reg
-  pub scheme-valid : Valid reg sch
-  pub holds : Holds reg sch lent (penaltyTable register scheme lent)
+  pub register_is : Bytes register → RE.Encodes reg register
+  pub scheme_is : SE.Encodes reg sch scheme
+  pub register_valid : R.Valid reg
+  pub scheme_valid : Valid reg sch
+  pub holds : Holds reg sch lent (penalty_table register scheme lent)

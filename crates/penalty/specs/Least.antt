@@ -32,8 +32,8 @@ LeastPlan P c r m = LeastWhere (λ (p : Plan r.choices). P p.fed) (λ (p : Plan 
 -- the cost of the plan carried
 pub record SameLeastWhere (P : ℕ → Type 0) (c : ℕ → ℤ) (r : Register) (f : Filling → ℤ) : Type 0 where
   pub least : ℤ
-  pub overFillings : LeastFilling P r f least
-  pub overPlans : LeastPlan P c r least
+  pub over_fillings : LeastFilling P r f least
+  pub over_plans : LeastPlan P c r least
   pub minimisers : (z : Filling) → P (carried r.choices z) → f z ≡ least → cost c r (carried r.choices z) ≡ least
 
 -- over all fillings and all plans

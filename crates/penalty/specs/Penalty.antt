@@ -1,6 +1,6 @@
 -- The penalty form h. c t is the coefficient of term t.
 use Rattle.std.specs.Prelude.{ℕ, ◌+◌, [], ◌∷◌, ◌++◌, ℤ, pos, negsuc}
-use Rattle.integers.specs.Lists.{joinBelow}
+use Rattle.integers.specs.Lists.{join_below}
 use Rattle.forms.specs.Form.{Form, mono, place, times}
 use Rattle.register.specs.declared.Register.{Register}
 use Rattle.scheme.specs.declared.Scheme.{Scheme}
@@ -22,9 +22,9 @@ abbrev pub bracket_of : ℕ → Scheme → ℕ → Form
 bracket_of n s k = bracket k (left n s k) (right n s k)
 
 -- P_k times the bracket, for product k = n + i
-abbrev pub penaltyOf : (ℕ → ℤ) → Register → Scheme → ℕ → Form
-penaltyOf c r s i = let k = r.choices + i in times (weight c r s k) (bracket_of r.choices s k)
+abbrev pub penalty_of : (ℕ → ℤ) → Register → Scheme → ℕ → Form
+penalty_of c r s i = let k = r.choices + i in times (weight c r s k) (bracket_of r.choices s k)
 
 -- h: g and the penalties of all products
 unfoldable pub h : (ℕ → ℤ) → Register → Scheme → Form
-h c r s = g c r s ++ joinBelow s.products (penaltyOf c r s)
+h c r s = g c r s ++ join_below s.products (penalty_of c r s)

@@ -4,20 +4,20 @@
 
 ghost use Rattle.std.specs.Prelude.{◌≡◌, cond, ◌||◌, ℕ, ◌+◌, ◌≤◌, ◌<◌, pos, nat_abs, ◌*ℤ◌, length};
 ghost use Rattle.integers.specs.Integer.{abs};
-ghost use Rattle.integers.specs.Lists.{joinBelow};
+ghost use Rattle.integers.specs.Lists.{join_below};
 ghost use Rattle.forms.specs.Form.{times, entry};
-ghost use Rattle.forms.specs.Table.{tableNumbers, withTable};
-ghost use Rattle.forms.specs.Store.{addForm, Bounded, maxAdded, maxBeforeMonomial, maxBeforeForm, maxBeforeForms};
-ghost use Rattle.register.specs.Limits.{maxCoefficient};
+ghost use Rattle.forms.specs.Table.{table_numbers, with_table};
+ghost use Rattle.forms.specs.Store.{add_form, Bounded, max_added, max_before_monomial, max_before_form, max_before_forms};
+ghost use Rattle.register.specs.Limits.{max_coefficient};
 ghost use Rattle.register.specs.Register.{coefficient};
 ghost use Rattle.register.specs.Valid.{Valid as ValidRegister};
 ghost use Rattle.scheme.specs.Scheme.{variables, side as side_of};
-ghost use Rattle.scheme.specs.Function.{term, termOf, g};
+ghost use Rattle.scheme.specs.Function.{term, term_of, g};
 ghost use Rattle.scheme.specs.Valid.{Valid};
-ghost use Rattle.penalty.specs.Weights.{reaches, weight, maxProductWeight};
-ghost use Rattle.penalty.specs.Operands.{Lent, Falling, maxFactor};
-ghost use Rattle.penalty.specs.Penalty.{bracket, penaltyOf, h};
-ghost use Rattle.penalty.specs.Answer.{penaltyAnswer, penaltyTable};
+ghost use Rattle.penalty.specs.Weights.{reaches, weight, max_product_weight};
+ghost use Rattle.penalty.specs.Operands.{Lent, Falling, max_factor};
+ghost use Rattle.penalty.specs.Penalty.{bracket, penalty_of, h};
+ghost use Rattle.penalty.specs.Answer.{penalty_answer, penalty_table};
 
 use forms::{WorkingTable, add_monomial, add_multiple};
 use register::Register;
@@ -65,7 +65,7 @@ fn reaches<'a>(
 
 // The magnitude of a term's coefficient, once, where the left or the right variable of its split reaches the product.
 fn magnitude_if_used(left: bool, right: bool, magnitude: u64) -> u64
-    requires { magnitude ≤ maxCoefficient }
+    requires { magnitude ≤ max_coefficient }
     ensures { result ≡ cond left magnitude (cond right magnitude 0) }
 {
     if left {
@@ -86,7 +86,7 @@ fn contribution<'a>(
 ) -> u64
     requires falling { Falling n r lefts.now rights.now }
     requires l_le_r { l ≤ r }
-    requires c_bound { nat_abs c ≤ maxCoefficient }
+    requires c_bound { nat_abs c ≤ max_coefficient }
     ensures { (s : Scheme) → Lent n s lefts.now rights.now → r < variables n s →
         pos result ≡ cond (reaches n s k l || reaches n s k r) (abs c) (pos 0) }
 {
@@ -117,10 +117,10 @@ fn weight(register: Register, scheme: Scheme, k: usize) -> u64
 
 // Adds c times variable l times variable r, variable l once when they are one.
 pub fn add_term(table: &mut [i64], side: usize, l: usize, r: usize, c: i64)
-    requires bounded { Bounded side maxBeforeMonomial table.old }
+    requires bounded { Bounded side max_before_monomial table.old }
     requires l_bound { (l + 1 < side) × (r + 1 < side) }
-    requires c_bound { nat_abs c ≤ maxAdded }
-    ensures { table.new ≡ addForm side (term l r c) table.old }
+    requires c_bound { nat_abs c ≤ max_added }
+    ensures { table.new ≡ add_form side (term l r c) table.old }
 {
     if l == r {
         add_monomial(table, side, 0, l + 1, c);
@@ -134,10 +134,10 @@ pub fn add_terms(register: Register, scheme: Scheme, table: &mut [i64], side: us
     requires valid_register { ValidRegister register }
     requires valid { Valid register scheme }
     requires side_value { side ≡ side_of register.choices scheme }
-    requires bounded { Bounded side maxBeforeForm table.old }
-    requires scale_bound { nat_abs scale ≤ maxFactor }
+    requires bounded { Bounded side max_before_form table.old }
+    requires scale_bound { nat_abs scale ≤ max_factor }
     ensures { table.new ≡
-        addForm side (joinBelow register.terms (termOf (λ t. scale *ℤ coefficient register t) scheme)) table.old }
+        add_form side (join_below register.terms (term_of (λ t. scale *ℤ coefficient register t) scheme)) table.old }
 {
     let terms = register.terms;
     let mut t = 0;
@@ -155,9 +155,9 @@ pub fn add_function(register: Register, scheme: Scheme, table: &mut [i64], side:
     requires valid_register { ValidRegister register }
     requires valid { Valid register scheme }
     requires side_value { side ≡ side_of register.choices scheme }
-    requires bounded { Bounded side maxBeforeForms table.old }
-    requires scale_bound { nat_abs scale ≤ maxFactor }
-    ensures { table.new ≡ addForm side (times scale (g (coefficient register) register scheme)) table.old }
+    requires bounded { Bounded side max_before_forms table.old }
+    requires scale_bound { nat_abs scale ≤ max_factor }
+    ensures { table.new ≡ add_form side (times scale (g (coefficient register) register scheme)) table.old }
 {
     let base = register.base;
     add_monomial(table, side, 0, 0, scale * (base as i64));
@@ -166,10 +166,10 @@ pub fn add_function(register: Register, scheme: Scheme, table: &mut [i64], side:
 
 // Adds w times the bracket of product k, whose operands are l and r.
 fn add_bracket(table: &mut [i64], side: usize, k: usize, l: usize, r: usize, w: i64)
-    requires bounded { Bounded side maxBeforeForm table.old }
+    requires bounded { Bounded side max_before_form table.old }
     requires k_bound { (k + 1 < side) × (l < k) × (r < k) }
-    requires w_bound { nat_abs w ≤ maxProductWeight }
-    ensures { table.new ≡ addForm side (times w (bracket k l r)) table.old }
+    requires w_bound { nat_abs w ≤ max_product_weight }
+    ensures { table.new ≡ add_form side (times w (bracket k l r)) table.old }
 {
     add_multiple(table, side, 0, k + 1, w, 3);
     add_multiple(table, side, k + 1, l + 1, w, -2);
@@ -182,9 +182,9 @@ fn add_penalties(register: Register, scheme: Scheme, table: &mut [i64], side: us
     requires valid_register { ValidRegister register }
     requires valid { Valid register scheme }
     requires side_value { side ≡ side_of register.choices scheme }
-    requires bounded { Bounded side maxBeforeForms table.old }
+    requires bounded { Bounded side max_before_forms table.old }
     ensures { table.new ≡
-        addForm side (joinBelow scheme.products (penaltyOf (coefficient register) register scheme)) table.old }
+        add_form side (join_below scheme.products (penalty_of (coefficient register) register scheme)) table.old }
 {
     let n = register.choices;
     let products = scheme.products;
@@ -202,9 +202,9 @@ fn add_penalties(register: Register, scheme: Scheme, table: &mut [i64], side: us
 pub fn penalty_form(register: Register, scheme: Scheme, table: &mut [i64])
     requires valid_register { ValidRegister register }
     requires valid { Valid register scheme }
-    requires table_numbers_in_bounds { tableNumbers ≤ length table.old }
+    requires table_numbers_in_bounds { table_numbers ≤ length table.old }
     ensures { table.new ≡
-        withTable (side_of register.choices scheme) (entry (h (coefficient register) register scheme)) table.old }
+        with_table (side_of register.choices scheme) (entry (h (coefficient register) register scheme)) table.old }
 {
     let side = register.choices + scheme.products + 1;
     forms::clear(table, side * side);
@@ -219,8 +219,8 @@ pub extern "C" fn feedcheck_penalty(
     scheme: &[u8],
     table: &mut [i64],
 ) -> PenaltyAnswer
-    ensures value { result ≡ penaltyAnswer register.now scheme.now table.old }
-    ensures table_after { table.new ≡ penaltyTable register.now scheme.now table.old }
+    ensures value { result ≡ penalty_answer register.now scheme.now table.old }
+    ensures table_after { table.new ≡ penalty_table register.now scheme.now table.old }
 {
     if table.len() < WorkingTable::NUMBERS {
         return PenaltyAnswer {

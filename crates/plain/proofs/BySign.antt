@@ -6,14 +6,14 @@ use native.Mathlib.Omega.{arith}
 use lib.IntN.{ℤ, pos, negsuc, nat_abs}
 use lib.Signed.{lt_z}
 use borrow.Author.Tests.{ltb-true}
-use Rattle.plain.specs.Plain.{unlessZero, cancelling}
+use Rattle.plain.specs.Plain.{unless_zero, cancelling}
 
-pub cancels-negative : (x : ℤ) → lt_z x (pos 0) ≡ true → (i : ℕ) → cancelling i x ≡ unlessZero 0x39 i (nat_abs x)
+pub cancels_negative : (x : ℤ) → lt_z x (pos 0) ≡ true → (i : ℕ) → cancelling i x ≡ unless_zero 0x39 i (nat_abs x)
 unfolding cancelling
-cancels-negative (pos m) e i = absurd (omega (arith, ltb-true m 0 e))
-cancels-negative (negsuc m) e i = refl
+cancels_negative (pos m) e i = absurd (omega (arith, ltb-true m 0 e))
+cancels_negative (negsuc m) e i = refl
 
-pub cancels-positive : (x : ℤ) → lt_z x (pos 0) ≡ false → (i : ℕ) → cancelling i x ≡ unlessZero 0x38 i (nat_abs x)
+pub cancels_positive : (x : ℤ) → lt_z x (pos 0) ≡ false → (i : ℕ) → cancelling i x ≡ unless_zero 0x38 i (nat_abs x)
 unfolding cancelling
-cancels-positive (pos m) e i = refl
-cancels-positive (negsuc m) e i = let z : ◌≡◌ {A = ℕ} 0 1 = cc in absurd (omega arith)
+cancels_positive (pos m) e i = refl
+cancels_positive (negsuc m) e i = let z : ◌≡◌ {A = ℕ} 0 1 = cc in absurd (omega arith)

@@ -5,24 +5,24 @@ use mathlib.Core.Bool.{true, false}
 use mathlib.Core.List.{List, [], ◌∷◌, flat_map, map}
 use lib.IntN.{negsuc}
 use Rattle.integers.specs.Integer.{abs}
-use Rattle.integers.specs.Lists.{all_below, joinBelow}
-use Rattle.integers.specs.Sum.{sumBelow, sumOver, except}
-use Rattle.integers.specs.Quadratic.{offDiagonal}
-use Rattle.forms.specs.Form.{coefficientOf, times, entry}
+use Rattle.integers.specs.Lists.{all_below, join_below}
+use Rattle.integers.specs.Sum.{sum_below, sum_over, except}
+use Rattle.integers.specs.Quadratic.{off_diagonal}
+use Rattle.forms.specs.Form.{coefficient_of, times, entry}
 use Rattle.register.specs.Register.{coefficient}
 use Rattle.scheme.specs.Function.{term, g}
 use Rattle.certificate.specs.Certificate.{Certificate}
-use Rattle.certificate.specs.Rules.{byKey, ruleOf}
-use Rattle.residual.specs.Residual.{nullPart, subtractedPart, nullForms, subtractedForms, reformulated, shifted, R}
-use Rattle.bound.specs.Bound.{rowHolds, carries}
-use Rattle.register.proofs.Example.{exampleRegister}
+use Rattle.certificate.specs.Rules.{by_key, rule_of}
+use Rattle.residual.specs.Residual.{null_part, subtracted_part, null_forms, subtracted_forms, reformulated, shifted, R}
+use Rattle.bound.specs.Bound.{row_holds, carries}
+use Rattle.register.proofs.Example.{example_register}
 use Rattle.certificate.proofs.Commands.{command}
-use Rattle.scheme.proofs.Example.{builtScheme}
+use Rattle.scheme.proofs.Example.{built_scheme}
 use Rattle.wire.specs.Number.{bytes_of}
-use Rattle.certificate.specs.Encoding.{encodeScale, encodeMultiplier}
-use Rattle.plain.specs.Encoding.{encodeWith, encodePlain}
-use Rattle.plain.specs.Answer.{ownBytes}
-use Rattle.plain.specs.Plain.{halfRowSum, linearLeft, unlessZero, cancelling, subtractedConstant, plain}
+use Rattle.certificate.specs.Encoding.{encode_scale, encode_multiplier}
+use Rattle.plain.specs.Encoding.{encode_with, encode_plain}
+use Rattle.plain.specs.Answer.{own_bytes}
+use Rattle.plain.specs.Plain.{half_row_sum, linear_left, unless_zero, cancelling, subtracted_constant, plain}
 
 -- the certificate with T = −6 and both `31` at m
 abbrev pub with31 : ℕ → Certificate
@@ -34,18 +34,18 @@ with31 m = record {
 }
 
 -- ours has T = −6 and both at 3
-pub w7 : plain (coefficient exampleRegister) exampleRegister builtScheme ≡ with31 3
-unfolding plain subtractedConstant linearLeft halfRowSum unlessZero cancelling coefficientOf g joinBelow term sumBelow sumOver offDiagonal except abs
+pub w7 : plain (coefficient example_register) example_register built_scheme ≡ with31 3
+unfolding plain subtracted_constant linear_left half_row_sum unless_zero cancelling coefficient_of g join_below term sum_below sum_over off_diagonal except abs
 w7 = refl
 
 -- it carries T, and with a smaller multiplier in both it doesn't
-pub w7-carries : map (λ m. carries (coefficient exampleRegister) exampleRegister builtScheme (with31 m)) (3 ∷ 2 ∷ []) ≡ true ∷ false ∷ []
-unfolding carries all_below rowHolds R shifted reformulated nullForms subtractedForms nullPart subtractedPart ruleOf byKey flat_map times entry g joinBelow term sumBelow sumOver offDiagonal except abs
-w7-carries = refl
+pub w7_carries : map (λ m. carries (coefficient example_register) example_register built_scheme (with31 m)) (3 ∷ 2 ∷ []) ≡ true ∷ false ∷ []
+unfolding carries all_below row_holds R shifted reformulated null_forms subtracted_forms null_part subtracted_part rule_of by_key flat_map times entry g join_below term sum_below sum_over off_diagonal except abs
+w7_carries = refl
 
 -- the bytes of such a certificate, with m below 256
-abbrev pub w7Bytes : ℕ → List ℕ
-w7Bytes m =
+abbrev pub w7_bytes : ℕ → List ℕ
+w7_bytes m =
     0x30 ∷ 1 ∷ 0 ∷ 0 ∷ 0 ∷ 0xFA ∷ 0xFF ∷ 0xFF ∷ 0xFF ∷ 0xFF ∷ 0xFF ∷ 0xFF ∷ 0xFF
     ∷ 0x31 ∷ 2 ∷ m ∷ 0 ∷ 0 ∷ 0 ∷ 0 ∷ 0 ∷ 0 ∷ 0
     ∷ 0x31 ∷ 3 ∷ m ∷ 0 ∷ 0 ∷ 0 ∷ 0 ∷ 0 ∷ 0 ∷ 0
@@ -56,6 +56,6 @@ w7Bytes m =
     ∷ 0x3F ∷ []
 
 -- those of ours
-pub w7-bytes : ownBytes exampleRegister builtScheme ≡ w7Bytes 3
-unfolding encodePlain encodeWith encodeScale encodeMultiplier flat_map bytes_of
-w7-bytes = rw w7
+pub w7_bytes_lem : own_bytes example_register built_scheme ≡ w7_bytes 3
+unfolding encode_plain encode_with encode_scale encode_multiplier flat_map bytes_of
+w7_bytes_lem = rw w7

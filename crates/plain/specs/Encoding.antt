@@ -4,16 +4,16 @@ use mathlib.Core.List.{List, [], ◌∷◌, ◌++◌, flat_map}
 use Rattle.register.specs.declared.Register.{Register}
 use Rattle.scheme.specs.declared.Scheme.{Scheme}
 use Rattle.certificate.specs.Certificate.{Multiplier}
-use Rattle.certificate.specs.Encoding.{encodeScale, encodeMultiplier}
+use Rattle.certificate.specs.Encoding.{encode_scale, encode_multiplier}
 use Rattle.plain.specs.Plain.{plain}
 
-abbrev pub encodeMultipliers : List Multiplier → List ℕ
-encodeMultipliers ts = flat_map encodeMultiplier ts
+abbrev pub encode_multipliers : List Multiplier → List ℕ
+encode_multipliers ts = flat_map encode_multiplier ts
 
 -- a certificate without squares
-unfoldable pub encodeWith : ℕ → ℤ → List Multiplier → List ℕ
-encodeWith s target ts = (encodeScale s target ++ encodeMultipliers ts) ++ (0x3F ∷ [])
+unfoldable pub encode_with : ℕ → ℤ → List Multiplier → List ℕ
+encode_with s target ts = (encode_scale s target ++ encode_multipliers ts) ++ (0x3F ∷ [])
 
 -- the certificate of our own
-unfoldable pub encodePlain : (ℕ → ℤ) → Register → Scheme → List ℕ
-encodePlain c reg sch = let k = plain c reg sch in encodeWith k.scale k.target k.multipliers
+unfoldable pub encode_plain : (ℕ → ℤ) → Register → Scheme → List ℕ
+encode_plain c reg sch = let k = plain c reg sch in encode_with k.scale k.target k.multipliers

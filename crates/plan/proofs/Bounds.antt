@@ -5,42 +5,42 @@ use Prim.Native.Nat.{ℕ, suc, ◌+◌, ◌*◌, ◌≤◌, ◌<◌}
 use native.Mathlib.Nat.{le_refl}
 use native.Mathlib.Omega.{arith}
 use lib.IntN.{ℤ, pos, nat_abs, ◌+ℤ◌, +ℤ_assoc, +ℤ_idr}
-use Rattle.integers.specs.Sum.{sumBelow}
-use Rattle.integers.proofs.Sum.{sumBelow-zero, sumBelow-suc, natAbs-sum}
-use Rattle.integers.proofs.Order.{natAbs-+}
-use Rattle.sets.specs.Sets.{isSubset}
+use Rattle.integers.specs.Sum.{sum_below}
+use Rattle.integers.proofs.Sum.{sum_below-zero, sum_below-suc, nat_abs-sum}
+use Rattle.integers.proofs.Order.{nat_abs-+}
+use Rattle.sets.specs.Sets.{is_subset}
 use Rattle.register.specs.declared.Register.{Register}
-use Rattle.register.specs.Limits.{maxBase, maxTerms, maxCoefficient}
+use Rattle.register.specs.Limits.{max_base, max_terms, max_coefficient}
 use Rattle.register.specs.Register.{mask, coefficient}
 use Rattle.register.specs.Valid.{Within}
-use Rattle.plan.specs.Plan.{termCost, cost}
+use Rattle.plan.specs.Plan.{term_cost, cost}
 
 module _ (r : Register) (plan : ℕ) where
   -- the base cost and the first i terms
-  abbrev pub costTo : ℕ → ℤ
-  costTo i = r.base +ℤ sumBelow i (λ t. termCost (coefficient r t) r plan t)
+  abbrev pub cost_to : ℕ → ℤ
+  cost_to i = r.base +ℤ sum_below i (λ t. term_cost (coefficient r t) r plan t)
 
-  pub costTo-zero : costTo 0 ≡ r.base
-  costTo-zero = rw sumBelow-zero (+ℤ_idr r.base)
+  pub cost_to_zero : cost_to 0 ≡ r.base
+  cost_to_zero = rw sum_below-zero (+ℤ_idr r.base)
 
-  pub costTo-suc : (i : ℕ) → costTo (suc i) ≡ costTo i +ℤ termCost (coefficient r i) r plan i
-  costTo-suc i = rw sumBelow-suc (sym (+ℤ_assoc r.base _ _))
+  pub cost_to_suc : (i : ℕ) → cost_to (suc i) ≡ cost_to i +ℤ term_cost (coefficient r i) r plan i
+  cost_to_suc i = rw sum_below-suc (sym (+ℤ_assoc r.base _ _))
 
-  pub costTo-all : costTo r.terms ≡ cost (coefficient r) r plan
+  pub cost_to_all : cost_to r.terms ≡ cost (coefficient r) r plan
   unfolding cost
-  costTo-all = refl
+  cost_to_all = refl
 
   module _ (w : Within r) where
-    pub term-small : (t : ℕ) → t < r.terms → nat_abs (termCost (coefficient r t) r plan t) ≤ maxCoefficient
-    term-small t l = by (isSubset (mask r t) plan)
+    pub term_small : (t : ℕ) → t < r.terms → nat_abs (term_cost (coefficient r t) r plan t) ≤ max_coefficient
+    term_small t l = by (is_subset (mask r t) plan)
       where
-        by : (b : Bool) → nat_abs (cond b (coefficient r t) (pos 0)) ≤ maxCoefficient
-        by true = (w.terms.each t l).coefficient-within
+        by : (b : Bool) → nat_abs (cond b (coefficient r t) (pos 0)) ≤ max_coefficient
+        by true = (w.terms.each t l).coefficient_within
         by false = omega arith
 
-    pub costTo-small : (i : ℕ) → i ≤ r.terms → nat_abs (costTo i) ≤ maxBase + maxTerms * maxCoefficient
-    costTo-small i l =
-        omega (arith, natAbs-+ r.base (sumBelow i (λ t. termCost (coefficient r t) r plan t)), natAbs-sum i maxCoefficient (λ t. termCost (coefficient r t) r plan t) (λ t m. term-small t (omega arith)), w.base, w.terms.few)
+    pub cost_to_small : (i : ℕ) → i ≤ r.terms → nat_abs (cost_to i) ≤ max_base + max_terms * max_coefficient
+    cost_to_small i l =
+        omega (arith, nat_abs-+ r.base (sum_below i (λ t. term_cost (coefficient r t) r plan t)), nat_abs-sum i max_coefficient (λ t. term_cost (coefficient r t) r plan t) (λ t m. term_small t (omega arith)), w.base, w.terms.few)
 
-    pub cost-small : nat_abs (cost (coefficient r) r plan) ≤ maxBase + maxTerms * maxCoefficient
-    cost-small = rw (sym costTo-all) (costTo-small r.terms (le_refl _))
+    pub cost_small : nat_abs (cost (coefficient r) r plan) ≤ max_base + max_terms * max_coefficient
+    cost_small = rw (sym cost_to_all) (cost_to_small r.terms (le_refl _))

@@ -8,58 +8,58 @@ use native.Mathlib.Decide.{ℕ_discrete}
 use lib.Dec.{eqb}
 use lib.ListN.{length, get_or}
 use borrow.Author.Tests.{eqb-true, ltb-false, ne_eqb, not-false}
-use Rattle.wire.specs.Number.{natAt}
-use Rattle.wire.specs.Checks.{Check, refusal, commandChecks}
-use Rattle.wire.specs.Part.{refused, accepted, operandsAt, total, checksAt, after_at, readPart}
+use Rattle.wire.specs.Number.{nat_at}
+use Rattle.wire.specs.Checks.{Check, refusal, command_checks}
+use Rattle.wire.specs.Part.{refused, accepted, operands_at, total, checks_at, after_at, read_part}
 use Rattle.wire.specs.Rows.{row_of}
-use Rattle.wire.proofs.Checks.{Passed, refusal-none}
-use Rattle.wire.proofs.Part.{readFrom-missing, readFrom-refused, readFrom-ends}
+use Rattle.wire.proofs.Checks.{Passed, refusal_none}
+use Rattle.wire.proofs.Part.{read_from_missing, read_from_refused, read_from_ends}
 use Rattle.wire.proofs.Accepting.{reached}
 use Rattle.register.specs.declared.Register.{Register}
 use Rattle.plan.specs.Fits.{fits}
-use Rattle.plan.specs.Format.{planChecks, planPart, planInJob}
+use Rattle.plan.specs.Format.{plan_checks, plan_part, plan_in_job}
 
 -- the checks of the plan of a register at the front of a run of bytes, and its refusal
 
-abbrev pub checksOf : Register → List ℕ → List Check
-checksOf reg s = let plan = natAt 4 s 1 in commandChecks (eqb (get_or s 0 0) 0x40) (length s) 5 (planChecks reg.choices plan (fits reg plan))
+abbrev pub checks_of : Register → List ℕ → List Check
+checks_of reg s = let plan = nat_at 4 s 1 in command_checks (eqb (get_or s 0 0) 0x40) (length s) 5 (plan_checks reg.choices plan (fits reg plan))
 
-abbrev pub refusalOf : Register → List ℕ → ℕ
-refusalOf reg s = refusal (checksOf reg s)
+abbrev pub refusal_of : Register → List ℕ → ℕ
+refusal_of reg s = refusal (checks_of reg s)
 
 module _ (reg : Register) (s : List ℕ) where
-  pub refusal_is : refusalOf reg s ≡ refusal (checksAt (planPart reg) s (planPart reg).start 0)
-  unfolding checksAt row_of operandsAt total commandChecks refusal
+  pub refusal_is : refusal_of reg s ≡ refusal (checks_at (plan_part reg) s (plan_part reg).start 0)
+  unfolding checks_at row_of operands_at total command_checks refusal
   refusal_is = go (ℕ_discrete (get_or s 0 0) 0x40)
     where
-      go : Dec (get_or s 0 0 ≡ 0x40) → refusalOf reg s ≡ refusal (checksAt (planPart reg) s (planPart reg).start 0)
+      go : Dec (get_or s 0 0 ≡ 0x40) → refusal_of reg s ≡ refusal (checks_at (plan_part reg) s (plan_part reg).start 0)
       go (yes e) = rw (e, sub-zero)
       go (no d) = rw (ne_eqb _ _ d)
 
-  pub plan-missing : length s ≡ 0 → planInJob reg s ≡ refused 2 0
-  unfolding planInJob readPart
-  plan-missing e = readFrom-missing (planPart reg) s (planPart reg).start 0 (omega arith)
+  pub plan_missing : length s ≡ 0 → plan_in_job reg s ≡ refused 2 0
+  unfolding plan_in_job read_part
+  plan_missing e = read_from_missing (plan_part reg) s (plan_part reg).start 0 (omega arith)
 
-  pub plan-refused : (n : ℕ) → (length s ≡ 0 → ⊥) → n ≡ refusalOf reg s → (n ≡ 0 → ⊥) → planInJob reg s ≡ refused n 0
-  unfolding planInJob readPart
-  plan-refused n l e h = readFrom-refused (planPart reg) s (planPart reg).start 0 n (omega arith) (sym (e ∙ refusal_is)) h
+  pub plan_refused : (n : ℕ) → (length s ≡ 0 → ⊥) → n ≡ refusal_of reg s → (n ≡ 0 → ⊥) → plan_in_job reg s ≡ refused n 0
+  unfolding plan_in_job read_part
+  plan_refused n l e h = read_from_refused (plan_part reg) s (plan_part reg).start 0 n (omega arith) (sym (e ∙ refusal_is)) h
 
   -- where the command is not refused
-  module _ (l : length s ≡ 0 → ⊥) (e : refusalOf reg s ≡ 0) where
-    passed : Passed (checksOf reg s)
-    unfolding commandChecks planChecks
-    passed = refusal-none (checksOf reg s) (omega arith, (omega arith, (omega arith, (omega arith, tt)))) e
+  module _ (l : length s ≡ 0 → ⊥) (e : refusal_of reg s ≡ 0) where
+    passed : Passed (checks_of reg s)
+    unfolding command_checks plan_checks
+    passed = refusal_none (checks_of reg s) (omega arith, (omega arith, (omega arith, (omega arith, tt)))) e
 
-    pub plan-byte : get_or s 0 0 ≡ 0x40
-    unfolding commandChecks planChecks
-    plan-byte = eqb-true _ _ (not-false _ passed.0)
+    pub plan_byte : get_or s 0 0 ≡ 0x40
+    unfolding command_checks plan_checks
+    plan_byte = eqb-true _ _ (not-false _ passed.0)
 
-    pub plan-room : 5 ≤ length s
-    unfolding commandChecks planChecks
-    plan-room = ltb-false _ _ passed.1.0
+    pub plan_room : 5 ≤ length s
+    unfolding command_checks plan_checks
+    plan_room = ltb-false _ _ passed.1.0
 
-    pub plan-ends : planInJob reg s ≡ accepted (reached 0x40 (natAt 4 s 1)) 5
-    unfolding planInJob readPart row_of total after_at operandsAt
-    plan-ends =
-        readFrom-ends (planPart reg) s (planPart reg).start 0 (omega arith) (sym refusal_is ∙ e) (rw plan-byte)
-        ∙ rw plan-byte
+    pub plan_ends : plan_in_job reg s ≡ accepted (reached 0x40 (nat_at 4 s 1)) 5
+    unfolding plan_in_job read_part row_of total after_at operands_at
+    plan_ends =
+        read_from_ends (plan_part reg) s (plan_part reg).start 0 (omega arith) (sym refusal_is ∙ e) (rw plan_byte)
+        ∙ rw plan_byte

@@ -8,23 +8,23 @@ use Rattle.integers.proofs.Lists.{◌▹◌}
 use Rattle.wire.specs.Number.{Bytes}
 use Rattle.wire.specs.Part.{refused}
 use Rattle.wire.specs.Refused.{RefusedAt, RefusedByItself}
-use Rattle.wire.proofs.Lowest.{Rising, Rises, rows-rising, refused-iff, refused-by-itself-iff}
+use Rattle.wire.proofs.Lowest.{Rising, Rises, rows_rising, refused_iff, refused_by_itself_iff}
 use Rattle.register.specs.declared.Register.{Register}
-use Rattle.plan.specs.Format.{planChecks, planRow, planPart, planInJob, planByItself}
+use Rattle.plan.specs.Format.{plan_checks, plan_row, plan_part, plan_in_job, plan_by_itself}
 
 module _ (reg : Register) where
-  plan-rises : All Rises (planRow reg ∷ [])
-  unfolding planChecks
-  plan-rises = (λ r xs. tt) ▹ tt
+  plan_rises : All Rises (plan_row reg ∷ [])
+  unfolding plan_checks
+  plan_rises = (λ r xs. tt) ▹ tt
 
-  plan-rising : Rising (planPart reg)
-  plan-rising = rows-rising 0 (planRow reg ∷ []) plan-rises
+  plan_rising : Rising (plan_part reg)
+  plan_rising = rows_rising 0 (plan_row reg ∷ []) plan_rises
 
   module _ (s : List ℕ) (b : Bytes s) (n at : ℕ) where
-    pub plan-refused : (planInJob reg s ≡ refused n at) ↔ RefusedAt (planPart reg) s n at
-    unfolding planInJob
-    plan-refused = refused-iff (planPart reg) s plan-rising n at b
+    pub plan_refused : (plan_in_job reg s ≡ refused n at) ↔ RefusedAt (plan_part reg) s n at
+    unfolding plan_in_job
+    plan_refused = refused_iff (plan_part reg) s plan_rising n at b
 
-    pub plan-refused-by-itself : (planByItself reg s ≡ refused n at) ↔ RefusedByItself (planPart reg) s n at
-    unfolding planByItself planInJob
-    plan-refused-by-itself = refused-by-itself-iff (planPart reg) s plan-rising n at b
+    pub plan_refused_by_itself : (plan_by_itself reg s ≡ refused n at) ↔ RefusedByItself (plan_part reg) s n at
+    unfolding plan_by_itself plan_in_job
+    plan_refused_by_itself = refused_by_itself_iff (plan_part reg) s plan_rising n at b

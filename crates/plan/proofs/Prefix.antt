@@ -7,25 +7,25 @@ use lib.ListN.{take}
 use Rattle.integers.proofs.Lists.{◌▹◌}
 use Rattle.wire.specs.Part.{accepted, total}
 use Rattle.wire.specs.Rows.{Progress, size_of}
-use Rattle.wire.proofs.Prefix.{Limited, limited, read-prefix, end-within}
+use Rattle.wire.proofs.Prefix.{Limited, limited, read_prefix, end_within}
 use Rattle.register.specs.declared.Register.{Register}
 use Rattle.register.specs.Register as R
-use Rattle.plan.specs.Format.{planRow, planPart, planInJob}
+use Rattle.plan.specs.Format.{plan_row, plan_part, plan_in_job}
 
 -- a plan is one command
-unfoldable pub planLongest : ℕ
-planLongest = size_of (planRow R.fresh)
+unfoldable pub plan_longest : ℕ
+plan_longest = size_of (plan_row R.fresh)
 
 module _ (reg : Register) where
   -- the only command stands at the start
-  limits : Limited (planPart reg) (λ p at. at ≡ 0) 0 5 5
+  limits : Limited (plan_part reg) (λ p at. at ≡ 0) 0 5 5
   unfolding total
   limits = limited 0 _ (omega arith) refl (λ p at r. omega arith) (record { small = omega arith; moves = λ p at xs r e h. omega arith } ▹ tt)
 
-  pub plan-prefix : (K : ℕ) (s : List ℕ) → planLongest ≤ K → planInJob reg (take K s) ≡ planInJob reg s
-  unfolding planInJob planLongest total
-  plan-prefix K s k = read-prefix (planPart reg) limits K s (omega arith)
+  pub plan_prefix : (K : ℕ) (s : List ℕ) → plan_longest ≤ K → plan_in_job reg (take K s) ≡ plan_in_job reg s
+  unfolding plan_in_job plan_longest total
+  plan_prefix K s k = read_prefix (plan_part reg) limits K s (omega arith)
 
-  pub plan-end : (s : List ℕ) {p : Progress ℕ} {end : ℕ} → planInJob reg s ≡ accepted p end → end ≤ planLongest
-  unfolding planInJob planLongest total
-  plan-end s e = omega (arith, end-within (planPart reg) limits s e)
+  pub plan_end : (s : List ℕ) {p : Progress ℕ} {end : ℕ} → plan_in_job reg s ≡ accepted p end → end ≤ plan_longest
+  unfolding plan_in_job plan_longest total
+  plan_end s e = omega (arith, end_within (plan_part reg) limits s e)

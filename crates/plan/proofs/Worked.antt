@@ -3,43 +3,43 @@ use mathlib.Core.Path.{◌≡◌, refl}
 use mathlib.Core.List.{List, [], ◌∷◌, ◌++◌, map}
 use Prim.Native.Nat.{ℕ}
 use lib.IntN.{pos}
-use Rattle.integers.specs.Lists.{all_below, comesBefore}
-use Rattle.integers.specs.Sum.{sumBelow}
-use Rattle.sets.specs.Sets.{isSubset}
-use Rattle.wire.specs.Number.{natAt, little, bytes_of}
-use Rattle.wire.specs.Checks.{refusal, commandChecks}
-use Rattle.wire.specs.Part.{operandsAt, total, checksAt, after_at, command, step, follow, run, readFrom, readPart, byItself}
+use Rattle.integers.specs.Lists.{all_below, comes_before}
+use Rattle.integers.specs.Sum.{sum_below}
+use Rattle.sets.specs.Sets.{is_subset}
+use Rattle.wire.specs.Number.{nat_at, little, bytes_of}
+use Rattle.wire.specs.Checks.{refusal, command_checks}
+use Rattle.wire.specs.Part.{operands_at, total, checks_at, after_at, command, step, follow, run, read_from, read_part, by_itself}
 use Rattle.wire.specs.Rows.{row_of}
 use Rattle.register.specs.Register.{fresh}
-use Rattle.register.specs.Format.{baseChecks, choiceChecks, termChecks, endChecks, registerInJob, registerByItself}
-use Rattle.register.proofs.Example.{registerBytes}
+use Rattle.register.specs.Format.{base_checks, choice_checks, term_checks, end_checks, register_in_job, register_by_itself}
+use Rattle.register.proofs.Example.{register_bytes}
 use Rattle.plan.specs.declared.CostAnswer.{CostAnswer}
 use Rattle.plan.specs.Plan.{cost}
-use Rattle.plan.specs.Fits.{fitsRows}
-use Rattle.plan.specs.Format.{planChecks, planInJob, planByItself}
-use Rattle.plan.specs.Encoding.{encodePlan}
-use Rattle.plan.specs.Answer.{refusedCost, acceptedCost, costAnswer}
+use Rattle.plan.specs.Fits.{fits_rows}
+use Rattle.plan.specs.Format.{plan_checks, plan_in_job, plan_by_itself}
+use Rattle.plan.specs.Encoding.{encode_plan}
+use Rattle.plan.specs.Answer.{refused_cost, accepted_cost, cost_answer}
 
 abbrev answer : List ℕ × List ℕ → CostAnswer
-answer runs = costAnswer runs.0 runs.1
+answer runs = cost_answer runs.0 runs.1
 
 -- W2: the empty plan, the example's plan and the full one
-pub w2 : map (λ p. answer (registerBytes, encodePlan p)) (0 ∷ 3 ∷ 7 ∷ []) ≡ map acceptedCost (pos 10 ∷ pos 0 ∷ pos 5 ∷ [])
-unfolding costAnswer cost sumBelow isSubset encodePlan bytes_of fitsRows all_below planByItself planInJob planChecks registerByItself registerInJob byItself readPart readFrom run follow step command commandChecks checksAt after_at operandsAt total natAt little refusal row_of fresh baseChecks choiceChecks termChecks endChecks comesBefore
+pub w2 : map (λ p. answer (register_bytes, encode_plan p)) (0 ∷ 3 ∷ 7 ∷ []) ≡ map accepted_cost (pos 10 ∷ pos 0 ∷ pos 5 ∷ [])
+unfolding cost_answer cost sum_below is_subset encode_plan bytes_of fits_rows all_below plan_by_itself plan_in_job plan_checks register_by_itself register_in_job by_itself read_part read_from run follow step command command_checks checks_at after_at operands_at total nat_at little refusal row_of fresh base_checks choice_checks term_checks end_checks comes_before
 w2 = refl
 
 -- refusals: no plan; another byte; a plan cut short; a fourth choice; a byte after the plan; a byte after the register, which is
 -- found before the plan is opened; and the register's own
 refusals : map answer
-    ((registerBytes, [])
-    ∷ (registerBytes, 0x41 ∷ [])
-    ∷ (registerBytes, 0x40 ∷ 8 ∷ 0 ∷ 0 ∷ [])
-    ∷ (registerBytes, encodePlan 8)
-    ∷ (registerBytes, encodePlan 8 ++ (0 ∷ []))
-    ∷ (registerBytes, encodePlan 3 ++ (0 ∷ []))
-    ∷ (registerBytes ++ (0 ∷ []), [])
+    ((register_bytes, [])
+    ∷ (register_bytes, 0x41 ∷ [])
+    ∷ (register_bytes, 0x40 ∷ 8 ∷ 0 ∷ 0 ∷ [])
+    ∷ (register_bytes, encode_plan 8)
+    ∷ (register_bytes, encode_plan 8 ++ (0 ∷ []))
+    ∷ (register_bytes, encode_plan 3 ++ (0 ∷ []))
+    ∷ (register_bytes ++ (0 ∷ []), [])
     ∷ (0x7E ∷ [], [])
     ∷ [])
-    ≡ refusedCost 2 4 0 ∷ refusedCost 1 4 0 ∷ refusedCost 2 4 0 ∷ refusedCost 5 4 0 ∷ refusedCost 5 4 0 ∷ refusedCost 12 4 5 ∷ refusedCost 12 1 48 ∷ refusedCost 1 1 0 ∷ []
-unfolding costAnswer cost sumBelow isSubset encodePlan bytes_of fitsRows all_below planByItself planInJob planChecks registerByItself registerInJob byItself readPart readFrom run follow step command commandChecks checksAt after_at operandsAt total natAt little refusal row_of fresh baseChecks choiceChecks termChecks endChecks comesBefore
+    ≡ refused_cost 2 4 0 ∷ refused_cost 1 4 0 ∷ refused_cost 2 4 0 ∷ refused_cost 5 4 0 ∷ refused_cost 5 4 0 ∷ refused_cost 12 4 5 ∷ refused_cost 12 1 48 ∷ refused_cost 1 1 0 ∷ []
+unfolding cost_answer cost sum_below is_subset encode_plan bytes_of fits_rows all_below plan_by_itself plan_in_job plan_checks register_by_itself register_in_job by_itself read_part read_from run follow step command command_checks checks_at after_at operands_at total nat_at little refusal row_of fresh base_checks choice_checks term_checks end_checks comes_before
 refusals = refl

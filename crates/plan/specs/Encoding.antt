@@ -5,22 +5,22 @@ use Rattle.wire.specs.Encoding.{Command}
 use Rattle.wire.specs.Grammar.{Only}
 use Rattle.wire.specs.Grammar as G
 use Rattle.register.specs.declared.Register.{Register}
-use Rattle.plan.specs.Format.{planPart}
+use Rattle.plan.specs.Format.{plan_part}
 
 -- `40` plan
-abbrev pub planCommand : ℕ → Command
-planCommand plan = record { byte = 0x40; operands = plan ∷ [] }
+abbrev pub plan_command : ℕ → Command
+plan_command plan = record { byte = 0x40; operands = plan ∷ [] }
 
 -- the only command is that of the plan
 abbrev pub Commands : ℕ → List Command → Type 0
-Commands plan = Only (λ c. c ≡ planCommand plan)
+Commands plan = Only (λ c. c ≡ plan_command plan)
 
 -- a run of bytes is an encoding of a plan of a register
 abbrev pub Encodes : Register → ℕ → List ℕ → Type 0
-Encodes reg plan s = G.Encodes (planPart reg) Commands plan s
+Encodes reg plan s = G.Encodes (plan_part reg) Commands plan s
 
 -- ---- the encoding that a writer makes, which is one
 
 -- `40`, then the plan in four bytes
-unfoldable pub encodePlan : ℕ → List ℕ
-encodePlan plan = 0x40 ∷ bytes_of 4 plan
+unfoldable pub encode_plan : ℕ → List ℕ
+encode_plan plan = 0x40 ∷ bytes_of 4 plan

@@ -1,7 +1,7 @@
 -- Plans and their cost.
 use Rattle.std.specs.Prelude.{ℕ, ◌^◌, ◌<◌, cond, ℤ, pos, ◌+ℤ◌}
-use Rattle.integers.specs.Sum.{sumBelow}
-use Rattle.sets.specs.Sets.{isSubset}
+use Rattle.integers.specs.Sum.{sum_below}
+use Rattle.sets.specs.Sets.{is_subset}
 use Rattle.register.specs.declared.Register.{Register}
 use Rattle.register.specs.Register.{mask}
 
@@ -11,9 +11,9 @@ pub record Plan (n : ℕ) : Type 0 where
   pub inside : fed < 2 ^ n
 
 -- what term t adds, with coefficient c: c where its named choices are all fed
-abbrev pub termCost : ℤ → Register → ℕ → ℕ → ℤ
-termCost c r plan t = cond (isSubset (mask r t) plan) c (pos 0)
+abbrev pub term_cost : ℤ → Register → ℕ → ℕ → ℤ
+term_cost c r plan t = cond (is_subset (mask r t) plan) c (pos 0)
 
 -- the cost of a plan: the base cost and what each term adds; c t is the coefficient of term t
 unfoldable pub cost : (ℕ → ℤ) → Register → ℕ → ℤ
-cost c r plan = r.base +ℤ sumBelow r.terms (λ t. termCost (c t) r plan t)
+cost c r plan = r.base +ℤ sum_below r.terms (λ t. term_cost (c t) r plan t)

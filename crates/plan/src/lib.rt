@@ -3,16 +3,16 @@
 #![tactic(auto)]
 
 ghost use Rattle.std.specs.Prelude.{◌≡◌, cond, ◌<◌, ◌≤◌, eqb, length, get_or, pos};
-ghost use Rattle.wire.specs.Number.{natAt};
-ghost use Rattle.wire.specs.Checks.{commandChecks, refusal};
-ghost use Rattle.sets.specs.Sets.{isSubset};
-ghost use Rattle.register.specs.Limits.{maxChoices, maxRows};
+ghost use Rattle.wire.specs.Number.{nat_at};
+ghost use Rattle.wire.specs.Checks.{command_checks, refusal};
+ghost use Rattle.sets.specs.Sets.{is_subset};
+ghost use Rattle.register.specs.Limits.{max_choices, max_rows};
 ghost use Rattle.register.specs.Register.{coefficient};
 ghost use Rattle.register.specs.Valid.{Within};
 ghost use Rattle.plan.specs.Plan.{cost};
-ghost use Rattle.plan.specs.Fits.{storedFits};
-ghost use Rattle.plan.specs.Format.{planChecks, planInJob, planByItself};
-ghost use Rattle.plan.specs.Answer.{refusedRead, planRead, refusedCost, costAnswer};
+ghost use Rattle.plan.specs.Fits.{stored_fits};
+ghost use Rattle.plan.specs.Format.{plan_checks, plan_in_job, plan_by_itself};
+ghost use Rattle.plan.specs.Answer.{refused_read, plan_read, refused_cost, cost_answer};
 
 mod rows;
 
@@ -41,7 +41,7 @@ pub struct CostAnswer {
 
 impl PlanRead {
     fn refused(number: u8, position: usize) -> PlanRead
-        ensures { result ≡ refusedRead number position }
+        ensures { result ≡ refused_read number position }
     {
         PlanRead {
             number: number,
@@ -53,7 +53,7 @@ impl PlanRead {
 
 impl CostAnswer {
     fn refused(number: u8, part: u8, position: usize) -> CostAnswer
-        ensures { result ≡ refusedCost number part position }
+        ensures { result ≡ refused_cost number part position }
     {
         CostAnswer {
             number: number,
@@ -73,10 +73,10 @@ fn plan_refusal<'a>(
     rows: usize,
 ) -> u8
     requires bytes_nonzero { 0 < length bytes.now }
-    requires n_le_max_choices { n ≤ maxChoices }
-    requires rows_le_max_rows { rows ≤ maxRows }
-    ensures { result ≡ refusal (commandChecks (eqb (get_or bytes.now 0 0) 0x40) (length bytes.now) 5
-        (planChecks n (natAt 4 bytes.now 1) (storedFits totals.now entries.now rows n (natAt 4 bytes.now 1)))) }
+    requires n_le_max_choices { n ≤ max_choices }
+    requires rows_le_max_rows { rows ≤ max_rows }
+    ensures { result ≡ refusal (command_checks (eqb (get_or bytes.now 0 0) 0x40) (length bytes.now) 5
+        (plan_checks n (nat_at 4 bytes.now 1) (stored_fits totals.now entries.now rows n (nat_at 4 bytes.now 1)))) }
 {
     let command = bytes[0];
     let placed = command_refusal(command == 0x40, bytes.len(), 5);
@@ -90,9 +90,9 @@ fn plan_refusal<'a>(
 
 // The plan at the front of a run of bytes.
 pub fn read_plan(bytes: &[u8], register: Register) -> PlanRead
-    requires choices_within { register.choices ≤ maxChoices }
-    requires rows_within { register.rows ≤ maxRows }
-    ensures { result ≡ planRead (planInJob register bytes.now) }
+    requires choices_within { register.choices ≤ max_choices }
+    requires rows_within { register.rows ≤ max_rows }
+    ensures { result ≡ plan_read (plan_in_job register bytes.now) }
 {
     if bytes.len() == 0 {
         return PlanRead::refused(2, 0);
@@ -117,9 +117,9 @@ pub fn read_plan(bytes: &[u8], register: Register) -> PlanRead
 
 // The plan as a run of bytes by itself.
 fn read_whole(bytes: &[u8], register: Register) -> PlanRead
-    requires choices_within { register.choices ≤ maxChoices }
-    requires rows_within { register.rows ≤ maxRows }
-    ensures { result ≡ planRead (planByItself register bytes.now) }
+    requires choices_within { register.choices ≤ max_choices }
+    requires rows_within { register.rows ≤ max_rows }
+    ensures { result ≡ plan_read (plan_by_itself register bytes.now) }
 {
     let part = read_plan(bytes, register);
     let number = part.number;
@@ -142,7 +142,7 @@ pub fn wide(x: i32) -> i64
 
 // What a term adds to the cost: its coefficient where the plan feeds every choice that its mask names.
 fn term_cost(mask: u32, coefficient: i32, plan: u32) -> i64
-    ensures { result ≡ cond (isSubset mask plan) coefficient (pos 0) }
+    ensures { result ≡ cond (is_subset mask plan) coefficient (pos 0) }
 {
     let fed = plan & mask == mask;
     if fed {
@@ -167,7 +167,7 @@ pub fn cost_of(register: Register, plan: u32) -> i64
 // The cost of a plan, from the bytes of parts 1 and 4.
 #[unsafe(no_mangle)]
 pub extern "C" fn feedcheck_cost(register: &[u8], plan: &[u8]) -> CostAnswer
-    ensures { result ≡ costAnswer register.now plan.now }
+    ensures { result ≡ cost_answer register.now plan.now }
 {
     let first = register::feedcheck_register(register);
     let number = first.number;

@@ -1,16 +1,16 @@
 // Whether a plan fits rows: the sums of its fed entries.
 ghost use Rattle.std.specs.Prelude.{◌≡◌, ◌≤◌, ◌<◌, cond, pos};
-ghost use Rattle.register.specs.Limits.{maxChoices, maxRows};
-ghost use Rattle.sets.specs.Sets.{isMember};
-ghost use Rattle.register.specs.Register.{entryIn};
-ghost use Rattle.plan.specs.Fits.{fedSum, storedFits};
+ghost use Rattle.register.specs.Limits.{max_choices, max_rows};
+ghost use Rattle.sets.specs.Sets.{is_member};
+ghost use Rattle.register.specs.Register.{entry_in};
+ghost use Rattle.plan.specs.Fits.{fed_sum, stored_fits};
 
 use register::Register;
 
 // The plan feeds choice i.
 fn is_fed(plan: u32, i: usize) -> bool
-    requires { i < maxChoices }
-    ensures { result ≡ isMember i plan }
+    requires { i < max_choices }
+    ensures { result ≡ is_member i plan }
 {
     (plan >> i) % 2 == 1
 }
@@ -29,9 +29,9 @@ fn fed_sum<'a>(
     n: usize,
     plan: u32,
 ) -> i32
-    requires row_lt_max_rows { row < maxRows }
-    requires n_le_max_choices { n ≤ maxChoices }
-    ensures { result ≡ fedSum n (entryIn entries.now row) plan }
+    requires row_lt_max_rows { row < max_rows }
+    requires n_le_max_choices { n ≤ max_choices }
+    ensures { result ≡ fed_sum n (entry_in entries.now row) plan }
 {
     let start = row * Register::ROW_ENTRIES;
     let mut sum: i32 = 0;
@@ -49,9 +49,9 @@ pub fn fits_rows<'a>(
     n: usize,
     plan: u32,
 ) -> bool
-    requires rows_le_max_rows { rows ≤ maxRows }
-    requires n_le_max_choices { n ≤ maxChoices }
-    ensures { result ≡ storedFits totals.now entries.now rows n plan }
+    requires rows_le_max_rows { rows ≤ max_rows }
+    requires n_le_max_choices { n ≤ max_choices }
+    ensures { result ≡ stored_fits totals.now entries.now rows n plan }
 {
     for k in 0..rows {
         if fed_sum(entries, k, n, plan) != totals[k] as i32 {

@@ -10,38 +10,38 @@ use lib.ListN.{get_or}
 use borrow.Author.Tests.{eqb-true, ne_eqb}
 use Rattle.integers.proofs.Lists.{◌▹◌}
 use Rattle.wire.specs.Checks.{refusal}
-use Rattle.wire.specs.Part.{Reading, accepted, total, readPart, byItself}
-use Rattle.wire.specs.Rows.{Progress, isAmong, row_of}
-use Rattle.wire.proofs.Rest.{NoneOf, no-row, by_bytes}
-use Rattle.wire.proofs.Encoding.{byItself-accepted}
-use Rattle.wire.proofs.Part.{Ways, by-ways}
+use Rattle.wire.specs.Part.{Reading, accepted, total, read_part, by_itself}
+use Rattle.wire.specs.Rows.{Progress, is_among, row_of}
+use Rattle.wire.proofs.Rest.{NoneOf, no_row_lem, by_bytes}
+use Rattle.wire.proofs.Encoding.{by_itself_accepted}
+use Rattle.wire.proofs.Part.{Ways, by_ways}
 use Rattle.wire.proofs.Alike.{Alike, neither, read_alike}
 use Rattle.register.specs.declared.Register.{Register}
-use Rattle.register.specs.Limits.{usualDay}
-use Rattle.register.specs.Format.{choiceChecks, windowChecks, registerRows, registerPart, registerInJob, registerByItself}
+use Rattle.register.specs.Limits.{usual_day}
+use Rattle.register.specs.Format.{choice_checks, window_checks, register_rows, register_part, register_in_job, register_by_itself}
 use Rattle.register.specs.Encoding.{SaysLength, SaysRow}
-use Rattle.register.specs.BeforeRows.{rowsBeforeRows, partBeforeRows, inJobBeforeRows}
-use Rattle.register.specs.BeforeLengths.{choiceChecksBeforeLengths, windowChecksBeforeLengths, rowsBeforeLengths, partBeforeLengths, inJobBeforeLengths, byItselfBeforeLengths}
-use Rattle.register.proofs.DayLengths.{length-said}
-use Rattle.register.proofs.BeforeRows.{as-before-rows-in-job}
+use Rattle.register.specs.BeforeRows.{rows_before_rows, part_before_rows, in_job_before_rows}
+use Rattle.register.specs.BeforeLengths.{choice_checks_before_lengths, window_checks_before_lengths, rows_before_lengths, part_before_lengths, in_job_before_lengths, by_itself_before_lengths}
+use Rattle.register.proofs.DayLengths.{length_said}
+use Rattle.register.proofs.BeforeRows.{as_before_rows_in_job}
 
 -- only `10` may come first, so an accepted register starts with it
 
-first-base : (b : ℕ) → registerPart.here registerPart.start b ≡ true → b ≡ 0x10
+first_base : (b : ℕ) → register_part.here register_part.start b ≡ true → b ≡ 0x10
 unfolding row_of
-first-base b =
-    by_bytes (λ b. registerPart.here registerPart.start b ≡ true → b ≡ 0x10) registerRows b
-    (λ n h. absurd (false≢true (ap (λ row. isAmong 0 row.follows) (sym (no-row registerRows b n)) ∙ h)))
+first_base b =
+    by_bytes (λ b. register_part.here register_part.start b ≡ true → b ≡ 0x10) register_rows b
+    (λ n h. absurd (false≢true (ap (λ row. is_among 0 row.follows) (sym (no_row_lem register_rows b n)) ∙ h)))
     ((λ h. refl) ▹ (λ h. absurd (false≢true h)) ▹ (λ h. absurd (false≢true h)) ▹ (λ h. absurd (false≢true h)) ▹ (λ h. absurd (false≢true h)) ▹ (λ h. absurd (false≢true h)) ▹ (λ h. absurd (false≢true h)) ▹ tt)
 
-starts-base : (s : List ℕ) {p : Progress Register} {end : ℕ} → registerInJob s ≡ accepted p end → get_or s 0 0 ≡ 0x10
-unfolding registerInJob readPart
-starts-base s {p} {end} e = first-base (get_or s 0 0) (by-ways registerPart s Here ways registerPart.start 0 e)
+starts_base : (s : List ℕ) {p : Progress Register} {end : ℕ} → register_in_job s ≡ accepted p end → get_or s 0 0 ≡ 0x10
+unfolding register_in_job read_part
+starts_base s {p} {end} e = first_base (get_or s 0 0) (by_ways register_part s Here ways register_part.start 0 e)
   where
     Here : Progress Register → ℕ → Reading (Progress Register) → Type 0
-    Here read at x = x ≡ accepted p end → registerPart.here read (get_or s at 0) ≡ true
+    Here read at x = x ≡ accepted p end → register_part.here read (get_or s at 0) ≡ true
 
-    ways : Ways registerPart s Here
+    ways : Ways register_part s Here
     ways = record {
       missing = λ read at l q. let z : ◌≡◌ {A = ℕ} 0 1 = cc in absurd (omega arith);
       refuses = λ read at n l e d q. let z : ◌≡◌ {A = ℕ} 0 1 = cc in absurd (omega arith);
@@ -55,18 +55,18 @@ module _ (s : List ℕ) (none : SaysLength s → ⊥) where
     start : p.previous ≡ 0 → at ≡ 0
     base : p.previous ≡ 0x10 → (at ≡ 5) × (get_or s 0 0 ≡ 0x10)
     no_length : p.previous ≡ 0x18 → ⊥
-    usual : (p.previous ≡ 0 → ⊥) → p.parsed.day_length ≡ usualDay
+    usual : (p.previous ≡ 0 → ⊥) → p.parsed.day_length ≡ usual_day
 
-  later : (b : ℕ) {r : Register} {at : ℕ} → 0x10 < b → (b ≡ 0x18 → ⊥) → r.day_length ≡ usualDay → Reach (record { previous = b; parsed = r }) at
+  later : (b : ℕ) {r : Register} {at : ℕ} → 0x10 < b → (b ≡ 0x18 → ⊥) → r.day_length ≡ usual_day → Reach (record { previous = b; parsed = r }) at
   later b l d u = record { start = λ e. absurd (omega arith); base = λ e. absurd (omega arith); no_length = d; usual = λ _. u }
 
   module _ (p : Progress Register) (at : ℕ) (r : Reach p at) where
     abbrev AlikeAt : ℕ → Type 0
-    AlikeAt b = Alike partBeforeRows partBeforeLengths Reach p at b
+    AlikeAt b = Alike part_before_rows part_before_lengths Reach p at b
 
-    base-alike : get_or s at 0 ≡ 0x10 → AlikeAt 0x10
+    base_alike : get_or s at 0 ≡ 0x10 → AlikeAt 0x10
     unfolding row_of total
-    base-alike e = record {
+    base_alike e = record {
       here = refl;
       same = λ h. record {
         widths = refl;
@@ -78,69 +78,69 @@ module _ (s : List ℕ) (none : SaysLength s → ⊥) where
     }
 
     -- a choice has a minute of the usual day
-    choice-alike : AlikeAt 0x11
-    unfolding row_of refusal choiceChecks choiceChecksBeforeLengths
-    choice-alike = record {
+    choice_alike : AlikeAt 0x11
+    unfolding row_of refusal choice_checks choice_checks_before_lengths
+    choice_alike = record {
       here = rw (ne_eqb p.previous 0x18 r.no_length, or-false);
       same = λ h.
           let u = r.usual (λ e. false≢true (rw e at h)) in
           record { widths = refl; checks = λ xs. rw u; after = λ xs. refl; last = refl; moves = λ xs q. later 0x11 (omega arith) (λ e. omega arith) u };
     }
 
-    term-alike : AlikeAt 0x12
+    term_alike : AlikeAt 0x12
     unfolding row_of
-    term-alike = record {
+    term_alike = record {
       here = rw (ne_eqb p.previous 0x18 r.no_length, or-false);
       same = λ h. record { widths = refl; checks = λ xs. refl; after = λ xs. refl; last = refl; moves = λ xs q. later 0x12 (omega arith) (λ e. omega arith) (r.usual (λ e. false≢true (rw e at h))) };
     }
 
     -- and a window, which may end with it
-    window-alike : AlikeAt 0x13
-    unfolding row_of refusal windowChecks windowChecksBeforeLengths
-    window-alike = record {
+    window_alike : AlikeAt 0x13
+    unfolding row_of refusal window_checks window_checks_before_lengths
+    window_alike = record {
       here = rw (ne_eqb p.previous 0x18 r.no_length, or-false);
       same = λ h.
           let u = r.usual (λ e. false≢true (rw e at h)) in
           record { widths = refl; checks = λ xs. rw u; after = λ xs. refl; last = refl; moves = λ xs q. later 0x13 (omega arith) (λ e. omega arith) u };
     }
 
-    end-alike : AlikeAt 0x1F
+    end_alike : AlikeAt 0x1F
     unfolding row_of
-    end-alike = record {
+    end_alike = record {
       here = rw (ne_eqb p.previous 0x18 r.no_length, or-false);
       same = λ h. record { widths = refl; checks = λ xs. refl; after = λ xs. refl; last = refl; moves = λ xs q. later 0x1F (omega arith) (λ e. omega arith) (r.usual (λ e. false≢true (rw e at h))) };
     }
 
-    length-alike : get_or s at 0 ≡ 0x18 → AlikeAt 0x18
+    length_alike : get_or s at 0 ≡ 0x18 → AlikeAt 0x18
     unfolding row_of
-    length-alike e = neither partBeforeRows partBeforeLengths Reach (ne_eqb p.previous 0x10 (λ b. let (k, first) = r.base b in none (first, rw k at e))) refl
+    length_alike e = neither part_before_rows part_before_lengths Reach (ne_eqb p.previous 0x10 (λ b. let (k, first) = r.base b in none (first, rw k at e))) refl
 
-    none_alike : (b : ℕ) → NoneOf rowsBeforeRows b → AlikeAt b
+    none_alike : (b : ℕ) → NoneOf rows_before_rows b → AlikeAt b
     none_alike b n =
-        neither partBeforeRows partBeforeLengths Reach
-        (ap (λ row. isAmong p.previous row.follows) (no-row rowsBeforeRows b n))
-        (ap (λ row. isAmong p.previous row.follows) (no-row rowsBeforeLengths b (n.0 ▹ n.1.0 ▹ n.1.1.0 ▹ n.1.1.1.0 ▹ n.1.1.1.1.1)))
+        neither part_before_rows part_before_lengths Reach
+        (ap (λ row. is_among p.previous row.follows) (no_row_lem rows_before_rows b n))
+        (ap (λ row. is_among p.previous row.follows) (no_row_lem rows_before_lengths b (n.0 ▹ n.1.0 ▹ n.1.1.0 ▹ n.1.1.1.0 ▹ n.1.1.1.1.1)))
 
     alike : AlikeAt (get_or s at 0)
     alike =
-        by_bytes (λ b. get_or s at 0 ≡ b → AlikeAt b) rowsBeforeRows (get_or s at 0) (λ n e. none_alike (get_or s at 0) n)
-        (base-alike ▹ (λ e. choice-alike) ▹ (λ e. term-alike) ▹ (λ e. window-alike) ▹ length-alike ▹ (λ e. end-alike) ▹ tt) refl
+        by_bytes (λ b. get_or s at 0 ≡ b → AlikeAt b) rows_before_rows (get_or s at 0) (λ n e. none_alike (get_or s at 0) n)
+        (base_alike ▹ (λ e. choice_alike) ▹ (λ e. term_alike) ▹ (λ e. window_alike) ▹ length_alike ▹ (λ e. end_alike) ▹ tt) refl
 
-  both : inJobBeforeRows s ≡ inJobBeforeLengths s
-  unfolding inJobBeforeRows inJobBeforeLengths
-  both = (read_alike partBeforeRows partBeforeLengths Reach s alike refl (record { start = λ e. refl; base = λ e. absurd (omega arith); no_length = λ e. absurd (omega arith); usual = λ d. absurd (d refl) })).0
+  both : in_job_before_rows s ≡ in_job_before_lengths s
+  unfolding in_job_before_rows in_job_before_lengths
+  both = (read_alike part_before_rows part_before_lengths Reach s alike refl (record { start = λ e. refl; base = λ e. absurd (omega arith); no_length = λ e. absurd (omega arith); usual = λ d. absurd (d refl) })).0
 
-  module _ (no-row-said : SaysRow s → ⊥) where
-    pub as-before-lengths-in-job : registerInJob s ≡ inJobBeforeLengths s
-    as-before-lengths-in-job = as-before-rows-in-job s no-row-said ∙ both
+  module _ (no_row_said : SaysRow s → ⊥) where
+    pub as_before_lengths_in_job : register_in_job s ≡ in_job_before_lengths s
+    as_before_lengths_in_job = as_before_rows_in_job s no_row_said ∙ both
 
-    pub as-before-lengths : registerByItself s ≡ byItselfBeforeLengths s
-    unfolding registerByItself byItselfBeforeLengths
-    as-before-lengths = ap (byItself s) as-before-lengths-in-job
+    pub as_before_lengths : register_by_itself s ≡ by_itself_before_lengths s
+    unfolding register_by_itself by_itself_before_lengths
+    as_before_lengths = ap (by_itself s) as_before_lengths_in_job
 
   -- and where it is accepted, rows or not, the day has the usual length
-  pub usual-day : {p : Progress Register} {end : ℕ} → registerByItself s ≡ accepted p end → p.parsed.day_length ≡ usualDay
-  unfolding registerByItself
-  usual-day {p} {end} e =
-      let q = (byItself-accepted s (registerInJob s) p end e).0 in
-      length-said s q ∙ rw (ne_eqb (get_or s 5 0) 0x18 (λ f. none (starts-base s q, f)))
+  pub usual_day_lem : {p : Progress Register} {end : ℕ} → register_by_itself s ≡ accepted p end → p.parsed.day_length ≡ usual_day
+  unfolding register_by_itself
+  usual_day_lem {p} {end} e =
+      let q = (by_itself_accepted s (register_in_job s) p end e).0 in
+      length_said s q ∙ rw (ne_eqb (get_or s 5 0) 0x18 (λ f. none (starts_base s q, f)))

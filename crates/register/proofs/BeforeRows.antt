@@ -8,87 +8,87 @@ use mathlib.Core.List.{List, [], ◌∷◌}
 use lib.IntN.{ℤ}
 use borrow.Author.Tests.{ne_eqb}
 use Rattle.integers.proofs.Lists.{◌▹◌}
-use Rattle.wire.specs.Part.{accepted, byItself}
-use Rattle.wire.specs.Rows.{Progress, isAmong, row_of}
-use Rattle.wire.proofs.Rest.{NoneOf, no-row, by_bytes}
-use Rattle.wire.proofs.Encoding.{byItself-accepted}
-use Rattle.wire.proofs.Alike.{Alike, Ended, neither, read-without}
+use Rattle.wire.specs.Part.{accepted, by_itself}
+use Rattle.wire.specs.Rows.{Progress, is_among, row_of}
+use Rattle.wire.proofs.Rest.{NoneOf, no_row_lem, by_bytes}
+use Rattle.wire.proofs.Encoding.{by_itself_accepted}
+use Rattle.wire.proofs.Alike.{Alike, Ended, neither, read_without}
 use Rattle.register.specs.declared.Register.{Register}
 use Rattle.register.specs.Register.{fresh}
-use Rattle.register.specs.Format.{registerRows, registerPart, registerInJob, registerByItself}
+use Rattle.register.specs.Format.{register_rows, register_part, register_in_job, register_by_itself}
 use Rattle.register.specs.Encoding.{SaysRow}
-use Rattle.register.specs.BeforeRows.{rowsBeforeRows, partBeforeRows, inJobBeforeRows, byItselfBeforeRows}
+use Rattle.register.specs.BeforeRows.{rows_before_rows, part_before_rows, in_job_before_rows, by_itself_before_rows}
 
 -- the fields that came with rows
-abbrev pub rowsOf : Register → ℕ × List ℤ × List ℤ
-rowsOf r = (r.rows, r.row_totals, r.row_entries)
+abbrev pub rows_of : Register → ℕ × List ℤ × List ℤ
+rows_of r = (r.rows, r.row_totals, r.row_entries)
 
 -- no row was read
 record Reach (p : Progress Register) (at : ℕ) : Type 0 where
-  no-row-read : p.previous ≡ 0x14 → ⊥
-  rows : rowsOf p.parsed ≡ rowsOf fresh
+  no_row_read : p.previous ≡ 0x14 → ⊥
+  rows : rows_of p.parsed ≡ rows_of fresh
 
 module _ (p : Progress Register) (at : ℕ) (r : Reach p at) where
   abbrev AlikeAt : ℕ → Type 0
-  AlikeAt c = Alike registerPart partBeforeRows Reach p at c
+  AlikeAt c = Alike register_part part_before_rows Reach p at c
 
-  base-alike : AlikeAt 0x10
+  base_alike : AlikeAt 0x10
   unfolding row_of
-  base-alike = record { here = refl; same = λ h. record { widths = refl; checks = λ xs. refl; after = λ xs. refl; last = refl; moves = λ xs q. record { no-row-read = λ e. omega arith; rows = r.rows } } }
+  base_alike = record { here = refl; same = λ h. record { widths = refl; checks = λ xs. refl; after = λ xs. refl; last = refl; moves = λ xs q. record { no_row_read = λ e. omega arith; rows = r.rows } } }
 
-  choice-alike : AlikeAt 0x11
+  choice_alike : AlikeAt 0x11
   unfolding row_of
-  choice-alike = record { here = refl; same = λ h. record { widths = refl; checks = λ xs. refl; after = λ xs. refl; last = refl; moves = λ xs q. record { no-row-read = λ e. omega arith; rows = r.rows } } }
+  choice_alike = record { here = refl; same = λ h. record { widths = refl; checks = λ xs. refl; after = λ xs. refl; last = refl; moves = λ xs q. record { no_row_read = λ e. omega arith; rows = r.rows } } }
 
-  term-alike : AlikeAt 0x12
+  term_alike : AlikeAt 0x12
   unfolding row_of
-  term-alike = record { here = rw (ne_eqb p.previous 0x14 r.no-row-read); same = λ h. record { widths = refl; checks = λ xs. refl; after = λ xs. refl; last = refl; moves = λ xs q. record { no-row-read = λ e. omega arith; rows = r.rows } } }
+  term_alike = record { here = rw (ne_eqb p.previous 0x14 r.no_row_read); same = λ h. record { widths = refl; checks = λ xs. refl; after = λ xs. refl; last = refl; moves = λ xs q. record { no_row_read = λ e. omega arith; rows = r.rows } } }
 
-  window-alike : AlikeAt 0x13
+  window_alike : AlikeAt 0x13
   unfolding row_of
-  window-alike = record { here = refl; same = λ h. record { widths = refl; checks = λ xs. refl; after = λ xs. refl; last = refl; moves = λ xs q. record { no-row-read = λ e. omega arith; rows = r.rows } } }
+  window_alike = record { here = refl; same = λ h. record { widths = refl; checks = λ xs. refl; after = λ xs. refl; last = refl; moves = λ xs q. record { no_row_read = λ e. omega arith; rows = r.rows } } }
 
-  length-alike : AlikeAt 0x18
+  length_alike : AlikeAt 0x18
   unfolding row_of
-  length-alike = record { here = refl; same = λ h. record { widths = refl; checks = λ xs. refl; after = λ xs. refl; last = refl; moves = λ xs q. record { no-row-read = λ e. omega arith; rows = r.rows } } }
+  length_alike = record { here = refl; same = λ h. record { widths = refl; checks = λ xs. refl; after = λ xs. refl; last = refl; moves = λ xs q. record { no_row_read = λ e. omega arith; rows = r.rows } } }
 
-  end-alike : AlikeAt 0x1F
+  end_alike : AlikeAt 0x1F
   unfolding row_of
-  end-alike = record { here = rw (ne_eqb p.previous 0x14 r.no-row-read); same = λ h. record { widths = refl; checks = λ xs. refl; after = λ xs. refl; last = refl; moves = λ xs q. record { no-row-read = λ e. omega arith; rows = r.rows } } }
+  end_alike = record { here = rw (ne_eqb p.previous 0x14 r.no_row_read); same = λ h. record { widths = refl; checks = λ xs. refl; after = λ xs. refl; last = refl; moves = λ xs q. record { no_row_read = λ e. omega arith; rows = r.rows } } }
 
-  none_alike : (b : ℕ) → NoneOf registerRows b → AlikeAt b
+  none_alike : (b : ℕ) → NoneOf register_rows b → AlikeAt b
   none_alike b n =
-      neither registerPart partBeforeRows Reach
-      (ap (λ row. isAmong p.previous row.follows) (no-row registerRows b n))
-      (ap (λ row. isAmong p.previous row.follows) (no-row rowsBeforeRows b (n.0 ▹ n.1.0 ▹ n.1.1.0 ▹ n.1.1.1.0 ▹ n.1.1.1.1.1)))
+      neither register_part part_before_rows Reach
+      (ap (λ row. is_among p.previous row.follows) (no_row_lem register_rows b n))
+      (ap (λ row. is_among p.previous row.follows) (no_row_lem rows_before_rows b (n.0 ▹ n.1.0 ▹ n.1.1.0 ▹ n.1.1.1.0 ▹ n.1.1.1.1.1)))
 
 -- directly after one of these a row may stand, and after a row
-abbrev mayFollow : Progress Register → Bool
-mayFollow p = isAmong p.previous (0x10 ∷ 0x11 ∷ 0x13 ∷ 0x18 ∷ [])
+abbrev may_follow : Progress Register → Bool
+may_follow p = is_among p.previous (0x10 ∷ 0x11 ∷ 0x13 ∷ 0x18 ∷ [])
 
-row-alike : (p : Progress Register) (at : ℕ) → Reach p at → mayFollow p ≡ false → Alike registerPart partBeforeRows Reach p at 0x14
+row_alike : (p : Progress Register) (at : ℕ) → Reach p at → may_follow p ≡ false → Alike register_part part_before_rows Reach p at 0x14
 unfolding row_of
-row-alike p at r m = neither registerPart partBeforeRows Reach (rw (ne_eqb p.previous 0x14 r.no-row-read) m) refl
+row_alike p at r m = neither register_part part_before_rows Reach (rw (ne_eqb p.previous 0x14 r.no_row_read) m) refl
 
-agree : (p : Progress Register) (at c : ℕ) → Reach p at → (c ≡ 0x14 → mayFollow p ≡ false) → Alike registerPart partBeforeRows Reach p at c
+agree : (p : Progress Register) (at c : ℕ) → Reach p at → (c ≡ 0x14 → may_follow p ≡ false) → Alike register_part part_before_rows Reach p at c
 agree p at c r =
-    by_bytes (λ c. (c ≡ 0x14 → mayFollow p ≡ false) → AlikeAt p at r c) registerRows c (λ n d. none_alike p at r c n)
-    ((λ d. base-alike p at r) ▹ (λ d. choice-alike p at r) ▹ (λ d. term-alike p at r) ▹ (λ d. window-alike p at r) ▹ (λ d. row-alike p at r (d refl)) ▹ (λ d. length-alike p at r) ▹ (λ d. end-alike p at r) ▹ tt)
+    by_bytes (λ c. (c ≡ 0x14 → may_follow p ≡ false) → AlikeAt p at r c) register_rows c (λ n d. none_alike p at r c n)
+    ((λ d. base_alike p at r) ▹ (λ d. choice_alike p at r) ▹ (λ d. term_alike p at r) ▹ (λ d. window_alike p at r) ▹ (λ d. row_alike p at r (d refl)) ▹ (λ d. length_alike p at r) ▹ (λ d. end_alike p at r) ▹ tt)
 
 module _ (s : List ℕ) (none : SaysRow s → ⊥) where
-  both : (registerInJob s ≡ inJobBeforeRows s) × Ended Reach (registerInJob s)
-  unfolding registerInJob inJobBeforeRows
-  both = read-without registerPart partBeforeRows Reach mayFollow 0x14 agree s none refl (record { no-row-read = λ e. omega arith; rows = refl })
+  both : (register_in_job s ≡ in_job_before_rows s) × Ended Reach (register_in_job s)
+  unfolding register_in_job in_job_before_rows
+  both = read_without register_part part_before_rows Reach may_follow 0x14 agree s none refl (record { no_row_read = λ e. omega arith; rows = refl })
 
-  pub as-before-rows-in-job : registerInJob s ≡ inJobBeforeRows s
-  as-before-rows-in-job = both.0
+  pub as_before_rows_in_job : register_in_job s ≡ in_job_before_rows s
+  as_before_rows_in_job = both.0
 
-  pub as-before-rows : registerByItself s ≡ byItselfBeforeRows s
-  unfolding registerByItself byItselfBeforeRows
-  as-before-rows = ap (byItself s) as-before-rows-in-job
+  pub as_before_rows : register_by_itself s ≡ by_itself_before_rows s
+  unfolding register_by_itself by_itself_before_rows
+  as_before_rows = ap (by_itself s) as_before_rows_in_job
 
   -- and where it is accepted, the fields that came with rows are those of a fresh register, all 0
-  pub no-rows : {p : Progress Register} {end : ℕ} → registerByItself s ≡ accepted p end → rowsOf p.parsed ≡ rowsOf fresh
-  unfolding registerByItself
-  no-rows {p} {end} e =
-      let q : Ended Reach (accepted p end) = rw (byItself-accepted s (registerInJob s) p end e).0 at both.1 in q.rows
+  pub no_rows : {p : Progress Register} {end : ℕ} → register_by_itself s ≡ accepted p end → rows_of p.parsed ≡ rows_of fresh
+  unfolding register_by_itself
+  no_rows {p} {end} e =
+      let q : Ended Reach (accepted p end) = rw (by_itself_accepted s (register_in_job s) p end e).0 at both.1 in q.rows

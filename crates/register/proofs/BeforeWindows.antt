@@ -10,102 +10,102 @@ use lib.ListN.{get_or}
 use borrow.Author.Tests.{eqb-true, ne_eqb}
 use Rattle.integers.proofs.Lists.{◌▹◌}
 use Rattle.wire.specs.Checks.{refusal}
-use Rattle.wire.specs.Part.{accepted, total, byItself}
-use Rattle.wire.specs.Rows.{Progress, isAmong, row_of}
-use Rattle.wire.proofs.Rest.{NoneOf, no-row, by_bytes}
-use Rattle.wire.proofs.Encoding.{byItself-accepted}
+use Rattle.wire.specs.Part.{accepted, total, by_itself}
+use Rattle.wire.specs.Rows.{Progress, is_among, row_of}
+use Rattle.wire.proofs.Rest.{NoneOf, no_row_lem, by_bytes}
+use Rattle.wire.proofs.Encoding.{by_itself_accepted}
 use Rattle.wire.proofs.Alike.{Alike, Ended, neither, read_alike}
 use Rattle.register.specs.declared.Register.{Register}
 use Rattle.register.specs.Register.{fresh}
-use Rattle.register.specs.Format.{registerInJob, registerByItself}
+use Rattle.register.specs.Format.{register_in_job, register_by_itself}
 use Rattle.register.specs.Encoding.{SaysLength, SaysRow}
-use Rattle.register.specs.BeforeLengths.{choiceChecksBeforeLengths, rowsBeforeLengths, partBeforeLengths, inJobBeforeLengths}
-use Rattle.register.specs.BeforeWindows.{choiceChecksBeforeWindows, rowsBeforeWindows, partBeforeWindows, inJobBeforeWindows, byItselfBeforeWindows}
-use Rattle.register.proofs.BeforeLengths.{as-before-lengths-in-job}
+use Rattle.register.specs.BeforeLengths.{choice_checks_before_lengths, rows_before_lengths, part_before_lengths, in_job_before_lengths}
+use Rattle.register.specs.BeforeWindows.{choice_checks_before_windows, rows_before_windows, part_before_windows, in_job_before_windows, by_itself_before_windows}
+use Rattle.register.proofs.BeforeLengths.{as_before_lengths_in_job}
 
 -- the fields that came with windows
-abbrev pub windowsOf : Register → ℕ × List ℕ × List ℕ × List ℕ
-windowsOf r = (r.windows, r.window_tanks, r.window_froms, r.window_tos)
+abbrev pub windows_of : Register → ℕ × List ℕ × List ℕ × List ℕ
+windows_of r = (r.windows, r.window_tanks, r.window_froms, r.window_tos)
 
 -- no window was read, and the command after the base cost stands at 5
 record Reach (p : Progress Register) (at : ℕ) : Type 0 where
   start : p.previous ≡ 0 → at ≡ 0
   base : p.previous ≡ 0x10 → at ≡ 5
-  no-window : p.previous ≡ 0x13 → ⊥
-  windows : windowsOf p.parsed ≡ windowsOf fresh
+  no_window : p.previous ≡ 0x13 → ⊥
+  windows : windows_of p.parsed ≡ windows_of fresh
 
-later : (b : ℕ) {r : Register} {at : ℕ} → 0x10 < b → (b ≡ 0x13 → ⊥) → windowsOf r ≡ windowsOf fresh → Reach (record { previous = b; parsed = r }) at
-later b l d w = record { start = λ e. absurd (omega arith); base = λ e. absurd (omega arith); no-window = d; windows = w }
+later : (b : ℕ) {r : Register} {at : ℕ} → 0x10 < b → (b ≡ 0x13 → ⊥) → windows_of r ≡ windows_of fresh → Reach (record { previous = b; parsed = r }) at
+later b l d w = record { start = λ e. absurd (omega arith); base = λ e. absurd (omega arith); no_window = d; windows = w }
 
 module _ (s : List ℕ) (none : get_or s 5 0 ≡ 0x13 → ⊥) where
   module _ (p : Progress Register) (at : ℕ) (r : Reach p at) where
     abbrev AlikeAt : ℕ → Type 0
-    AlikeAt b = Alike partBeforeLengths partBeforeWindows Reach p at b
+    AlikeAt b = Alike part_before_lengths part_before_windows Reach p at b
 
-    base-alike : AlikeAt 0x10
+    base_alike : AlikeAt 0x10
     unfolding row_of total
-    base-alike = record {
+    base_alike = record {
       here = refl;
       same = λ h. record {
         widths = refl;
         checks = λ xs. refl;
         after = λ xs. refl;
         last = refl;
-        moves = λ xs q. record { start = λ e. absurd (omega arith); base = λ e. omega (arith, r.start (eqb-true p.previous 0 h)); no-window = λ e. omega arith; windows = r.windows };
+        moves = λ xs q. record { start = λ e. absurd (omega arith); base = λ e. omega (arith, r.start (eqb-true p.previous 0 h)); no_window = λ e. omega arith; windows = r.windows };
       };
     }
 
     -- where there is no window, check 13 does not fail
-    choice-alike : AlikeAt 0x11
-    unfolding row_of refusal choiceChecksBeforeLengths choiceChecksBeforeWindows fresh
-    choice-alike = record {
-      here = rw (ne_eqb p.previous 0x13 r.no-window, or-false);
+    choice_alike : AlikeAt 0x11
+    unfolding row_of refusal choice_checks_before_lengths choice_checks_before_windows fresh
+    choice_alike = record {
+      here = rw (ne_eqb p.previous 0x13 r.no_window, or-false);
       same = λ h. record { widths = refl; checks = λ xs. rw (ap (λ w. w.0) r.windows); after = λ xs. refl; last = refl; moves = λ xs q. later 0x11 (omega arith) (λ e. omega arith) r.windows };
     }
 
-    term-alike : AlikeAt 0x12
+    term_alike : AlikeAt 0x12
     unfolding row_of
-    term-alike = record {
-      here = rw (ne_eqb p.previous 0x13 r.no-window, or-false);
+    term_alike = record {
+      here = rw (ne_eqb p.previous 0x13 r.no_window, or-false);
       same = λ h. record { widths = refl; checks = λ xs. refl; after = λ xs. refl; last = refl; moves = λ xs q. later 0x12 (omega arith) (λ e. omega arith) r.windows };
     }
 
-    end-alike : AlikeAt 0x1F
+    end_alike : AlikeAt 0x1F
     unfolding row_of
-    end-alike = record {
-      here = rw (ne_eqb p.previous 0x13 r.no-window, or-false);
+    end_alike = record {
+      here = rw (ne_eqb p.previous 0x13 r.no_window, or-false);
       same = λ h. record { widths = refl; checks = λ xs. refl; after = λ xs. refl; last = refl; moves = λ xs q. later 0x1F (omega arith) (λ e. omega arith) r.windows };
     }
 
-    window-alike : get_or s at 0 ≡ 0x13 → AlikeAt 0x13
+    window_alike : get_or s at 0 ≡ 0x13 → AlikeAt 0x13
     unfolding row_of
-    window-alike e = neither partBeforeLengths partBeforeWindows Reach (rw (ne_eqb p.previous 0x10 (λ b. none (rw (r.base b) at e)), ne_eqb p.previous 0x13 r.no-window)) refl
+    window_alike e = neither part_before_lengths part_before_windows Reach (rw (ne_eqb p.previous 0x10 (λ b. none (rw (r.base b) at e)), ne_eqb p.previous 0x13 r.no_window)) refl
 
-    none_alike : (b : ℕ) → NoneOf rowsBeforeLengths b → AlikeAt b
+    none_alike : (b : ℕ) → NoneOf rows_before_lengths b → AlikeAt b
     none_alike b n =
-        neither partBeforeLengths partBeforeWindows Reach
-        (ap (λ row. isAmong p.previous row.follows) (no-row rowsBeforeLengths b n))
-        (ap (λ row. isAmong p.previous row.follows) (no-row rowsBeforeWindows b (n.0 ▹ n.1.0 ▹ n.1.1.0 ▹ n.1.1.1.1)))
+        neither part_before_lengths part_before_windows Reach
+        (ap (λ row. is_among p.previous row.follows) (no_row_lem rows_before_lengths b n))
+        (ap (λ row. is_among p.previous row.follows) (no_row_lem rows_before_windows b (n.0 ▹ n.1.0 ▹ n.1.1.0 ▹ n.1.1.1.1)))
 
     alike : AlikeAt (get_or s at 0)
     alike =
-        by_bytes (λ b. get_or s at 0 ≡ b → AlikeAt b) rowsBeforeLengths (get_or s at 0) (λ n e. none_alike (get_or s at 0) n)
-        ((λ e. base-alike) ▹ (λ e. choice-alike) ▹ (λ e. term-alike) ▹ window-alike ▹ (λ e. end-alike) ▹ tt) refl
+        by_bytes (λ b. get_or s at 0 ≡ b → AlikeAt b) rows_before_lengths (get_or s at 0) (λ n e. none_alike (get_or s at 0) n)
+        ((λ e. base_alike) ▹ (λ e. choice_alike) ▹ (λ e. term_alike) ▹ window_alike ▹ (λ e. end_alike) ▹ tt) refl
 
-  both : (inJobBeforeLengths s ≡ inJobBeforeWindows s) × Ended Reach (inJobBeforeLengths s)
-  unfolding inJobBeforeLengths inJobBeforeWindows
-  both = read_alike partBeforeLengths partBeforeWindows Reach s alike refl (record { start = λ e. refl; base = λ e. absurd (omega arith); no-window = λ e. absurd (omega arith); windows = refl })
+  both : (in_job_before_lengths s ≡ in_job_before_windows s) × Ended Reach (in_job_before_lengths s)
+  unfolding in_job_before_lengths in_job_before_windows
+  both = read_alike part_before_lengths part_before_windows Reach s alike refl (record { start = λ e. refl; base = λ e. absurd (omega arith); no_window = λ e. absurd (omega arith); windows = refl })
 
-  module _ (no_length : SaysLength s → ⊥) (no-row-said : SaysRow s → ⊥) where
-    pub as-before-windows-in-job : registerInJob s ≡ inJobBeforeWindows s
-    as-before-windows-in-job = as-before-lengths-in-job s no_length no-row-said ∙ both.0
+  module _ (no_length : SaysLength s → ⊥) (no_row_said : SaysRow s → ⊥) where
+    pub as_before_windows_in_job : register_in_job s ≡ in_job_before_windows s
+    as_before_windows_in_job = as_before_lengths_in_job s no_length no_row_said ∙ both.0
 
-    pub as-before-windows : registerByItself s ≡ byItselfBeforeWindows s
-    unfolding registerByItself byItselfBeforeWindows
-    as-before-windows = ap (byItself s) as-before-windows-in-job
+    pub as_before_windows : register_by_itself s ≡ by_itself_before_windows s
+    unfolding register_by_itself by_itself_before_windows
+    as_before_windows = ap (by_itself s) as_before_windows_in_job
 
     -- and where it is accepted, the fields that came with windows are those of a fresh register, all 0
-    pub no-windows : {p : Progress Register} {end : ℕ} → registerByItself s ≡ accepted p end → windowsOf p.parsed ≡ windowsOf fresh
-    unfolding registerByItself
-    no-windows {p} {end} e =
-        let q : Ended Reach (accepted p end) = rw (sym (as-before-lengths-in-job s no_length no-row-said) ∙ (byItself-accepted s (registerInJob s) p end e).0) at both.1 in q.windows
+    pub no_windows : {p : Progress Register} {end : ℕ} → register_by_itself s ≡ accepted p end → windows_of p.parsed ≡ windows_of fresh
+    unfolding register_by_itself
+    no_windows {p} {end} e =
+        let q : Ended Reach (accepted p end) = rw (sym (as_before_lengths_in_job s no_length no_row_said) ∙ (by_itself_accepted s (register_in_job s) p end e).0) at both.1 in q.windows

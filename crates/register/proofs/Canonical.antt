@@ -8,196 +8,196 @@ use lib.IntN.{ℤ}
 use lib.ListN.{length}
 use mir.Syntax.{w8}
 use borrow.Author.Tests.{eqb-true}
-use Rattle.integers.specs.Lists.{joinBelow}
+use Rattle.integers.specs.Lists.{join_below}
 use Rattle.integers.proofs.Lists.{flag}
-use Rattle.integers.proofs.Blocks.{length-ones}
+use Rattle.integers.proofs.Blocks.{length_ones}
 use Rattle.wire.specs.Rows.{row_of}
-use Rattle.wire.specs.Encoding.{Command, fields, encodeCommand, encode}
+use Rattle.wire.specs.Encoding.{Command, fields, encode_command, encode}
 use Rattle.wire.specs.Grammar.{Only, Form}
-use Rattle.wire.proofs.Encoding.{encode-append, encode-below}
-use Rattle.wire.proofs.Many.{fields-signed}
-use Rattle.wire.proofs.Grammar.{then-missing, then-present, optional-last, each_below, each-only}
+use Rattle.wire.proofs.Encoding.{encode-append, encode_below}
+use Rattle.wire.proofs.Many.{fields_signed}
+use Rattle.wire.proofs.Grammar.{then_missing, then_present, optional_last, each_below, each_only}
 use Rattle.register.specs.declared.Register.{Register}
-use Rattle.register.specs.Limits.{rowEntries, usualDay}
-use Rattle.register.specs.Register.{tank, minute, mask, coefficient, windowTank, windowFrom, windowTo, rowTotal, rowEntry}
-use Rattle.register.specs.Format.{registerPart}
-use Rattle.register.specs.Encoding.{baseCommand, lengthCommand, Header, choiceCommand, termCommand, windowCommand, rowList, rowCommand, endCommand, choiceKind, termKind, windowKind, rowKind, Commands, Encodes, encodeBase, encodeChoice, encodeTerm, encodeWindow, encodeRow, encodeLength, encodeAfter, encodeWithLength, encodeWithoutLength, encodeRegister}
+use Rattle.register.specs.Limits.{row_entries, usual_day}
+use Rattle.register.specs.Register.{tank, minute, mask, coefficient, window_tank, window_from, window_to, row_total, row_entry}
+use Rattle.register.specs.Format.{register_part}
+use Rattle.register.specs.Encoding.{base_command, length_command, Header, choice_command, term_command, window_command, row_list, row_command, end_command, choice_kind, term_kind, window_kind, row_kind, Commands, Encodes, encode_base, encode_choice, encode_term, encode_window, encode_row, encode_length, encode_after, encode_with_length, encode_without_length, encode_register}
 
 -- ---- the bytes of a command
 
-pub base-bytes : (z : ℤ) → encodeCommand registerPart (baseCommand z) ≡ encodeBase z
-unfolding encodeCommand fields row_of encodeBase
-base-bytes z = rw append-nil
+pub base_bytes : (z : ℤ) → encode_command register_part (base_command z) ≡ encode_base z
+unfolding encode_command fields row_of encode_base
+base_bytes z = rw append-nil
 
-choice-bytes : (t m : ℕ) → encodeCommand registerPart (choiceCommand t m) ≡ encodeChoice t m
-unfolding encodeCommand fields row_of encodeChoice
-choice-bytes t m = rw append-nil
+choice_bytes : (t m : ℕ) → encode_command register_part (choice_command t m) ≡ encode_choice t m
+unfolding encode_command fields row_of encode_choice
+choice_bytes t m = rw append-nil
 
-term-bytes : (m : ℕ) (z : ℤ) → encodeCommand registerPart (termCommand m z) ≡ encodeTerm m z
-unfolding encodeCommand fields row_of encodeTerm
-term-bytes m z = rw append-nil
+term_bytes : (m : ℕ) (z : ℤ) → encode_command register_part (term_command m z) ≡ encode_term m z
+unfolding encode_command fields row_of encode_term
+term_bytes m z = rw append-nil
 
-window_bytes : (t f o : ℕ) → encodeCommand registerPart (windowCommand t f o) ≡ encodeWindow t f o
-unfolding encodeCommand fields row_of encodeWindow
+window_bytes : (t f o : ℕ) → encode_command register_part (window_command t f o) ≡ encode_window t f o
+unfolding encode_command fields row_of encode_window
 window_bytes t f o = rw append-nil
 
-row-bytes : (z : ℤ) (es : List ℤ) → length es ≡ rowEntries → encodeCommand registerPart (rowCommand z es) ≡ encodeRow z es
-unfolding encodeCommand fields row_of encodeRow
-row-bytes z es l = rw (fields-signed w8 1 rowEntries es l)
+row_bytes : (z : ℤ) (es : List ℤ) → length es ≡ row_entries → encode_command register_part (row_command z es) ≡ encode_row z es
+unfolding encode_command fields row_of encode_row
+row_bytes z es l = rw (fields_signed w8 1 row_entries es l)
 
-length-bytes : (l : ℕ) → encodeCommand registerPart (lengthCommand l) ≡ encodeLength l
-unfolding encodeCommand fields row_of encodeLength
-length-bytes l = rw append-nil
+length_bytes : (l : ℕ) → encode_command register_part (length_command l) ≡ encode_length l
+unfolding encode_command fields row_of encode_length
+length_bytes l = rw append-nil
 
-end-bytes : encodeCommand registerPart endCommand ≡ 0x1F ∷ []
-unfolding encodeCommand fields row_of
-end-bytes = refl
+end_bytes : encode_command register_part end_command ≡ 0x1F ∷ []
+unfolding encode_command fields row_of
+end_bytes = refl
 
 -- ---- the commands that a writer makes
 
 module _ (r : Register) where
-  abbrev pub windowsOf : List Command
-  windowsOf = joinBelow r.windows (λ j. windowCommand (windowTank r j) (windowFrom r j) (windowTo r j) ∷ [])
+  abbrev pub windows_of : List Command
+  windows_of = join_below r.windows (λ j. window_command (window_tank r j) (window_from r j) (window_to r j) ∷ [])
 
-  abbrev pub choicesOf : List Command
-  choicesOf = joinBelow r.choices (λ i. choiceCommand (tank r i) (minute r i) ∷ [])
+  abbrev pub choices_of : List Command
+  choices_of = join_below r.choices (λ i. choice_command (tank r i) (minute r i) ∷ [])
 
-  abbrev pub rowsOf : List Command
-  rowsOf = joinBelow r.rows (λ k. rowCommand (rowTotal r k) (rowList r k) ∷ [])
+  abbrev pub rows_of : List Command
+  rows_of = join_below r.rows (λ k. row_command (row_total r k) (row_list r k) ∷ [])
 
-  abbrev pub termsOf : List Command
-  termsOf = joinBelow r.terms (λ t. termCommand (mask r t) (coefficient r t) ∷ [])
+  abbrev pub terms_of : List Command
+  terms_of = join_below r.terms (λ t. term_command (mask r t) (coefficient r t) ∷ [])
 
   -- after a header
-  abbrev pub commandsAfter : List Command → List Command
-  commandsAfter h = h ++ windowsOf ++ choicesOf ++ rowsOf ++ termsOf ++ (endCommand ∷ [])
+  abbrev pub commands_after : List Command → List Command
+  commands_after h = h ++ windows_of ++ choices_of ++ rows_of ++ terms_of ++ (end_command ∷ [])
 
-  pub after-are : (h : List Command) → Header r h → Commands r (commandsAfter h)
-  after-are h x = record {
-    first = h ++ windowsOf ++ choicesOf ++ rowsOf ++ termsOf;
-    second = endCommand ∷ [];
-    is-first = record {
-      first = h ++ windowsOf ++ choicesOf ++ rowsOf;
-      second = termsOf;
-      is-first = record {
-        first = h ++ windowsOf ++ choicesOf;
-        second = rowsOf;
-        is-first = record {
-          first = h ++ windowsOf;
-          second = choicesOf;
-          is-first = record {
+  pub after_are : (h : List Command) → Header r h → Commands r (commands_after h)
+  after_are h x = record {
+    first = h ++ windows_of ++ choices_of ++ rows_of ++ terms_of;
+    second = end_command ∷ [];
+    is_first = record {
+      first = h ++ windows_of ++ choices_of ++ rows_of;
+      second = terms_of;
+      is_first = record {
+        first = h ++ windows_of ++ choices_of;
+        second = rows_of;
+        is_first = record {
+          first = h ++ windows_of;
+          second = choices_of;
+          is_first = record {
             first = h;
-            second = windowsOf;
-            is-first = x;
-            is-second = each_below (Form windowKind r) (λ j. windowCommand (windowTank r j) (windowFrom r j) (windowTo r j)) r.windows (λ j l. (inl refl, refl));
+            second = windows_of;
+            is_first = x;
+            is_second = each_below (Form window_kind r) (λ j. window_command (window_tank r j) (window_from r j) (window_to r j)) r.windows (λ j l. (inl refl, refl));
             whole = refl;
           };
-          is-second = each_below (Form choiceKind r) (λ i. choiceCommand (tank r i) (minute r i)) r.choices (λ i l. (inl refl, refl));
+          is_second = each_below (Form choice_kind r) (λ i. choice_command (tank r i) (minute r i)) r.choices (λ i l. (inl refl, refl));
           whole = refl;
         };
-        is-second = each_below (Form rowKind r) (λ k. rowCommand (rowTotal r k) (rowList r k)) r.rows (λ k l. (inl refl, refl));
+        is_second = each_below (Form row_kind r) (λ k. row_command (row_total r k) (row_list r k)) r.rows (λ k l. (inl refl, refl));
         whole = refl;
       };
-      is-second = each_below (Form termKind r) (λ t. termCommand (mask r t) (coefficient r t)) r.terms (λ t l. (inl refl, refl));
+      is_second = each_below (Form term_kind r) (λ t. term_command (mask r t) (coefficient r t)) r.terms (λ t l. (inl refl, refl));
       whole = refl;
     };
-    is-second = record { command = endCommand; form = refl; whole = refl };
+    is_second = record { command = end_command; form = refl; whole = refl };
     whole = refl;
   }
 
-  pub after-bytes : (h : List Command) → encode registerPart (commandsAfter h) ≡ encodeAfter (encode registerPart h) r
+  pub after_bytes : (h : List Command) → encode register_part (commands_after h) ≡ encode_after (encode register_part h) r
   unfolding encode flat_map
-  after-bytes h =
+  after_bytes h =
       rw (
-        encode-append registerPart (h ++ windowsOf ++ choicesOf ++ rowsOf ++ termsOf) (endCommand ∷ []),
-        encode-append registerPart (h ++ windowsOf ++ choicesOf ++ rowsOf) termsOf,
-        encode-append registerPart (h ++ windowsOf ++ choicesOf) rowsOf,
-        encode-append registerPart (h ++ windowsOf) choicesOf,
-        encode-append registerPart h windowsOf,
-        encode-below registerPart (λ j. windowCommand (windowTank r j) (windowFrom r j) (windowTo r j)) (λ j. encodeWindow (windowTank r j) (windowFrom r j) (windowTo r j)) r.windows (λ j. window_bytes (windowTank r j) (windowFrom r j) (windowTo r j)),
-        encode-below registerPart (λ i. choiceCommand (tank r i) (minute r i)) (λ i. encodeChoice (tank r i) (minute r i)) r.choices (λ i. choice-bytes (tank r i) (minute r i)),
-        encode-below registerPart (λ k. rowCommand (rowTotal r k) (rowList r k)) (λ k. encodeRow (rowTotal r k) (rowList r k)) r.rows (λ k. row-bytes (rowTotal r k) (rowList r k) (length-ones (rowEntry r k) rowEntries)),
-        encode-below registerPart (λ t. termCommand (mask r t) (coefficient r t)) (λ t. encodeTerm (mask r t) (coefficient r t)) r.terms (λ t. term-bytes (mask r t) (coefficient r t)),
-        end-bytes,
+        encode-append register_part (h ++ windows_of ++ choices_of ++ rows_of ++ terms_of) (end_command ∷ []),
+        encode-append register_part (h ++ windows_of ++ choices_of ++ rows_of) terms_of,
+        encode-append register_part (h ++ windows_of ++ choices_of) rows_of,
+        encode-append register_part (h ++ windows_of) choices_of,
+        encode-append register_part h windows_of,
+        encode_below register_part (λ j. window_command (window_tank r j) (window_from r j) (window_to r j)) (λ j. encode_window (window_tank r j) (window_from r j) (window_to r j)) r.windows (λ j. window_bytes (window_tank r j) (window_from r j) (window_to r j)),
+        encode_below register_part (λ i. choice_command (tank r i) (minute r i)) (λ i. encode_choice (tank r i) (minute r i)) r.choices (λ i. choice_bytes (tank r i) (minute r i)),
+        encode_below register_part (λ k. row_command (row_total r k) (row_list r k)) (λ k. encode_row (row_total r k) (row_list r k)) r.rows (λ k. row_bytes (row_total r k) (row_list r k) (length_ones (row_entry r k) row_entries)),
+        encode_below register_part (λ t. term_command (mask r t) (coefficient r t)) (λ t. encode_term (mask r t) (coefficient r t)) r.terms (λ t. term_bytes (mask r t) (coefficient r t)),
+        end_bytes,
         append-nil,
       )
 
-  after-encodes : (h : List Command) {x : List ℕ} → Header r h → encode registerPart h ≡ x → Encodes r (encodeAfter x r)
-  after-encodes h x e = record { commands = commandsAfter h; are = after-are h x; bytes = sym (after-bytes h ∙ rw e) }
+  after_encodes : (h : List Command) {x : List ℕ} → Header r h → encode register_part h ≡ x → Encodes r (encode_after x r)
+  after_encodes h x e = record { commands = commands_after h; are = after_are h x; bytes = sym (after_bytes h ∙ rw e) }
 
   -- and no others, since each window, choice, row and term has one form
-  after-only : {cs : List Command} → Commands r cs → (h : List Command) × (Header r h × (cs ≡ commandsAfter h))
-  after-only t =
-      let body = t.is-first in
-      let middle = body.is-first in
-      let front = middle.is-first in
-      let start = front.is-first in
-      let windows = each-only (Form windowKind r) _ r.windows start.second (λ j d f. f.1) start.is-second in
-      let choices = each-only (Form choiceKind r) _ r.choices front.second (λ i d f. f.1) front.is-second in
-      let rows = each-only (Form rowKind r) _ r.rows middle.second (λ k d f. f.1) middle.is-second in
-      let terms = each-only (Form termKind r) _ r.terms body.second (λ i d f. f.1) body.is-second in
-      let end : t.second ≡ endCommand ∷ [] = t.is-second.whole ∙ ap (λ c. c ∷ []) t.is-second.form in
+  after_only : {cs : List Command} → Commands r cs → (h : List Command) × (Header r h × (cs ≡ commands_after h))
+  after_only t =
+      let body = t.is_first in
+      let middle = body.is_first in
+      let front = middle.is_first in
+      let start = front.is_first in
+      let windows = each_only (Form window_kind r) _ r.windows start.second (λ j d f. f.1) start.is_second in
+      let choices = each_only (Form choice_kind r) _ r.choices front.second (λ i d f. f.1) front.is_second in
+      let rows = each_only (Form row_kind r) _ r.rows middle.second (λ k d f. f.1) middle.is_second in
+      let terms = each_only (Form term_kind r) _ r.terms body.second (λ i d f. f.1) body.is_second in
+      let end : t.second ≡ end_command ∷ [] = t.is_second.whole ∙ ap (λ c. c ∷ []) t.is_second.form in
       let both : List Command → List Command → List Command = λ x y. x ++ y in
-      (start.first, (start.is-first, t.whole ∙ ap₂ both (body.whole ∙ ap₂ both (middle.whole ∙ ap₂ both (front.whole ∙ ap₂ both (start.whole ∙ ap (both start.first) windows) choices) rows) terms) end))
+      (start.first, (start.is_first, t.whole ∙ ap₂ both (body.whole ∙ ap₂ both (middle.whole ∙ ap₂ both (front.whole ∙ ap₂ both (start.whole ∙ ap (both start.first) windows) choices) rows) terms) end))
 
   -- ---- the headers: with `18`, and without it where the length is the usual one
 
   abbrev Base : List Command → Type 0
-  Base = Only (λ c. c ≡ baseCommand r.base)
+  Base = Only (λ c. c ≡ base_command r.base)
 
   abbrev Usual : Type 0
-  Usual = r.day_length ≡ usualDay
+  Usual = r.day_length ≡ usual_day
 
-  abbrev pub headerWith : List Command
-  headerWith = baseCommand r.base ∷ lengthCommand r.day_length ∷ []
+  abbrev pub header_with : List Command
+  header_with = base_command r.base ∷ length_command r.day_length ∷ []
 
-  abbrev pub headerWithout : List Command
-  headerWithout = baseCommand r.base ∷ []
+  abbrev pub header_without : List Command
+  header_without = base_command r.base ∷ []
 
-  base-only : Base headerWithout
-  base-only = record { command = baseCommand r.base; form = refl; whole = refl }
+  base_only : Base header_without
+  base_only = record { command = base_command r.base; form = refl; whole = refl }
 
-  pub header-with : Header r headerWith
-  header-with = then-present Base Usual (λ c. c ≡ lengthCommand r.day_length) (lengthCommand r.day_length) base-only refl
+  pub header_with_lem : Header r header_with
+  header_with_lem = then_present Base Usual (λ c. c ≡ length_command r.day_length) (length_command r.day_length) base_only refl
 
-  pub header-without : Usual → Header r headerWithout
-  header-without u = then-missing Base Usual (λ c. c ≡ lengthCommand r.day_length) u base-only
+  pub header_without_lem : Usual → Header r header_without
+  header_without_lem u = then_missing Base Usual (λ c. c ≡ length_command r.day_length) u base_only
 
-  base-is : {h : List Command} → Base h → h ≡ headerWithout
-  base-is o = o.whole ∙ ap (λ c. c ∷ []) o.form
+  base_is : {h : List Command} → Base h → h ≡ header_without
+  base_is o = o.whole ∙ ap (λ c. c ∷ []) o.form
 
-  pub header-forms : {h : List Command} → Header r h → (h ≡ headerWith) ⊎ (Usual × (h ≡ headerWithout))
-  header-forms x =
+  pub header_forms : {h : List Command} → Header r h → (h ≡ header_with) ⊎ (Usual × (h ≡ header_without))
+  header_forms x =
       ⊎_elim
-      (λ (u, o). inr (u, base-is o))
-      (λ l. inl (l.whole ∙ ap₂ (λ a c. a ++ (c ∷ [])) (base-is l.before) l.form))
-      (optional-last Base Usual (λ c. c ≡ lengthCommand r.day_length) x)
+      (λ (u, o). inr (u, base_is o))
+      (λ l. inl (l.whole ∙ ap₂ (λ a c. a ++ (c ∷ [])) (base_is l.before) l.form))
+      (optional_last Base Usual (λ c. c ≡ length_command r.day_length) x)
 
-  pub with-bytes : encode registerPart headerWith ≡ encodeBase r.base ++ encodeLength r.day_length
+  pub with_bytes : encode register_part header_with ≡ encode_base r.base ++ encode_length r.day_length
   unfolding encode flat_map
-  with-bytes = rw (base-bytes, length-bytes, append-nil)
+  with_bytes = rw (base_bytes, length_bytes, append-nil)
 
-  pub without-bytes : encode registerPart headerWithout ≡ encodeBase r.base
+  pub without_bytes : encode register_part header_without ≡ encode_base r.base
   unfolding encode flat_map
-  without-bytes = rw (base-bytes, append-nil)
+  without_bytes = rw (base_bytes, append-nil)
 
   -- ---- the encodings, byte by byte
 
-  pub encodes-with : Encodes r (encodeWithLength r)
-  encodes-with = after-encodes headerWith header-with with-bytes
+  pub encodes_with : Encodes r (encode_with_length r)
+  encodes_with = after_encodes header_with header_with_lem with_bytes
 
-  pub encodes-without : Usual → Encodes r (encodeWithoutLength r)
-  encodes-without u = after-encodes headerWithout (header-without u) without-bytes
+  pub encodes_without : Usual → Encodes r (encode_without_length r)
+  encodes_without u = after_encodes header_without (header_without_lem u) without_bytes
 
-  pub canonical : Encodes r (encodeRegister r)
-  unfolding encodeRegister
-  canonical = flag (eqb r.day_length usualDay) (λ t. rw t (encodes-without (eqb-true _ _ t))) (λ t. rw t encodes-with)
+  pub canonical : Encodes r (encode_register r)
+  unfolding encode_register
+  canonical = flag (eqb r.day_length usual_day) (λ t. rw t (encodes_without (eqb-true _ _ t))) (λ t. rw t encodes_with)
 
-  pub encodes-forms : (s : List ℕ) → Encodes r s → (s ≡ encodeWithLength r) ⊎ (Usual × (s ≡ encodeWithoutLength r))
-  encodes-forms s e =
-      let (h, (x, q)) = after-only e.are in
-      let same : s ≡ encodeAfter (encode registerPart h) r = e.bytes ∙ ap (encode registerPart) q ∙ after-bytes h in
+  pub encodes_forms : (s : List ℕ) → Encodes r s → (s ≡ encode_with_length r) ⊎ (Usual × (s ≡ encode_without_length r))
+  encodes_forms s e =
+      let (h, (x, q)) = after_only e.are in
+      let same : s ≡ encode_after (encode register_part h) r = e.bytes ∙ ap (encode register_part) q ∙ after_bytes h in
       ⊎_elim
-      (λ w. inl (same ∙ ap (λ h. encodeAfter (encode registerPart h) r) w ∙ ap (λ x. encodeAfter x r) with-bytes))
-      (λ (u, w). inr (u, same ∙ ap (λ h. encodeAfter (encode registerPart h) r) w ∙ ap (λ x. encodeAfter x r) without-bytes))
-      (header-forms x)
+      (λ w. inl (same ∙ ap (λ h. encode_after (encode register_part h) r) w ∙ ap (λ x. encode_after x r) with_bytes))
+      (λ (u, w). inr (u, same ∙ ap (λ h. encode_after (encode register_part h) r) w ∙ ap (λ x. encode_after x r) without_bytes))
+      (header_forms x)

@@ -13,51 +13,51 @@ use mir.Syntax.{w8, w16}
 use mir.Val.{SFits}
 use Rattle.integers.specs.Lists.{Column}
 use Rattle.integers.proofs.Machine.{fits_signed}
-use Rattle.integers.proofs.Join.{join-cong}
-use Rattle.integers.proofs.Blocks.{ones-at, ones-are, sets-other, sets-in, column-block, column-unblock, sets-back}
-use Rattle.integers.proofs.Entries.{below-or-last, each_more, kept_set, column-none, column-empty, column-more, column-less, set_back, table_none, table_more, table-less}
+use Rattle.integers.proofs.Join.{join_cong}
+use Rattle.integers.proofs.Blocks.{ones_at, ones_are, sets_other, sets_in, column_block, column_unblock, sets_back}
+use Rattle.integers.proofs.Entries.{below_or_last, each_more, kept_set, column_none, column_empty, column_more, column_less, set_back, table_none, table_more, table_less}
 use Rattle.register.specs.declared.Register.{Register}
-use Rattle.register.specs.Limits.{maxChoices, maxTerms, maxWindows, maxRows, rowEntries, maxBase, usualDay, longDay}
-use Rattle.register.specs.Register.{tank, minute, mask, coefficient, windowTank, windowFrom, windowTo, rowTotal, rowEntry, fresh, setBase, setLength, setChoices, setTerms, setWindows, setRows, withBase, withLength, withChoice, withTerm, withWindow, withRow}
+use Rattle.register.specs.Limits.{max_choices, max_terms, max_windows, max_rows, row_entries, max_base, usual_day, long_day}
+use Rattle.register.specs.Register.{tank, minute, mask, coefficient, window_tank, window_from, window_to, row_total, row_entry, fresh, set_base, set_length, set_choices, set_terms, set_windows, set_rows, with_base, with_length, with_choice, with_term, with_window, with_row}
 use Rattle.register.specs.Answer.{NoFall}
-use Rattle.register.specs.Valid.{DayLength, FeedingRow, Within, Choices, Terms, Windows, Rows, MayFeed, windowAt}
-use Rattle.register.specs.Encoding.{rowList}
-use Rattle.register.proofs.Passes.{NextChoice, NextTerm, NextWindow, NextRow, within-byte, length-within}
+use Rattle.register.specs.Valid.{DayLength, FeedingRow, Within, Choices, Terms, Windows, Rows, MayFeed, window_at}
+use Rattle.register.specs.Encoding.{row_list}
+use Rattle.register.proofs.Passes.{NextChoice, NextTerm, NextWindow, NextRow, within_byte, length_within}
 
 -- no rows
-pub rows-none : (n : ℕ) (f : ℕ → ℤ × (ℕ → ℤ)) → Rows n 0 f
-rows-none n f = record { few = omega arith; each = λ i l. absurd (omega arith) }
+pub rows_none : (n : ℕ) (f : ℕ → ℤ × (ℕ → ℤ)) → Rows n 0 f
+rows_none n f = record { few = omega arith; each = λ i l. absurd (omega arith) }
 
-pub fresh-within : Within fresh
+pub fresh_within : Within fresh
 unfolding fresh
-fresh-within = record {
+fresh_within = record {
   base = omega arith;
   day = inl refl;
-  tanks = column-none maxChoices 0;
-  minutes = column-none maxChoices 0;
-  choices = table_none maxChoices _ _ _;
-  masks = column-none maxTerms 0;
-  coefficients = column-none maxTerms (pos 0);
-  terms = table_none maxTerms _ _ _;
-  window-tanks = column-none maxWindows 0;
-  window-froms = column-none maxWindows 0;
-  window-tos = column-none maxWindows 0;
-  windows = table_none maxWindows _ _ _;
-  row-totals = column-none maxRows (pos 0);
-  row-entries = column-none (maxRows * rowEntries) (pos 0);
-  rows = rows-none _ _;
-  may-feed = λ i l. absurd (omega arith);
+  tanks = column_none max_choices 0;
+  minutes = column_none max_choices 0;
+  choices = table_none max_choices _ _ _;
+  masks = column_none max_terms 0;
+  coefficients = column_none max_terms (pos 0);
+  terms = table_none max_terms _ _ _;
+  window_tanks = column_none max_windows 0;
+  window_froms = column_none max_windows 0;
+  window_tos = column_none max_windows 0;
+  windows = table_none max_windows _ _ _;
+  row_totals = column_none max_rows (pos 0);
+  row_entries = column_none (max_rows * row_entries) (pos 0);
+  rows = rows_none _ _;
+  may_feed = λ i l. absurd (omega arith);
 }
 
 -- no day is longer than the longest
-pub day-within : (r : Register) → Within r → r.day_length ≤ longDay
-day-within r w = ⊎_elim (λ z. omega (arith, z)) length-within w.day
+pub day_within : (r : Register) → Within r → r.day_length ≤ long_day
+day_within r w = ⊎_elim (λ z. omega (arith, z)) length_within w.day
 
 -- ---- a register with other values of one group stays within its limits, and is the same where they are
 
 module _ (r : Register) (w : Within r) where
-  in-base : (base : ℤ) → nat_abs base ≤ maxBase → Within (setBase r base)
-  in-base base h = record {
+  in_base : (base : ℤ) → nat_abs base ≤ max_base → Within (set_base r base)
+  in_base base h = record {
     base = h;
     day = w.day;
     tanks = w.tanks;
@@ -66,41 +66,41 @@ module _ (r : Register) (w : Within r) where
     masks = w.masks;
     coefficients = w.coefficients;
     terms = w.terms;
-    window-tanks = w.window-tanks;
-    window-froms = w.window-froms;
-    window-tos = w.window-tos;
+    window_tanks = w.window_tanks;
+    window_froms = w.window_froms;
+    window_tos = w.window_tos;
     windows = w.windows;
-    row-totals = w.row-totals;
-    row-entries = w.row-entries;
+    row_totals = w.row_totals;
+    row_entries = w.row_entries;
     rows = w.rows;
-    may-feed = w.may-feed;
+    may_feed = w.may_feed;
   }
 
   -- another day length, where there is no choice and no window
-  in-length : (length : ℕ) → DayLength length → r.choices ≡ 0 → r.windows ≡ 0 → Within (setLength r length)
-  in-length length d none no-window = record {
+  in_length : (length : ℕ) → DayLength length → r.choices ≡ 0 → r.windows ≡ 0 → Within (set_length r length)
+  in_length length d none no_window = record {
     base = w.base;
     day = inr d;
     tanks = w.tanks;
     minutes = w.minutes;
-    choices = rw none (table_none maxChoices _ _ _);
+    choices = rw none (table_none max_choices _ _ _);
     masks = w.masks;
     coefficients = w.coefficients;
     terms = w.terms;
-    window-tanks = w.window-tanks;
-    window-froms = w.window-froms;
-    window-tos = w.window-tos;
-    windows = rw no-window (table_none maxWindows _ _ _);
-    row-totals = w.row-totals;
-    row-entries = w.row-entries;
+    window_tanks = w.window_tanks;
+    window_froms = w.window_froms;
+    window_tos = w.window_tos;
+    windows = rw no_window (table_none max_windows _ _ _);
+    row_totals = w.row_totals;
+    row_entries = w.row_entries;
     rows = w.rows;
-    may-feed = w.may-feed;
+    may_feed = w.may_feed;
   }
 
   -- other choices, where there is no row and no term
-  in-choices : {n : ℕ} {tanks minutes : List ℕ} → r.rows ≡ 0 → r.terms ≡ 0 → Column maxChoices n 0 tanks → Column maxChoices n 0 minutes → Choices r.day_length n (λ i. (get_or tanks i 0, get_or minutes i 0))
-      → ((i : ℕ) → i < n → MayFeed r.windows (windowAt r) (get_or tanks i 0) (get_or minutes i 0)) → Within (setChoices r n tanks minutes)
-  in-choices no-row none a b c may = record {
+  in_choices : {n : ℕ} {tanks minutes : List ℕ} → r.rows ≡ 0 → r.terms ≡ 0 → Column max_choices n 0 tanks → Column max_choices n 0 minutes → Choices r.day_length n (λ i. (get_or tanks i 0, get_or minutes i 0))
+      → ((i : ℕ) → i < n → MayFeed r.windows (window_at r) (get_or tanks i 0) (get_or minutes i 0)) → Within (set_choices r n tanks minutes)
+  in_choices no_row_lem none a b c may = record {
     base = w.base;
     day = w.day;
     tanks = a;
@@ -108,19 +108,19 @@ module _ (r : Register) (w : Within r) where
     choices = c;
     masks = w.masks;
     coefficients = w.coefficients;
-    terms = rw none (table_none maxTerms _ _ _);
-    window-tanks = w.window-tanks;
-    window-froms = w.window-froms;
-    window-tos = w.window-tos;
+    terms = rw none (table_none max_terms _ _ _);
+    window_tanks = w.window_tanks;
+    window_froms = w.window_froms;
+    window_tos = w.window_tos;
     windows = w.windows;
-    row-totals = w.row-totals;
-    row-entries = w.row-entries;
-    rows = rw no-row (rows-none _ _);
-    may-feed = may;
+    row_totals = w.row_totals;
+    row_entries = w.row_entries;
+    rows = rw no_row_lem (rows_none _ _);
+    may_feed = may;
   }
 
-  in-terms : {m : ℕ} {masks : List ℕ} {coefficients : List ℤ} → Column maxTerms m 0 masks → Column maxTerms m (pos 0) coefficients → Terms r.choices m (λ t. (get_or masks t 0, get_or coefficients t (pos 0))) → Within (setTerms r m masks coefficients)
-  in-terms a b c = record {
+  in_terms : {m : ℕ} {masks : List ℕ} {coefficients : List ℤ} → Column max_terms m 0 masks → Column max_terms m (pos 0) coefficients → Terms r.choices m (λ t. (get_or masks t 0, get_or coefficients t (pos 0))) → Within (set_terms r m masks coefficients)
+  in_terms a b c = record {
     base = w.base;
     day = w.day;
     tanks = w.tanks;
@@ -129,20 +129,20 @@ module _ (r : Register) (w : Within r) where
     masks = a;
     coefficients = b;
     terms = c;
-    window-tanks = w.window-tanks;
-    window-froms = w.window-froms;
-    window-tos = w.window-tos;
+    window_tanks = w.window_tanks;
+    window_froms = w.window_froms;
+    window_tos = w.window_tos;
     windows = w.windows;
-    row-totals = w.row-totals;
-    row-entries = w.row-entries;
+    row_totals = w.row_totals;
+    row_entries = w.row_entries;
     rows = w.rows;
-    may-feed = w.may-feed;
+    may_feed = w.may_feed;
   }
 
   -- other windows, where there is no choice
-  in-windows : {k : ℕ} {tanks froms tos : List ℕ} → r.choices ≡ 0 → Column maxWindows k 0 tanks → Column maxWindows k 0 froms → Column maxWindows k 0 tos
-      → Windows r.day_length k (λ j. (get_or tanks j 0, get_or froms j 0, get_or tos j 0)) → Within (setWindows r k tanks froms tos)
-  in-windows none a b c d = record {
+  in_windows : {k : ℕ} {tanks froms tos : List ℕ} → r.choices ≡ 0 → Column max_windows k 0 tanks → Column max_windows k 0 froms → Column max_windows k 0 tos
+      → Windows r.day_length k (λ j. (get_or tanks j 0, get_or froms j 0, get_or tos j 0)) → Within (set_windows r k tanks froms tos)
+  in_windows none a b c d = record {
     base = w.base;
     day = w.day;
     tanks = w.tanks;
@@ -151,19 +151,19 @@ module _ (r : Register) (w : Within r) where
     masks = w.masks;
     coefficients = w.coefficients;
     terms = w.terms;
-    window-tanks = a;
-    window-froms = b;
-    window-tos = c;
+    window_tanks = a;
+    window_froms = b;
+    window_tos = c;
     windows = d;
-    row-totals = w.row-totals;
-    row-entries = w.row-entries;
+    row_totals = w.row_totals;
+    row_entries = w.row_entries;
     rows = w.rows;
-    may-feed = λ i l. absurd (omega arith);
+    may_feed = λ i l. absurd (omega arith);
   }
 
-  in-rows : {k : ℕ} {totals entries : List ℤ} → Column maxRows k (pos 0) totals → Column (maxRows * rowEntries) (k * rowEntries) (pos 0) entries
-      → Rows r.choices k (λ i. (get_or totals i (pos 0), λ j. get_or entries (i * rowEntries + j) (pos 0))) → Within (setRows r k totals entries)
-  in-rows a b c = record {
+  in_rows : {k : ℕ} {totals entries : List ℤ} → Column max_rows k (pos 0) totals → Column (max_rows * row_entries) (k * row_entries) (pos 0) entries
+      → Rows r.choices k (λ i. (get_or totals i (pos 0), λ j. get_or entries (i * row_entries + j) (pos 0))) → Within (set_rows r k totals entries)
+  in_rows a b c = record {
     base = w.base;
     day = w.day;
     tanks = w.tanks;
@@ -172,133 +172,133 @@ module _ (r : Register) (w : Within r) where
     masks = w.masks;
     coefficients = w.coefficients;
     terms = w.terms;
-    window-tanks = w.window-tanks;
-    window-froms = w.window-froms;
-    window-tos = w.window-tos;
+    window_tanks = w.window_tanks;
+    window_froms = w.window_froms;
+    window_tos = w.window_tos;
     windows = w.windows;
-    row-totals = a;
-    row-entries = b;
+    row_totals = a;
+    row_entries = b;
     rows = c;
-    may-feed = w.may-feed;
+    may_feed = w.may_feed;
   }
 
 module _ (r : Register) where
-  same-choices : {n : ℕ} {tanks minutes : List ℕ} → n ≡ r.choices → tanks ≡ r.tanks → minutes ≡ r.minutes → setChoices r n tanks minutes ≡ r
-  same-choices a b c = rw (a, b, c)
+  same_choices : {n : ℕ} {tanks minutes : List ℕ} → n ≡ r.choices → tanks ≡ r.tanks → minutes ≡ r.minutes → set_choices r n tanks minutes ≡ r
+  same_choices a b c = rw (a, b, c)
 
-  same-terms : {m : ℕ} {masks : List ℕ} {coefficients : List ℤ} → m ≡ r.terms → masks ≡ r.masks → coefficients ≡ r.coefficients → setTerms r m masks coefficients ≡ r
-  same-terms a b c = rw (a, b, c)
+  same_terms : {m : ℕ} {masks : List ℕ} {coefficients : List ℤ} → m ≡ r.terms → masks ≡ r.masks → coefficients ≡ r.coefficients → set_terms r m masks coefficients ≡ r
+  same_terms a b c = rw (a, b, c)
 
-  same-windows : {k : ℕ} {tanks froms tos : List ℕ} → k ≡ r.windows → tanks ≡ r.window_tanks → froms ≡ r.window_froms → tos ≡ r.window_tos → setWindows r k tanks froms tos ≡ r
-  same-windows a b c d = rw (a, b, c, d)
+  same_windows : {k : ℕ} {tanks froms tos : List ℕ} → k ≡ r.windows → tanks ≡ r.window_tanks → froms ≡ r.window_froms → tos ≡ r.window_tos → set_windows r k tanks froms tos ≡ r
+  same_windows a b c d = rw (a, b, c, d)
 
-  same-rows : {k : ℕ} {totals entries : List ℤ} → k ≡ r.rows → totals ≡ r.row_totals → entries ≡ r.row_entries → setRows r k totals entries ≡ r
-  same-rows a b c = rw (a, b, c)
+  same_rows : {k : ℕ} {totals entries : List ℤ} → k ≡ r.rows → totals ≡ r.row_totals → entries ≡ r.row_entries → set_rows r k totals entries ≡ r
+  same_rows a b c = rw (a, b, c)
 
 -- ---- the base cost and the day length
 
-abbrev noWindows : Register → Register
-noWindows r = setWindows r 0 (replicate maxWindows 0) (replicate maxWindows 0) (replicate maxWindows 0)
+abbrev no_windows : Register → Register
+no_windows r = set_windows r 0 (replicate max_windows 0) (replicate max_windows 0) (replicate max_windows 0)
 
-abbrev noRows : Register → Register
-noRows r = setRows r 0 (replicate maxRows (pos 0)) (replicate (maxRows * rowEntries) (pos 0))
+abbrev no_rows : Register → Register
+no_rows r = set_rows r 0 (replicate max_rows (pos 0)) (replicate (max_rows * row_entries) (pos 0))
 
 module _ (r : Register) (w : Within r) where
-  pub base_more : (base : ℤ) → nat_abs base ≤ maxBase → r.choices ≡ 0 → r.windows ≡ 0 → Within (withBase r base)
-  base_more base h = in-length (setBase r base) (in-base r w base h) usualDay (inr (inl refl))
+  pub base_more : (base : ℤ) → nat_abs base ≤ max_base → r.choices ≡ 0 → r.windows ≡ 0 → Within (with_base r base)
+  base_more base h = in_length (set_base r base) (in_base r w base h) usual_day (inr (inl refl))
 
-  pub length_more : (length : ℕ) → DayLength length → r.choices ≡ 0 → r.windows ≡ 0 → Within (withLength r length)
-  length_more = in-length r w
+  pub length_more : (length : ℕ) → DayLength length → r.choices ≡ 0 → r.windows ≡ 0 → Within (with_length r length)
+  length_more = in_length r w
 
   -- a register of the usual length with no windows, choices, rows or terms has only a base cost
-  pub base_back : r.day_length ≡ usualDay → r.windows ≡ 0 → r.choices ≡ 0 → r.rows ≡ 0 → r.terms ≡ 0 → withBase fresh r.base ≡ r
+  pub base_back : r.day_length ≡ usual_day → r.windows ≡ 0 → r.choices ≡ 0 → r.rows ≡ 0 → r.terms ≡ 0 → with_base fresh r.base ≡ r
   unfolding fresh
   base_back d k c q t =
-      ap (λ x. noRows (noWindows (setTerms (setChoices (setLength r x) 0 (replicate maxChoices 0) (replicate maxChoices 0)) 0 (replicate maxTerms 0) (replicate maxTerms (pos 0))))) (sym d)
-      ∙ ap (λ x. noRows (noWindows (setTerms x 0 (replicate maxTerms 0) (replicate maxTerms (pos 0))))) (same-choices r (sym c) (column-empty maxChoices _ 0 _ c w.tanks) (column-empty maxChoices _ 0 _ c w.minutes))
-      ∙ ap (λ x. noRows (noWindows x)) (same-terms r (sym t) (column-empty maxTerms _ 0 _ t w.masks) (column-empty maxTerms _ (pos 0) _ t w.coefficients))
-      ∙ ap noRows (same-windows r (sym k) (column-empty maxWindows _ 0 _ k w.window-tanks) (column-empty maxWindows _ 0 _ k w.window-froms) (column-empty maxWindows _ 0 _ k w.window-tos))
-      ∙ same-rows r (sym q) (column-empty maxRows _ (pos 0) _ q w.row-totals) (column-empty (maxRows * rowEntries) _ (pos 0) _ (omega arith) w.row-entries)
+      ap (λ x. no_rows (no_windows (set_terms (set_choices (set_length r x) 0 (replicate max_choices 0) (replicate max_choices 0)) 0 (replicate max_terms 0) (replicate max_terms (pos 0))))) (sym d)
+      ∙ ap (λ x. no_rows (no_windows (set_terms x 0 (replicate max_terms 0) (replicate max_terms (pos 0))))) (same_choices r (sym c) (column_empty max_choices _ 0 _ c w.tanks) (column_empty max_choices _ 0 _ c w.minutes))
+      ∙ ap (λ x. no_rows (no_windows x)) (same_terms r (sym t) (column_empty max_terms _ 0 _ t w.masks) (column_empty max_terms _ (pos 0) _ t w.coefficients))
+      ∙ ap no_rows (same_windows r (sym k) (column_empty max_windows _ 0 _ k w.window_tanks) (column_empty max_windows _ 0 _ k w.window_froms) (column_empty max_windows _ 0 _ k w.window_tos))
+      ∙ same_rows r (sym q) (column_empty max_rows _ (pos 0) _ q w.row_totals) (column_empty (max_rows * row_entries) _ (pos 0) _ (omega arith) w.row_entries)
 
 -- ---- choices: the entries of a register with one more, where there is no row and no term yet, and of one with one less
 
-abbrev pub choiceAt : Register → ℕ → ℕ × ℕ
-choiceAt r i = (tank r i, minute r i)
+abbrev pub choice_at : Register → ℕ → ℕ × ℕ
+choice_at r i = (tank r i, minute r i)
 
 module _ (r : Register) (w : Within r) (t m : ℕ) where
   abbrev n : ℕ
   n = r.choices
 
-  pub choice-kept : (i : ℕ) → i < n → choiceAt (withChoice r t m) i ≡ choiceAt r i
-  choice-kept i l = rw (kept_set r.tanks n t 0 i l, kept_set r.minutes n m 0 i l)
+  pub choice_kept : (i : ℕ) → i < n → choice_at (with_choice r t m) i ≡ choice_at r i
+  choice_kept i l = rw (kept_set r.tanks n t 0 i l, kept_set r.minutes n m 0 i l)
 
-  pub choice-new : n < maxChoices → choiceAt (withChoice r t m) n ≡ (t, m)
-  choice-new l = rw (get_or-set_same r.tanks n t 0 (omega (arith, w.tanks.room)), get_or-set_same r.minutes n m 0 (omega (arith, w.minutes.room)))
+  pub choice_new : n < max_choices → choice_at (with_choice r t m) n ≡ (t, m)
+  choice_new l = rw (get_or-set_same r.tanks n t 0 (omega (arith, w.tanks.room)), get_or-set_same r.minutes n m 0 (omega (arith, w.minutes.room)))
 
-  pub choice-more : r.rows ≡ 0 → r.terms ≡ 0 → NextChoice r.day_length n (tank r (n - 1)) (minute r (n - 1)) t m → MayFeed r.windows (windowAt r) t m → Within (withChoice r t m)
-  choice-more no-row none p may =
-      in-choices r w no-row none (column-more t w.tanks) (column-more m w.minutes)
-      (table_more (choiceAt r) (choiceAt (withChoice r t m)) n (t, m) choice-kept (choice-new p.few) w.choices p)
-      (each_more (choiceAt r) (choiceAt (withChoice r t m)) n (t, m) choice-kept (choice-new p.few) (λ c. MayFeed r.windows (windowAt r) c.0 c.1) w.may-feed may)
+  pub choice_more : r.rows ≡ 0 → r.terms ≡ 0 → NextChoice r.day_length n (tank r (n - 1)) (minute r (n - 1)) t m → MayFeed r.windows (window_at r) t m → Within (with_choice r t m)
+  choice_more no_row_lem none p may =
+      in_choices r w no_row_lem none (column_more t w.tanks) (column_more m w.minutes)
+      (table_more (choice_at r) (choice_at (with_choice r t m)) n (t, m) choice_kept (choice_new p.few) w.choices p)
+      (each_more (choice_at r) (choice_at (with_choice r t m)) n (t, m) choice_kept (choice_new p.few) (λ c. MayFeed r.windows (window_at r) c.0 c.1) w.may_feed may)
 
 -- without its last choice
-abbrev pub lessChoice : Register → ℕ → Register
-lessChoice r n = setChoices r n (set r.tanks n 0) (set r.minutes n 0)
+abbrev pub less_choice : Register → ℕ → Register
+less_choice r n = set_choices r n (set r.tanks n 0) (set r.minutes n 0)
 
 module _ (r : Register) (w : Within r) (n : ℕ) (e : r.choices ≡ suc n) where
-  few : n < maxChoices
+  few : n < max_choices
   few = omega (arith, w.choices.few)
 
-  pub choice-less : (i : ℕ) → i < n → choiceAt r i ≡ choiceAt (lessChoice r n) i
-  choice-less i l = rw (kept_set r.tanks n 0 0 i l, kept_set r.minutes n 0 0 i l)
+  pub choice_less : (i : ℕ) → i < n → choice_at r i ≡ choice_at (less_choice r n) i
+  choice_less i l = rw (kept_set r.tanks n 0 0 i l, kept_set r.minutes n 0 0 i l)
 
-  pub choice-back : withChoice (lessChoice r n) (tank r n) (minute r n) ≡ r
-  choice-back = same-choices r (sym e) (set_back r.tanks n 0) (set_back r.minutes n 0)
+  pub choice_back : with_choice (less_choice r n) (tank r n) (minute r n) ≡ r
+  choice_back = same_choices r (sym e) (set_back r.tanks n 0) (set_back r.minutes n 0)
 
-  pub choice-next : r.rows ≡ 0 → r.terms ≡ 0 → Within (lessChoice r n) × NextChoice r.day_length n (tank (lessChoice r n) (n - 1)) (minute (lessChoice r n) (n - 1)) (tank r n) (minute r n) × MayFeed r.windows (windowAt r) (tank r n) (minute r n)
-  choice-next no-row none =
-      let (t, p) = table-less (choiceAt (lessChoice r n)) (choiceAt r) n (choiceAt r n) choice-less refl (rw e at w.choices) in
-      let may : (i : ℕ) → i < n → MayFeed r.windows (windowAt r) (tank (lessChoice r n) i) (minute (lessChoice r n) i) = λ i l. subst (λ c. MayFeed r.windows (windowAt r) c.0 c.1) (choice-less i l) (w.may-feed i (omega arith)) in
-      (in-choices r w no-row none (column-less few (rw e at w.tanks)) (column-less few (rw e at w.minutes)) t may, p, w.may-feed n (omega arith))
+  pub choice_next : r.rows ≡ 0 → r.terms ≡ 0 → Within (less_choice r n) × NextChoice r.day_length n (tank (less_choice r n) (n - 1)) (minute (less_choice r n) (n - 1)) (tank r n) (minute r n) × MayFeed r.windows (window_at r) (tank r n) (minute r n)
+  choice_next no_row_lem none =
+      let (t, p) = table_less (choice_at (less_choice r n)) (choice_at r) n (choice_at r n) choice_less refl (rw e at w.choices) in
+      let may : (i : ℕ) → i < n → MayFeed r.windows (window_at r) (tank (less_choice r n) i) (minute (less_choice r n) i) = λ i l. subst (λ c. MayFeed r.windows (window_at r) c.0 c.1) (choice_less i l) (w.may_feed i (omega arith)) in
+      (in_choices r w no_row_lem none (column_less few (rw e at w.tanks)) (column_less few (rw e at w.minutes)) t may, p, w.may_feed n (omega arith))
 
 -- ---- terms
 
-abbrev pub termAt : Register → ℕ → ℕ × ℤ
-termAt r t = (mask r t, coefficient r t)
+abbrev pub term_at : Register → ℕ → ℕ × ℤ
+term_at r t = (mask r t, coefficient r t)
 
 module _ (r : Register) (w : Within r) (m : ℕ) (z : ℤ) where
   abbrev k : ℕ
   k = r.terms
 
-  pub term-kept : (t : ℕ) → t < k → termAt (withTerm r m z) t ≡ termAt r t
-  term-kept t l = rw (kept_set r.masks k m 0 t l, kept_set r.coefficients k z (pos 0) t l)
+  pub term_kept : (t : ℕ) → t < k → term_at (with_term r m z) t ≡ term_at r t
+  term_kept t l = rw (kept_set r.masks k m 0 t l, kept_set r.coefficients k z (pos 0) t l)
 
-  pub term-new : k < maxTerms → termAt (withTerm r m z) k ≡ (m, z)
-  term-new l = rw (get_or-set_same r.masks k m 0 (omega (arith, w.masks.room)), get_or-set_same r.coefficients k z (pos 0) (omega (arith, w.coefficients.room)))
+  pub term_new : k < max_terms → term_at (with_term r m z) k ≡ (m, z)
+  term_new l = rw (get_or-set_same r.masks k m 0 (omega (arith, w.masks.room)), get_or-set_same r.coefficients k z (pos 0) (omega (arith, w.coefficients.room)))
 
-  pub term-more : NextTerm r.choices k (termAt r (k - 1)) m z → Within (withTerm r m z)
-  term-more p =
-      in-terms r w (column-more m w.masks) (column-more z w.coefficients)
-      (table_more (termAt r) (termAt (withTerm r m z)) k (m, z) term-kept (term-new p.few) w.terms p)
+  pub term_more : NextTerm r.choices k (term_at r (k - 1)) m z → Within (with_term r m z)
+  term_more p =
+      in_terms r w (column_more m w.masks) (column_more z w.coefficients)
+      (table_more (term_at r) (term_at (with_term r m z)) k (m, z) term_kept (term_new p.few) w.terms p)
 
 -- without its last term
-abbrev pub lessTerm : Register → ℕ → Register
-lessTerm r k = setTerms r k (set r.masks k 0) (set r.coefficients k (pos 0))
+abbrev pub less_term : Register → ℕ → Register
+less_term r k = set_terms r k (set r.masks k 0) (set r.coefficients k (pos 0))
 
 module _ (r : Register) (w : Within r) (k : ℕ) (e : r.terms ≡ suc k) where
-  some : k < maxTerms
+  some : k < max_terms
   some = omega (arith, w.terms.few)
 
-  pub term-less : (t : ℕ) → t < k → termAt r t ≡ termAt (lessTerm r k) t
-  term-less t l = rw (kept_set r.masks k 0 0 t l, kept_set r.coefficients k (pos 0) (pos 0) t l)
+  pub term_less : (t : ℕ) → t < k → term_at r t ≡ term_at (less_term r k) t
+  term_less t l = rw (kept_set r.masks k 0 0 t l, kept_set r.coefficients k (pos 0) (pos 0) t l)
 
-  pub term-back : withTerm (lessTerm r k) (mask r k) (coefficient r k) ≡ r
-  term-back = same-terms r (sym e) (set_back r.masks k 0) (set_back r.coefficients k (pos 0))
+  pub term_back : with_term (less_term r k) (mask r k) (coefficient r k) ≡ r
+  term_back = same_terms r (sym e) (set_back r.masks k 0) (set_back r.coefficients k (pos 0))
 
-  pub term-next : Within (lessTerm r k) × NextTerm r.choices k (termAt (lessTerm r k) (k - 1)) (mask r k) (coefficient r k)
-  term-next =
-      let (t, p) = table-less (termAt (lessTerm r k)) (termAt r) k (termAt r k) term-less refl (rw e at w.terms) in
-      (in-terms r w (column-less some (rw e at w.masks)) (column-less some (rw e at w.coefficients)) t, p)
+  pub term_next : Within (less_term r k) × NextTerm r.choices k (term_at (less_term r k) (k - 1)) (mask r k) (coefficient r k)
+  term_next =
+      let (t, p) = table_less (term_at (less_term r k)) (term_at r) k (term_at r k) term_less refl (rw e at w.terms) in
+      (in_terms r w (column_less some (rw e at w.masks)) (column_less some (rw e at w.coefficients)) t, p)
 
 -- ---- windows: the entries of a register with one more, where there is no choice yet, and of one with one less
 
@@ -306,133 +306,133 @@ module _ (r : Register) (w : Within r) (t f o : ℕ) where
   abbrev h : ℕ
   h = r.windows
 
-  pub window-kept : (j : ℕ) → j < h → windowAt (withWindow r t f o) j ≡ windowAt r j
-  window-kept j l = rw (kept_set r.window_tanks h t 0 j l, kept_set r.window_froms h f 0 j l, kept_set r.window_tos h o 0 j l)
+  pub window_kept : (j : ℕ) → j < h → window_at (with_window r t f o) j ≡ window_at r j
+  window_kept j l = rw (kept_set r.window_tanks h t 0 j l, kept_set r.window_froms h f 0 j l, kept_set r.window_tos h o 0 j l)
 
-  pub window-new : h < maxWindows → windowAt (withWindow r t f o) h ≡ (t, f, o)
-  window-new l =
+  pub window_new : h < max_windows → window_at (with_window r t f o) h ≡ (t, f, o)
+  window_new l =
       rw (
-        get_or-set_same r.window_tanks h t 0 (omega (arith, w.window-tanks.room)),
-        get_or-set_same r.window_froms h f 0 (omega (arith, w.window-froms.room)),
-        get_or-set_same r.window_tos h o 0 (omega (arith, w.window-tos.room)),
+        get_or-set_same r.window_tanks h t 0 (omega (arith, w.window_tanks.room)),
+        get_or-set_same r.window_froms h f 0 (omega (arith, w.window_froms.room)),
+        get_or-set_same r.window_tos h o 0 (omega (arith, w.window_tos.room)),
       )
 
-  pub window_more : r.choices ≡ 0 → NextWindow r.day_length h (windowAt r (h - 1)) t f o → Within (withWindow r t f o)
+  pub window_more : r.choices ≡ 0 → NextWindow r.day_length h (window_at r (h - 1)) t f o → Within (with_window r t f o)
   window_more none p =
-      in-windows r w none (column-more t w.window-tanks) (column-more f w.window-froms) (column-more o w.window-tos)
-      (table_more (windowAt r) (windowAt (withWindow r t f o)) h (t, f, o) window-kept (window-new p.few) w.windows p)
+      in_windows r w none (column_more t w.window_tanks) (column_more f w.window_froms) (column_more o w.window_tos)
+      (table_more (window_at r) (window_at (with_window r t f o)) h (t, f, o) window_kept (window_new p.few) w.windows p)
 
 -- without its last window
-abbrev pub lessWindow : Register → ℕ → Register
-lessWindow r k = setWindows r k (set r.window_tanks k 0) (set r.window_froms k 0) (set r.window_tos k 0)
+abbrev pub less_window : Register → ℕ → Register
+less_window r k = set_windows r k (set r.window_tanks k 0) (set r.window_froms k 0) (set r.window_tos k 0)
 
 module _ (r : Register) (w : Within r) (k : ℕ) (e : r.windows ≡ suc k) where
-  fits : k < maxWindows
+  fits : k < max_windows
   fits = omega (arith, w.windows.few)
 
-  pub window-less : (j : ℕ) → j < k → windowAt r j ≡ windowAt (lessWindow r k) j
-  window-less j l = rw (kept_set r.window_tanks k 0 0 j l, kept_set r.window_froms k 0 0 j l, kept_set r.window_tos k 0 0 j l)
+  pub window_less : (j : ℕ) → j < k → window_at r j ≡ window_at (less_window r k) j
+  window_less j l = rw (kept_set r.window_tanks k 0 0 j l, kept_set r.window_froms k 0 0 j l, kept_set r.window_tos k 0 0 j l)
 
-  pub window-back : withWindow (lessWindow r k) (windowTank r k) (windowFrom r k) (windowTo r k) ≡ r
-  window-back = same-windows r (sym e) (set_back r.window_tanks k 0) (set_back r.window_froms k 0) (set_back r.window_tos k 0)
+  pub window_back : with_window (less_window r k) (window_tank r k) (window_from r k) (window_to r k) ≡ r
+  window_back = same_windows r (sym e) (set_back r.window_tanks k 0) (set_back r.window_froms k 0) (set_back r.window_tos k 0)
 
-  pub window-next : r.choices ≡ 0 → Within (lessWindow r k) × NextWindow r.day_length k (windowAt (lessWindow r k) (k - 1)) (windowTank r k) (windowFrom r k) (windowTo r k)
-  window-next none =
-      let (t, p) = table-less (windowAt (lessWindow r k)) (windowAt r) k (windowAt r k) window-less refl (rw e at w.windows) in
-      (in-windows r w none (column-less fits (rw e at w.window-tanks)) (column-less fits (rw e at w.window-froms)) (column-less fits (rw e at w.window-tos)) t, p)
+  pub window_next : r.choices ≡ 0 → Within (less_window r k) × NextWindow r.day_length k (window_at (less_window r k) (k - 1)) (window_tank r k) (window_from r k) (window_to r k)
+  window_next none =
+      let (t, p) = table_less (window_at (less_window r k)) (window_at r) k (window_at r k) window_less refl (rw e at w.windows) in
+      (in_windows r w none (column_less fits (rw e at w.window_tanks)) (column_less fits (rw e at w.window_froms)) (column_less fits (rw e at w.window_tos)) t, p)
 
 -- ---- rows: the entries of a register with one more, and of one with one less
 
 -- a row with the same total and entries
-same-row : {n : ℕ} {b c : ℤ} {f g : ℕ → ℤ} → c ≡ b → ((j : ℕ) → j < rowEntries → g j ≡ f j) → FeedingRow n b f → FeedingRow n c g
-same-row e h k = record {
-  total-within = rw e k.total-within;
-  entry-above = λ j l. rw (h j l) (k.entry-above j l);
-  entry-below = λ j l. rw (h j l) (k.entry-below j l);
-  past-0 = λ j a l. h j l ∙ k.past-0 j a l;
+same_row : {n : ℕ} {b c : ℤ} {f g : ℕ → ℤ} → c ≡ b → ((j : ℕ) → j < row_entries → g j ≡ f j) → FeedingRow n b f → FeedingRow n c g
+same_row e h k = record {
+  total_within = rw e k.total_within;
+  entry_above = λ j l. rw (h j l) (k.entry_above j l);
+  entry_below = λ j l. rw (h j l) (k.entry_below j l);
+  past_0 = λ j a l. h j l ∙ k.past_0 j a l;
 }
 
 -- a row as its command says it
-abbrev pub rowSaid : Register → ℕ → ℤ × List ℤ
-rowSaid r k = (rowTotal r k, rowList r k)
+abbrev pub row_said : Register → ℕ → ℤ × List ℤ
+row_said r k = (row_total r k, row_list r k)
 
-module _ (r : Register) (w : Within r) (b : ℤ) (es : List ℤ) (long : length es ≡ rowEntries) where
+module _ (r : Register) (w : Within r) (b : ℤ) (es : List ℤ) (long : length es ≡ row_entries) where
   abbrev q : ℕ
   q = r.rows
 
-  entry-kept : (i j : ℕ) → i < q → j < rowEntries → rowEntry (withRow r b es) i j ≡ rowEntry r i j
-  entry-kept i j l h = sets-other (pos 0) es r.row_entries (q * rowEntries) (i * rowEntries + j) (inl (omega arith))
+  entry_kept : (i j : ℕ) → i < q → j < row_entries → row_entry (with_row r b es) i j ≡ row_entry r i j
+  entry_kept i j l h = sets_other (pos 0) es r.row_entries (q * row_entries) (i * row_entries + j) (inl (omega arith))
 
-  entry-new : q < maxRows → (j : ℕ) → j < rowEntries → rowEntry (withRow r b es) q j ≡ get_or es j (pos 0)
-  entry-new l j h = sets-in (pos 0) es r.row_entries (q * rowEntries) j (omega arith) (omega (arith, w.row-entries.room))
+  entry_new : q < max_rows → (j : ℕ) → j < row_entries → row_entry (with_row r b es) q j ≡ get_or es j (pos 0)
+  entry_new l j h = sets_in (pos 0) es r.row_entries (q * row_entries) j (omega arith) (omega (arith, w.row_entries.room))
 
-  total-kept : (i : ℕ) → i < q → rowTotal (withRow r b es) i ≡ rowTotal r i
-  total-kept i l = kept_set r.row_totals q b (pos 0) i l
+  total_kept : (i : ℕ) → i < q → row_total (with_row r b es) i ≡ row_total r i
+  total_kept i l = kept_set r.row_totals q b (pos 0) i l
 
-  total-new : q < maxRows → rowTotal (withRow r b es) q ≡ b
-  total-new l = get_or-set_same r.row_totals q b (pos 0) (omega (arith, w.row-totals.room))
+  total_new : q < max_rows → row_total (with_row r b es) q ≡ b
+  total_new l = get_or-set_same r.row_totals q b (pos 0) (omega (arith, w.row_totals.room))
 
-  pub row-kept : (i : ℕ) → i < q → rowSaid (withRow r b es) i ≡ rowSaid r i
-  row-kept i l = rw (total-kept i l, join-cong rowEntries _ _ (λ j h. ap (λ x. x ∷ []) (entry-kept i j l h)))
+  pub row_kept : (i : ℕ) → i < q → row_said (with_row r b es) i ≡ row_said r i
+  row_kept i l = rw (total_kept i l, join_cong row_entries _ _ (λ j h. ap (λ x. x ∷ []) (entry_kept i j l h)))
 
-  pub row-new : q < maxRows → rowSaid (withRow r b es) q ≡ (b, es)
-  row-new l = rw (total-new l, ones-are (pos 0) rowEntries (rowEntry (withRow r b es) q) es long (λ j h. sym (entry-new l j h)))
+  pub row_new : q < max_rows → row_said (with_row r b es) q ≡ (b, es)
+  row_new l = rw (total_new l, ones_are (pos 0) row_entries (row_entry (with_row r b es) q) es long (λ j h. sym (entry_new l j h)))
 
-  pub row-more : NextRow r.choices q b (λ j. get_or es j (pos 0)) → Within (withRow r b es)
-  row-more p =
-      in-rows r w (column-more b w.row-totals) (column-block es (omega arith) w.row-entries)
+  pub row_more : NextRow r.choices q b (λ j. get_or es j (pos 0)) → Within (with_row r b es)
+  row_more p =
+      in_rows r w (column_more b w.row_totals) (column_block es (omega arith) w.row_entries)
       (record {
         few = p.few;
         each = λ i l.
             ⊎_elim
-            (λ (k : i < q). same-row (total-kept i k) (λ j h. entry-kept i j k h) (w.rows.each i k))
-            (λ (e : i ≡ q). rw e (same-row (total-new p.few) (entry-new p.few) p.fits))
-            (below-or-last i q l);
+            (λ (k : i < q). same_row (total_kept i k) (λ j h. entry_kept i j k h) (w.rows.each i k))
+            (λ (e : i ≡ q). rw e (same_row (total_new p.few) (entry_new p.few) p.fits))
+            (below_or_last i q l);
       })
 
 -- without its last row
-abbrev pub lessRow : Register → ℕ → Register
-lessRow r k = setRows r k (set r.row_totals k (pos 0)) (sets r.row_entries (k * rowEntries) (replicate rowEntries (pos 0)))
+abbrev pub less_row : Register → ℕ → Register
+less_row r k = set_rows r k (set r.row_totals k (pos 0)) (sets r.row_entries (k * row_entries) (replicate row_entries (pos 0)))
 
 module _ (r : Register) (w : Within r) (k : ℕ) (e : r.rows ≡ suc k) where
-  enough : k < maxRows
+  enough : k < max_rows
   enough = omega (arith, w.rows.few)
 
-  entry-less : (i j : ℕ) → i < k → j < rowEntries → rowEntry r i j ≡ rowEntry (lessRow r k) i j
-  entry-less i j l h = sym (sets-other (pos 0) (replicate rowEntries (pos 0)) r.row_entries (k * rowEntries) (i * rowEntries + j) (inl (omega arith)))
+  entry_less : (i j : ℕ) → i < k → j < row_entries → row_entry r i j ≡ row_entry (less_row r k) i j
+  entry_less i j l h = sym (sets_other (pos 0) (replicate row_entries (pos 0)) r.row_entries (k * row_entries) (i * row_entries + j) (inl (omega arith)))
 
-  total-less : (i : ℕ) → i < k → rowTotal r i ≡ rowTotal (lessRow r k) i
-  total-less i l = sym (kept_set r.row_totals k (pos 0) (pos 0) i l)
+  total_less : (i : ℕ) → i < k → row_total r i ≡ row_total (less_row r k) i
+  total_less i l = sym (kept_set r.row_totals k (pos 0) (pos 0) i l)
 
-  pub row-less : (i : ℕ) → i < k → rowSaid r i ≡ rowSaid (lessRow r k) i
-  row-less i l = rw (← total-less i l) (ap (λ es. (rowTotal r i, es)) (join-cong rowEntries _ _ (λ j h. ap (λ x. x ∷ []) (entry-less i j l h))))
+  pub row_less : (i : ℕ) → i < k → row_said r i ≡ row_said (less_row r k) i
+  row_less i l = rw (← total_less i l) (ap (λ es. (row_total r i, es)) (join_cong row_entries _ _ (λ j h. ap (λ x. x ∷ []) (entry_less i j l h))))
 
-  pub row-back : withRow (lessRow r k) (rowTotal r k) (rowList r k) ≡ r
-  row-back = same-rows r (sym e) (set_back r.row_totals k (pos 0)) (sets-back (pos 0) r.row_entries (k * rowEntries) rowEntries (omega (arith, enough, w.row-entries.room)))
+  pub row_back : with_row (less_row r k) (row_total r k) (row_list r k) ≡ r
+  row_back = same_rows r (sym e) (set_back r.row_totals k (pos 0)) (sets_back (pos 0) r.row_entries (k * row_entries) row_entries (omega (arith, enough, w.row_entries.room)))
 
-  pub row-next : Within (lessRow r k) × NextRow r.choices k (rowTotal r k) (λ j. get_or (rowList r k) j (pos 0))
-  row-next = (
-    in-rows r w (column-less enough (rw e at w.row-totals)) (column-unblock rowEntries (omega (arith, enough)) (omega arith) (rw e at w.row-entries))
+  pub row_next : Within (less_row r k) × NextRow r.choices k (row_total r k) (λ j. get_or (row_list r k) j (pos 0))
+  row_next = (
+    in_rows r w (column_less enough (rw e at w.row_totals)) (column_unblock row_entries (omega (arith, enough)) (omega arith) (rw e at w.row_entries))
         (record {
           few = omega (arith, enough);
-          each = λ i l. same-row (sym (total-less i l)) (λ j h. sym (entry-less i j l h)) (w.rows.each i (omega arith));
+          each = λ i l. same_row (sym (total_less i l)) (λ j h. sym (entry_less i j l h)) (w.rows.each i (omega arith));
         }),
-    record { few = enough; fits = same-row refl (λ j h. ones-at (rowEntry r k) rowEntries j (pos 0) h) (w.rows.each k (omega arith)) },
+    record { few = enough; fits = same_row refl (λ j h. ones_at (row_entry r k) row_entries j (pos 0) h) (w.rows.each k (omega arith)) },
   )
 
 -- the total and the entries of a row fit 16 and 8 bits
 module _ (r : Register) (w : Within r) (k : ℕ) (l : k < r.rows) where
-  pub total-fits : SFits w16 (rowTotal r k)
-  total-fits = fits_signed w16 (rowTotal r k) (omega (arith, (w.rows.each k l).total-within))
+  pub total_fits : SFits w16 (row_total r k)
+  total_fits = fits_signed w16 (row_total r k) (omega (arith, (w.rows.each k l).total_within))
 
-  pub entry-fits : (j : ℕ) → j < rowEntries → SFits w8 (rowEntry r k j)
-  entry-fits j h = let f = w.rows.each k l in within-byte (rowEntry r k j) (f.entry-above j h) (f.entry-below j h)
+  pub entry_fits : (j : ℕ) → j < row_entries → SFits w8 (row_entry r k j)
+  entry_fits j h = let f = w.rows.each k l in within_byte (row_entry r k j) (f.entry_above j h) (f.entry_below j h)
 
 -- the tanks of windows do not fall
-pub windows-no-fall : (r : Register) → Within r → NoFall r.windows r.window_tanks
-windows-no-fall r w i zero l h = let e : i ≡ 0 = omega arith in rw e (omega arith)
-windows-no-fall r w i (suc j) l h = go (ℕ_discrete i (suc j)) (λ k. windows-no-fall r w i j k (omega arith))
+pub windows_no_fall : (r : Register) → Within r → NoFall r.windows r.window_tanks
+windows_no_fall r w i zero l h = let e : i ≡ 0 = omega arith in rw e (omega arith)
+windows_no_fall r w i (suc j) l h = go (ℕ_discrete i (suc j)) (λ k. windows_no_fall r w i j k (omega arith))
   where
-    go : Dec (i ≡ suc j) → (i ≤ j → windowTank r i ≤ windowTank r j) → windowTank r i ≤ windowTank r (suc j)
+    go : Dec (i ≡ suc j) → (i ≤ j → window_tank r i ≤ window_tank r j) → window_tank r i ≤ window_tank r (suc j)
     go (yes e) before = rw e (omega arith)
     go (no d) before = ⊎_elim (λ a. omega (arith, a, before (omega arith))) (λ b. omega (arith, b.0, before (omega arith))) (w.windows.rise j h)

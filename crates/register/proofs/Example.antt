@@ -4,10 +4,10 @@ use Prim.Native.Nat.{ℕ}
 use lib.IntN.{pos, negsuc}
 use lib.ListN.{replicate}
 use Rattle.register.specs.declared.Register.{Register}
-use Rattle.register.specs.Limits.{usualDay}
+use Rattle.register.specs.Limits.{usual_day}
 
-abbrev pub registerBytes : List ℕ
-registerBytes =
+abbrev pub register_bytes : List ℕ
+register_bytes =
     0x10 ∷ 0x0A ∷ 0 ∷ 0 ∷ 0
     ∷ 0x11 ∷ 4 ∷ 0 ∷ 0xE0 ∷ 1 ∷ 0x11 ∷ 4 ∷ 0 ∷ 0xD0 ∷ 2 ∷ 0x11 ∷ 7 ∷ 0 ∷ 0xE0 ∷ 1
     ∷ 0x12 ∷ 1 ∷ 0 ∷ 0 ∷ 0 ∷ 0xFA ∷ 0xFF ∷ 0xFF ∷ 0xFF
@@ -15,10 +15,10 @@ registerBytes =
     ∷ 0x12 ∷ 7 ∷ 0 ∷ 0 ∷ 0 ∷ 5 ∷ 0 ∷ 0 ∷ 0
     ∷ 0x1F ∷ []
 
-abbrev pub exampleRegister : Register
-exampleRegister = record {
+abbrev pub example_register : Register
+example_register = record {
   base = pos 10;
-  day_length = usualDay;
+  day_length = usual_day;
   choices = 3;
   terms = 3;
   tanks = 4 ∷ 4 ∷ 7 ∷ replicate 29 0;

@@ -8,22 +8,22 @@ use Rattle.integers.proofs.Lists.{◌▹◌}
 use Rattle.wire.specs.Number.{Bytes}
 use Rattle.wire.specs.Part.{refused}
 use Rattle.wire.specs.Refused.{RefusedAt, RefusedByItself}
-use Rattle.wire.proofs.Lowest.{Rising, Rises, rows-rising, refused-iff, refused-by-itself-iff}
+use Rattle.wire.proofs.Lowest.{Rising, Rises, rows_rising, refused_iff, refused_by_itself_iff}
 use Rattle.register.specs.Register.{fresh}
-use Rattle.register.specs.Format.{baseChecks, choiceChecks, termChecks, windowChecks, rowChecks, lengthChecks, endChecks, registerRows, registerPart, registerInJob, registerByItself}
+use Rattle.register.specs.Format.{base_checks, choice_checks, term_checks, window_checks, row_checks, length_checks, end_checks, register_rows, register_part, register_in_job, register_by_itself}
 
-register-rises : All Rises registerRows
-unfolding baseChecks choiceChecks termChecks windowChecks rowChecks lengthChecks endChecks
-register-rises = (λ r xs. tt) ▹ (λ r xs. tt) ▹ (λ r xs. tt) ▹ (λ r xs. tt) ▹ (λ r xs. tt) ▹ (λ r xs. tt) ▹ (λ r xs. tt) ▹ tt
+register_rises : All Rises register_rows
+unfolding base_checks choice_checks term_checks window_checks row_checks length_checks end_checks
+register_rises = (λ r xs. tt) ▹ (λ r xs. tt) ▹ (λ r xs. tt) ▹ (λ r xs. tt) ▹ (λ r xs. tt) ▹ (λ r xs. tt) ▹ (λ r xs. tt) ▹ tt
 
-register-rising : Rising registerPart
-register-rising = rows-rising fresh registerRows register-rises
+register_rising : Rising register_part
+register_rising = rows_rising fresh register_rows register_rises
 
 module _ (s : List ℕ) (b : Bytes s) (n at : ℕ) where
-  pub register-refused : (registerInJob s ≡ refused n at) ↔ RefusedAt registerPart s n at
-  unfolding registerInJob
-  register-refused = refused-iff registerPart s register-rising n at b
+  pub register_refused : (register_in_job s ≡ refused n at) ↔ RefusedAt register_part s n at
+  unfolding register_in_job
+  register_refused = refused_iff register_part s register_rising n at b
 
-  pub register-refused-by-itself : (registerByItself s ≡ refused n at) ↔ RefusedByItself registerPart s n at
-  unfolding registerByItself registerInJob
-  register-refused-by-itself = refused-by-itself-iff registerPart s register-rising n at b
+  pub register_refused_by_itself : (register_by_itself s ≡ refused n at) ↔ RefusedByItself register_part s n at
+  unfolding register_by_itself register_in_job
+  register_refused_by_itself = refused_by_itself_iff register_part s register_rising n at b

@@ -12,52 +12,52 @@ use mir.Val.{SFits, to_z, of_z}
 use mir.Facts.{of_z-to_z, Fits-of_z}
 use borrow.Author.Tests.{ltb-true, ltb-false}
 use Rattle.integers.proofs.Lists.{flag}
-use Rattle.integers.proofs.Blocks.{ones-at}
-use Rattle.integers.proofs.Join.{join-cong}
-use Rattle.wire.specs.Number.{intAt}
-use Rattle.wire.specs.Part.{operandsAt}
+use Rattle.integers.proofs.Blocks.{ones_at}
+use Rattle.integers.proofs.Join.{join_cong}
+use Rattle.wire.specs.Number.{int_at}
+use Rattle.wire.specs.Part.{operands_at}
 use Rattle.wire.specs.Rows.{first_of}
 use Rattle.wire.specs.Encoding.{Fit}
-use Rattle.wire.proofs.Many.{length-first, first-all, length-many, signed-operands, signed-said, fit-signed, signed-back}
-use Rattle.register.specs.Limits.{rowEntries}
-use Rattle.register.specs.Format.{zeroPast, entriesOf, rowRow}
-use Rattle.register.specs.Answer.{entriesAt}
-use Rattle.register.proofs.Passes.{zeros-same}
+use Rattle.wire.proofs.Many.{length_first, first_all, length_many, signed_operands, signed_said, fit_signed, signed_back}
+use Rattle.register.specs.Limits.{row_entries}
+use Rattle.register.specs.Format.{zero_past, entries_of, row_row}
+use Rattle.register.specs.Answer.{entries_at}
+use Rattle.register.proofs.Passes.{zeros_same}
 
-pub entries-long : (xs : List ℕ) → length (entriesOf xs) ≡ rowEntries
-entries-long xs = length-map (first_of rowEntries (drop 1 xs)) (to_z w8) ∙ length-first rowEntries (drop 1 xs)
+pub entries_long : (xs : List ℕ) → length (entries_of xs) ≡ row_entries
+entries_long xs = length-map (first_of row_entries (drop 1 xs)) (to_z w8) ∙ length_first row_entries (drop 1 xs)
 
 -- each entry has 8 bits, whatever the operands are
-read-fits : (n : ℕ) → SFits w8 (to_z w8 n)
-read-fits n = flag (ltb n 128) (λ t. rw t (record { sfits = ltb-true n 128 t })) (λ t. rw t (record { sfits = omega (arith, ltb-false n 128 t) }))
+read_fits : (n : ℕ) → SFits w8 (to_z w8 n)
+read_fits n = flag (ltb n 128) (λ t. rw t (record { sfits = ltb-true n 128 t })) (λ t. rw t (record { sfits = omega (arith, ltb-false n 128 t) }))
 
-pub entries-read : (xs : List ℕ) (j : ℕ) → SFits w8 (get_or (entriesOf xs) j (pos 0))
-entries-read xs j = rw (get_or-map (to_z w8) (first_of rowEntries (drop 1 xs)) j 0) (read-fits _)
+pub entries_read : (xs : List ℕ) (j : ℕ) → SFits w8 (get_or (entries_of xs) j (pos 0))
+entries_read xs j = rw (get_or-map (to_z w8) (first_of row_entries (drop 1 xs)) j 0) (read_fits _)
 
 -- operands that fit are those of what they say
-pub row-said : (xs : List ℕ) → Fit rowRow.widths xs → xs ≡ of_z w16 (to_z w16 (get_or xs 0 0)) ∷ map (of_z w8) (entriesOf xs)
-row-said [] f = absurd f
-row-said (x ∷ xs) f = ap₂ (λ y ys. y ∷ ys) (sym (of_z-to_z {w = w16} (record { fits = f.0 }))) (signed-said w8 rowEntries xs f.1)
+pub row_said : (xs : List ℕ) → Fit row_row.widths xs → xs ≡ of_z w16 (to_z w16 (get_or xs 0 0)) ∷ map (of_z w8) (entries_of xs)
+row_said [] f = absurd f
+row_said (x ∷ xs) f = ap₂ (λ y ys. y ∷ ys) (sym (of_z-to_z {w = w16} (record { fits = f.0 }))) (signed_said w8 row_entries xs f.1)
 
 -- ---- and operands of a total and of entries that fit
 
-module _ (b : ℤ) (es : List ℤ) (long : length es ≡ rowEntries) (bytes : (j : ℕ) → j < rowEntries → SFits w8 (get_or es j (pos 0))) where
-  pub row-fit : SFits w16 b → Fit rowRow.widths (of_z w16 b ∷ map (of_z w8) es)
-  row-fit f = ((Fits-of_z f).fits, fit-signed w8 rowEntries es long bytes)
+module _ (b : ℤ) (es : List ℤ) (long : length es ≡ row_entries) (bytes : (j : ℕ) → j < row_entries → SFits w8 (get_or es j (pos 0))) where
+  pub row_fit : SFits w16 b → Fit row_row.widths (of_z w16 b ∷ map (of_z w8) es)
+  row_fit f = ((Fits-of_z f).fits, fit_signed w8 row_entries es long bytes)
 
-  pub entries-back : entriesOf (of_z w16 b ∷ map (of_z w8) es) ≡ es
-  entries-back = signed-back w8 rowEntries es long bytes
+  pub entries_back : entries_of (of_z w16 b ∷ map (of_z w8) es) ≡ es
+  entries_back = signed_back w8 row_entries es long bytes
 
 -- the entries in the operands at a position
-pub entries-at : (s : List ℕ) (at : ℕ) → entriesOf (operandsAt rowRow.widths s at) ≡ entriesAt s (at + 2)
-unfolding operandsAt
-entries-at s at =
-    let xs = operandsAt (replicate rowEntries 1) s (at + 2) in
-    let same : first_of rowEntries xs ≡ xs = first-all rowEntries xs (length-many rowEntries 1 s (at + 2)) in
-    ap (map (to_z w8)) same ∙ signed-operands w8 rowEntries s (at + 2) ∙ join-cong rowEntries _ _ (λ j l. ap (λ x. intAt w8 s (at + 2 + x) ∷ []) (one-mul j))
+pub entries_at_lem : (s : List ℕ) (at : ℕ) → entries_of (operands_at row_row.widths s at) ≡ entries_at s (at + 2)
+unfolding operands_at
+entries_at_lem s at =
+    let xs = operands_at (replicate row_entries 1) s (at + 2) in
+    let same : first_of row_entries xs ≡ xs = first_all row_entries xs (length_many row_entries 1 s (at + 2)) in
+    ap (map (to_z w8)) same ∙ signed_operands w8 row_entries s (at + 2) ∙ join_cong row_entries _ _ (λ j l. ap (λ x. int_at w8 s (at + 2 + x) ∷ []) (one-mul j))
 
 -- and whether those past the choices are 0
-pub zeros-at : (n : ℕ) (s : List ℕ) (at : ℕ) → zeroPast n (λ j. get_or (entriesOf (operandsAt rowRow.widths s at)) j (pos 0)) ≡ zeroPast n (λ j. intAt w8 s (at + 2 + j))
-zeros-at n s at =
-    zeros-same n (λ j. get_or (entriesOf (operandsAt rowRow.widths s at)) j (pos 0)) (λ j. intAt w8 s (at + 2 + j))
-    (λ j l. ap (λ es. get_or es j (pos 0)) (entries-at s at) ∙ ones-at (λ j. intAt w8 s (at + 2 + j)) rowEntries j (pos 0) l)
+pub zeros_at : (n : ℕ) (s : List ℕ) (at : ℕ) → zero_past n (λ j. get_or (entries_of (operands_at row_row.widths s at)) j (pos 0)) ≡ zero_past n (λ j. int_at w8 s (at + 2 + j))
+zeros_at n s at =
+    zeros_same n (λ j. get_or (entries_of (operands_at row_row.widths s at)) j (pos 0)) (λ j. int_at w8 s (at + 2 + j))
+    (λ j l. ap (λ es. get_or es j (pos 0)) (entries_at_lem s at) ∙ ones_at (λ j. int_at w8 s (at + 2 + j)) row_entries j (pos 0) l)

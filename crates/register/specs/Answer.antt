@@ -1,20 +1,20 @@
 -- What the register's calls answer, by what reading leads to.
 use Rattle.std.specs.Prelude.{ℕ, ◌+◌, ◌-◌, ◌<◌, ◌≤◌, ◌≡◌, List, [], ◌∷◌, get_or, ℤ}
 use Rattle.std.specs.Int.{w8}
-use Rattle.integers.specs.Lists.{joinBelow}
-use Rattle.wire.specs.Number.{intAt}
+use Rattle.integers.specs.Lists.{join_below}
+use Rattle.wire.specs.Number.{int_at}
 use Rattle.wire.specs.Part.{Reading, refused, accepted}
 use Rattle.wire.specs.Rows.{Progress}
 use Rattle.register.specs.declared.Register.{Register}
 use Rattle.register.specs.declared.Seen.{Seen}
 use Rattle.register.specs.declared.RegisterRead.{RegisterRead}
 use Rattle.register.specs.declared.RegisterAnswer.{RegisterAnswer}
-use Rattle.register.specs.Limits.{rowEntries}
+use Rattle.register.specs.Limits.{row_entries}
 use Rattle.register.specs.Register.{tank, minute, mask, fresh}
 
 -- what the checks of a command look at, of what has been read so far
-abbrev pub seenOf : Progress Register → Seen
-seenOf p = let r = p.parsed in record {
+abbrev pub seen_of : Progress Register → Seen
+seen_of p = let r = p.parsed in record {
   previous = p.previous;
   choices = r.choices;
   terms = r.terms;
@@ -27,8 +27,8 @@ seenOf p = let r = p.parsed in record {
 }
 
 -- the entries of a row at a position, one byte each
-abbrev pub entriesAt : List ℕ → ℕ → List ℤ
-entriesAt s at = joinBelow rowEntries (λ j. intAt w8 s (at + j) ∷ [])
+abbrev pub entries_at : List ℕ → ℕ → List ℤ
+entries_at s at = join_below row_entries (λ j. int_at w8 s (at + j) ∷ [])
 
 -- the first n of these numbers do not fall
 abbrev pub NoFall : ℕ → List ℕ → Type 0
@@ -37,27 +37,27 @@ NoFall n xs = (i j : ℕ) → i ≤ j → j < n → get_or xs i 0 ≤ get_or xs 
 -- what has been seen, and the windows, whose tanks do not fall. The first `passed` of them are of tanks below the last choice's: a choice that
 -- rises need not look at these
 pub record Given (p : Progress Register) (seen : Seen) (passed : ℕ) (tanks froms tos : List ℕ) : Type 0 where
-  pub seen-is : seenOf p ≡ seen
-  pub tanks-are : p.parsed.window_tanks ≡ tanks
-  pub froms-are : p.parsed.window_froms ≡ froms
-  pub tos-are : p.parsed.window_tos ≡ tos
-  pub no-fall : NoFall seen.windows tanks
+  pub seen_is : seen_of p ≡ seen
+  pub tanks_are : p.parsed.window_tanks ≡ tanks
+  pub froms_are : p.parsed.window_froms ≡ froms
+  pub tos_are : p.parsed.window_tos ≡ tos
+  pub no_fall : NoFall seen.windows tanks
   pub earlier : (j : ℕ) → j < passed → (1 ≤ seen.choices) × (get_or tanks j 0 < seen.tank)
 
 -- for the reader of a job: a refusal's number and position, or 0, the position past the end and the register
 
-abbrev pub refusedRead : ℕ → ℕ → RegisterRead
-refusedRead number at = record { number = number; position = at; register = fresh }
+abbrev pub refused_read : ℕ → ℕ → RegisterRead
+refused_read number at = record { number = number; position = at; register = fresh }
 
-abbrev pub registerRead : Reading (Progress Register) → RegisterRead
-registerRead (refused number at) = refusedRead number at
-registerRead (accepted p end) = record { number = 0; position = end; register = p.parsed }
+abbrev pub register_read : Reading (Progress Register) → RegisterRead
+register_read (refused number at) = refused_read number at
+register_read (accepted p end) = record { number = 0; position = end; register = p.parsed }
 
 -- of the call: number, part and position of a refusal, other fields 0; or zeros and the register
 
-abbrev pub refusedAnswer : ℕ → ℕ → RegisterAnswer
-refusedAnswer number at = record { number = number; part = 1; position = at; register = fresh }
+abbrev pub refused_answer : ℕ → ℕ → RegisterAnswer
+refused_answer number at = record { number = number; part = 1; position = at; register = fresh }
 
-abbrev pub registerAnswer : Reading (Progress Register) → RegisterAnswer
-registerAnswer (refused number at) = refusedAnswer number at
-registerAnswer (accepted p end) = record { number = 0; part = 0; position = 0; register = p.parsed }
+abbrev pub register_answer : Reading (Progress Register) → RegisterAnswer
+register_answer (refused number at) = refused_answer number at
+register_answer (accepted p end) = record { number = 0; part = 0; position = 0; register = p.parsed }

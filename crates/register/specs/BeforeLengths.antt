@@ -2,64 +2,64 @@
 -- them, and in the checks a fixed highest minute and a fixed highest "to". The record is today's: `10` gives it the usual length, and
 -- its rows are as in a fresh one; no check looks at either.
 use Rattle.std.specs.Prelude.{ℕ, suc, ◌-◌, Bool, not, ◌||◌, List, [], ◌∷◌, ltb, leb, eqb}
-use Rattle.integers.specs.Lists.{comesBefore}
+use Rattle.integers.specs.Lists.{comes_before}
 use Rattle.wire.specs.Checks.{Check, check}
-use Rattle.wire.specs.Part.{Part, Reading, readPart, byItself}
+use Rattle.wire.specs.Part.{Part, Reading, read_part, by_itself}
 use Rattle.wire.specs.Rows.{Progress, Row, part_of, binary, ternary}
 use Rattle.register.specs.declared.Register.{Register}
-use Rattle.register.specs.Limits.{maxChoices, maxWindows, maxTank}
-use Rattle.register.specs.Register.{tank, minute, windowTank, windowFrom, fresh}
-use Rattle.register.specs.Format.{baseRow, mayFeed, choiceRow, termRow, windowRow, endRow}
-use Rattle.register.specs.BeforeRows.{rowBefore}
+use Rattle.register.specs.Limits.{max_choices, max_windows, max_tank}
+use Rattle.register.specs.Register.{tank, minute, window_tank, window_from, fresh}
+use Rattle.register.specs.Format.{base_row, may_feed, choice_row, term_row, window_row, end_row}
+use Rattle.register.specs.BeforeRows.{row_before}
 
 -- the highest minute and the highest "to", as they were
 
-abbrev pub maxMinuteBefore : ℕ
-maxMinuteBefore = 1_439
+abbrev pub max_minute_before : ℕ
+max_minute_before = 1_439
 
-abbrev pub maxToBefore : ℕ
-maxToBefore = suc maxMinuteBefore
+abbrev pub max_to_before : ℕ
+max_to_before = suc max_minute_before
 
-unfoldable pub choiceChecksBeforeLengths : (n tank₀ minute₀ tank minute : ℕ) → (may : Bool) → List Check
-choiceChecksBeforeLengths n tank₀ minute₀ tank minute may =
-    check 3 (leb maxChoices n)
-    ∷ check 4 (eqb tank 0 || ltb maxTank tank || ltb maxMinuteBefore minute)
-    ∷ check 7 (not (eqb n 0 || comesBefore (tank₀ ∷ minute₀ ∷ []) (tank ∷ minute ∷ [])))
+unfoldable pub choice_checks_before_lengths : (n tank₀ minute₀ tank minute : ℕ) → (may : Bool) → List Check
+choice_checks_before_lengths n tank₀ minute₀ tank minute may =
+    check 3 (leb max_choices n)
+    ∷ check 4 (eqb tank 0 || ltb max_tank tank || ltb max_minute_before minute)
+    ∷ check 7 (not (eqb n 0 || comes_before (tank₀ ∷ minute₀ ∷ []) (tank ∷ minute ∷ [])))
     ∷ check 13 (not may)
     ∷ []
 
-abbrev pub choiceRowBeforeLengths : Row Register
-choiceRowBeforeLengths = rowBefore choiceRow (0x10 ∷ 0x11 ∷ 0x13 ∷ []) λ r. let previous = r.choices - 1 in
-    binary λ t m. choiceChecksBeforeLengths r.choices (tank r previous) (minute r previous) t m (mayFeed r.windows r.window_tanks r.window_froms r.window_tos t m)
+abbrev pub choice_row_before_lengths : Row Register
+choice_row_before_lengths = row_before choice_row (0x10 ∷ 0x11 ∷ 0x13 ∷ []) λ r. let previous = r.choices - 1 in
+    binary λ t m. choice_checks_before_lengths r.choices (tank r previous) (minute r previous) t m (may_feed r.windows r.window_tanks r.window_froms r.window_tos t m)
 
-abbrev pub termRowBeforeLengths : Row Register
-termRowBeforeLengths = rowBefore termRow (0x10 ∷ 0x11 ∷ 0x12 ∷ 0x13 ∷ []) termRow.checks
+abbrev pub term_row_before_lengths : Row Register
+term_row_before_lengths = row_before term_row (0x10 ∷ 0x11 ∷ 0x12 ∷ 0x13 ∷ []) term_row.checks
 
-unfoldable pub windowChecksBeforeLengths : (k tank₀ from₀ tank from to : ℕ) → List Check
-windowChecksBeforeLengths k tank₀ from₀ tank from to =
-    check 3 (leb maxWindows k)
-    ∷ check 4 (eqb tank 0 || ltb maxTank tank || ltb maxMinuteBefore from || eqb to 0 || ltb maxToBefore to)
+unfoldable pub window_checks_before_lengths : (k tank₀ from₀ tank from to : ℕ) → List Check
+window_checks_before_lengths k tank₀ from₀ tank from to =
+    check 3 (leb max_windows k)
+    ∷ check 4 (eqb tank 0 || ltb max_tank tank || ltb max_minute_before from || eqb to 0 || ltb max_to_before to)
     ∷ check 6 (leb to from)
-    ∷ check 7 (not (eqb k 0 || comesBefore (tank₀ ∷ from₀ ∷ []) (tank ∷ from ∷ [])))
+    ∷ check 7 (not (eqb k 0 || comes_before (tank₀ ∷ from₀ ∷ []) (tank ∷ from ∷ [])))
     ∷ []
 
-abbrev pub windowRowBeforeLengths : Row Register
-windowRowBeforeLengths = rowBefore windowRow (0x10 ∷ 0x13 ∷ []) λ r. let previous = r.windows - 1 in
-    ternary (windowChecksBeforeLengths r.windows (windowTank r previous) (windowFrom r previous))
+abbrev pub window_row_before_lengths : Row Register
+window_row_before_lengths = row_before window_row (0x10 ∷ 0x13 ∷ []) λ r. let previous = r.windows - 1 in
+    ternary (window_checks_before_lengths r.windows (window_tank r previous) (window_from r previous))
 
-abbrev pub endRowBeforeLengths : Row Register
-endRowBeforeLengths = rowBefore endRow (0x10 ∷ 0x11 ∷ 0x12 ∷ 0x13 ∷ []) endRow.checks
+abbrev pub end_row_before_lengths : Row Register
+end_row_before_lengths = row_before end_row (0x10 ∷ 0x11 ∷ 0x12 ∷ 0x13 ∷ []) end_row.checks
 
-abbrev pub rowsBeforeLengths : List (Row Register)
-rowsBeforeLengths = baseRow ∷ choiceRowBeforeLengths ∷ termRowBeforeLengths ∷ windowRowBeforeLengths ∷ endRowBeforeLengths ∷ []
+abbrev pub rows_before_lengths : List (Row Register)
+rows_before_lengths = base_row ∷ choice_row_before_lengths ∷ term_row_before_lengths ∷ window_row_before_lengths ∷ end_row_before_lengths ∷ []
 
-abbrev pub partBeforeLengths : Part (Progress Register)
-partBeforeLengths = part_of fresh rowsBeforeLengths
+abbrev pub part_before_lengths : Part (Progress Register)
+part_before_lengths = part_of fresh rows_before_lengths
 
 -- at the front of a run of bytes, as in a job
-unfoldable pub inJobBeforeLengths : List ℕ → Reading (Progress Register)
-inJobBeforeLengths s = readPart partBeforeLengths s
+unfoldable pub in_job_before_lengths : List ℕ → Reading (Progress Register)
+in_job_before_lengths s = read_part part_before_lengths s
 
 -- as a run of bytes by itself
-unfoldable pub byItselfBeforeLengths : List ℕ → Reading (Progress Register)
-byItselfBeforeLengths s = byItself s (inJobBeforeLengths s)
+unfoldable pub by_itself_before_lengths : List ℕ → Reading (Progress Register)
+by_itself_before_lengths s = by_itself s (in_job_before_lengths s)

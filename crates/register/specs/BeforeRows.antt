@@ -2,32 +2,32 @@
 -- in a fresh one, at which no check looks.
 use Rattle.std.specs.Prelude.{List, [], ◌∷◌, ℕ}
 use Rattle.wire.specs.Checks.{Check}
-use Rattle.wire.specs.Part.{Part, Reading, readPart, byItself}
+use Rattle.wire.specs.Part.{Part, Reading, read_part, by_itself}
 use Rattle.wire.specs.Rows.{Progress, Row, part_of}
 use Rattle.register.specs.declared.Register.{Register}
 use Rattle.register.specs.Register.{fresh}
-use Rattle.register.specs.Format.{baseRow, choiceRow, termRow, windowRow, lengthRow, endRow}
+use Rattle.register.specs.Format.{base_row, choice_row, term_row, window_row, length_row, end_row}
 
 -- a row of today, with what it followed and its checks as they were
-abbrev pub rowBefore : Row Register → List ℕ → (Register → List ℕ → List Check) → Row Register
-rowBefore row follows checks = record { byte = row.byte; follows = follows; widths = row.widths; checks = checks; after = row.after; last = row.last }
+abbrev pub row_before : Row Register → List ℕ → (Register → List ℕ → List Check) → Row Register
+row_before row follows checks = record { byte = row.byte; follows = follows; widths = row.widths; checks = checks; after = row.after; last = row.last }
 
-abbrev pub termRowBeforeRows : Row Register
-termRowBeforeRows = rowBefore termRow (0x10 ∷ 0x11 ∷ 0x12 ∷ 0x13 ∷ 0x18 ∷ []) termRow.checks
+abbrev pub term_row_before_rows : Row Register
+term_row_before_rows = row_before term_row (0x10 ∷ 0x11 ∷ 0x12 ∷ 0x13 ∷ 0x18 ∷ []) term_row.checks
 
-abbrev pub endRowBeforeRows : Row Register
-endRowBeforeRows = rowBefore endRow (0x10 ∷ 0x11 ∷ 0x12 ∷ 0x13 ∷ 0x18 ∷ []) endRow.checks
+abbrev pub end_row_before_rows : Row Register
+end_row_before_rows = row_before end_row (0x10 ∷ 0x11 ∷ 0x12 ∷ 0x13 ∷ 0x18 ∷ []) end_row.checks
 
-abbrev pub rowsBeforeRows : List (Row Register)
-rowsBeforeRows = baseRow ∷ choiceRow ∷ termRowBeforeRows ∷ windowRow ∷ lengthRow ∷ endRowBeforeRows ∷ []
+abbrev pub rows_before_rows : List (Row Register)
+rows_before_rows = base_row ∷ choice_row ∷ term_row_before_rows ∷ window_row ∷ length_row ∷ end_row_before_rows ∷ []
 
-abbrev pub partBeforeRows : Part (Progress Register)
-partBeforeRows = part_of fresh rowsBeforeRows
+abbrev pub part_before_rows : Part (Progress Register)
+part_before_rows = part_of fresh rows_before_rows
 
 -- at the front of a run of bytes, as in a job
-unfoldable pub inJobBeforeRows : List ℕ → Reading (Progress Register)
-inJobBeforeRows s = readPart partBeforeRows s
+unfoldable pub in_job_before_rows : List ℕ → Reading (Progress Register)
+in_job_before_rows s = read_part part_before_rows s
 
 -- as a run of bytes by itself
-unfoldable pub byItselfBeforeRows : List ℕ → Reading (Progress Register)
-byItselfBeforeRows s = byItself s (inJobBeforeRows s)
+unfoldable pub by_itself_before_rows : List ℕ → Reading (Progress Register)
+by_itself_before_rows s = by_itself s (in_job_before_rows s)

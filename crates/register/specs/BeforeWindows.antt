@@ -2,43 +2,43 @@
 -- that follows them, no check 13, and a fixed highest minute. The record is today's, with its windows and rows as in a fresh one and
 -- the length that `10` gives it, at which no check looks.
 use Rattle.std.specs.Prelude.{ℕ, ◌-◌, not, ◌||◌, List, [], ◌∷◌, ltb, leb, eqb}
-use Rattle.integers.specs.Lists.{comesBefore}
+use Rattle.integers.specs.Lists.{comes_before}
 use Rattle.wire.specs.Checks.{Check, check}
-use Rattle.wire.specs.Part.{Part, Reading, readPart, byItself}
+use Rattle.wire.specs.Part.{Part, Reading, read_part, by_itself}
 use Rattle.wire.specs.Rows.{Progress, Row, part_of, binary}
 use Rattle.register.specs.declared.Register.{Register}
-use Rattle.register.specs.Limits.{maxChoices, maxTank}
+use Rattle.register.specs.Limits.{max_choices, max_tank}
 use Rattle.register.specs.Register.{tank, minute, fresh}
-use Rattle.register.specs.Format.{baseRow, choiceRow, termRow, endRow}
-use Rattle.register.specs.BeforeRows.{rowBefore}
-use Rattle.register.specs.BeforeLengths.{maxMinuteBefore}
+use Rattle.register.specs.Format.{base_row, choice_row, term_row, end_row}
+use Rattle.register.specs.BeforeRows.{row_before}
+use Rattle.register.specs.BeforeLengths.{max_minute_before}
 
-unfoldable pub choiceChecksBeforeWindows : (n tank₀ minute₀ tank minute : ℕ) → List Check
-choiceChecksBeforeWindows n tank₀ minute₀ tank minute =
-    check 3 (leb maxChoices n)
-    ∷ check 4 (eqb tank 0 || ltb maxTank tank || ltb maxMinuteBefore minute)
-    ∷ check 7 (not (eqb n 0 || comesBefore (tank₀ ∷ minute₀ ∷ []) (tank ∷ minute ∷ [])))
+unfoldable pub choice_checks_before_windows : (n tank₀ minute₀ tank minute : ℕ) → List Check
+choice_checks_before_windows n tank₀ minute₀ tank minute =
+    check 3 (leb max_choices n)
+    ∷ check 4 (eqb tank 0 || ltb max_tank tank || ltb max_minute_before minute)
+    ∷ check 7 (not (eqb n 0 || comes_before (tank₀ ∷ minute₀ ∷ []) (tank ∷ minute ∷ [])))
     ∷ []
 
-abbrev pub choiceRowBeforeWindows : Row Register
-choiceRowBeforeWindows = rowBefore choiceRow (0x10 ∷ 0x11 ∷ []) λ r. let previous = r.choices - 1 in binary (choiceChecksBeforeWindows r.choices (tank r previous) (minute r previous))
+abbrev pub choice_row_before_windows : Row Register
+choice_row_before_windows = row_before choice_row (0x10 ∷ 0x11 ∷ []) λ r. let previous = r.choices - 1 in binary (choice_checks_before_windows r.choices (tank r previous) (minute r previous))
 
-abbrev pub termRowBeforeWindows : Row Register
-termRowBeforeWindows = rowBefore termRow (0x10 ∷ 0x11 ∷ 0x12 ∷ []) termRow.checks
+abbrev pub term_row_before_windows : Row Register
+term_row_before_windows = row_before term_row (0x10 ∷ 0x11 ∷ 0x12 ∷ []) term_row.checks
 
-abbrev pub endRowBeforeWindows : Row Register
-endRowBeforeWindows = rowBefore endRow (0x10 ∷ 0x11 ∷ 0x12 ∷ []) endRow.checks
+abbrev pub end_row_before_windows : Row Register
+end_row_before_windows = row_before end_row (0x10 ∷ 0x11 ∷ 0x12 ∷ []) end_row.checks
 
-abbrev pub rowsBeforeWindows : List (Row Register)
-rowsBeforeWindows = baseRow ∷ choiceRowBeforeWindows ∷ termRowBeforeWindows ∷ endRowBeforeWindows ∷ []
+abbrev pub rows_before_windows : List (Row Register)
+rows_before_windows = base_row ∷ choice_row_before_windows ∷ term_row_before_windows ∷ end_row_before_windows ∷ []
 
-abbrev pub partBeforeWindows : Part (Progress Register)
-partBeforeWindows = part_of fresh rowsBeforeWindows
+abbrev pub part_before_windows : Part (Progress Register)
+part_before_windows = part_of fresh rows_before_windows
 
 -- at the front of a run of bytes, as in a job
-unfoldable pub inJobBeforeWindows : List ℕ → Reading (Progress Register)
-inJobBeforeWindows s = readPart partBeforeWindows s
+unfoldable pub in_job_before_windows : List ℕ → Reading (Progress Register)
+in_job_before_windows s = read_part part_before_windows s
 
 -- as a run of bytes by itself
-unfoldable pub byItselfBeforeWindows : List ℕ → Reading (Progress Register)
-byItselfBeforeWindows s = byItself s (inJobBeforeWindows s)
+unfoldable pub by_itself_before_windows : List ℕ → Reading (Progress Register)
+by_itself_before_windows s = by_itself s (in_job_before_windows s)

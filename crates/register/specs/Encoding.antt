@@ -5,135 +5,135 @@ use Rattle.std.specs.Prelude.{ℕ, ◌≡◌, true, cond, map, eqb, ℤ, get_or}
 use mathlib.Core.List.{List, [], ◌∷◌, ◌++◌, flat_map}
 use Rattle.std.specs.Int.{w8, w16, w32}
 use Rattle.std.proofs.Common.{of_z}
-use Rattle.integers.specs.Lists.{joinBelow}
-use Rattle.wire.specs.Number.{bytes_of, natAt}
+use Rattle.integers.specs.Lists.{join_below}
+use Rattle.wire.specs.Number.{bytes_of, nat_at}
 use Rattle.wire.specs.Encoding.{Command}
 use Rattle.wire.specs.Grammar.{Only, Optional, Then, Kind, Kinds}
 use Rattle.wire.specs.Grammar as G
-use Rattle.wire.specs.Walk.{comesTo}
-use Rattle.wire.specs.Rows.{isAmong}
+use Rattle.wire.specs.Walk.{comes_to}
+use Rattle.wire.specs.Rows.{is_among}
 use Rattle.register.specs.declared.Register.{Register}
-use Rattle.register.specs.Limits.{usualDay, rowEntries}
-use Rattle.register.specs.Register.{tank, minute, mask, coefficient, windowTank, windowFrom, windowTo, rowTotal, rowEntry}
-use Rattle.register.specs.Format.{registerPart}
-use Rattle.register.specs.BeforeRows.{partBeforeRows}
+use Rattle.register.specs.Limits.{usual_day, row_entries}
+use Rattle.register.specs.Register.{tank, minute, mask, coefficient, window_tank, window_from, window_to, row_total, row_entry}
+use Rattle.register.specs.Format.{register_part}
+use Rattle.register.specs.BeforeRows.{part_before_rows}
 
 -- ---- an encoding: header, each window, choice, row and term in one of its forms, end
 
 -- `10` base cost
-abbrev pub baseCommand : ℤ → Command
-baseCommand base = record { byte = 0x10; operands = of_z w32 base ∷ [] }
+abbrev pub base_command : ℤ → Command
+base_command base = record { byte = 0x10; operands = of_z w32 base ∷ [] }
 
 -- `18` day length
-abbrev pub lengthCommand : ℕ → Command
-lengthCommand length = record { byte = 0x18; operands = length ∷ [] }
+abbrev pub length_command : ℕ → Command
+length_command length = record { byte = 0x18; operands = length ∷ [] }
 
 -- `10`, and `18`, which may be missing where the length is the usual one
 abbrev pub Header : Register → List Command → Type 0
-Header r = Then (Only (λ c. c ≡ baseCommand r.base)) (Optional (r.day_length ≡ usualDay) (λ c. c ≡ lengthCommand r.day_length))
+Header r = Then (Only (λ c. c ≡ base_command r.base)) (Optional (r.day_length ≡ usual_day) (λ c. c ≡ length_command r.day_length))
 
 -- `11` tank, minute
-abbrev pub choiceCommand : (tank minute : ℕ) → Command
-choiceCommand tank minute = record { byte = 0x11; operands = tank ∷ minute ∷ [] }
+abbrev pub choice_command : (tank minute : ℕ) → Command
+choice_command tank minute = record { byte = 0x11; operands = tank ∷ minute ∷ [] }
 
-abbrev pub choiceKind : Kind Register
-choiceKind = record { bytes = 0x11 ∷ []; count = λ r. r.choices; says = λ r i c. c ≡ choiceCommand (tank r i) (minute r i) }
+abbrev pub choice_kind : Kind Register
+choice_kind = record { bytes = 0x11 ∷ []; count = λ r. r.choices; says = λ r i c. c ≡ choice_command (tank r i) (minute r i) }
 
 -- `12` mask, coefficient
-abbrev pub termCommand : (mask : ℕ) → ℤ → Command
-termCommand mask coefficient = record { byte = 0x12; operands = mask ∷ of_z w32 coefficient ∷ [] }
+abbrev pub term_command : (mask : ℕ) → ℤ → Command
+term_command mask coefficient = record { byte = 0x12; operands = mask ∷ of_z w32 coefficient ∷ [] }
 
-abbrev pub termKind : Kind Register
-termKind = record { bytes = 0x12 ∷ []; count = λ r. r.terms; says = λ r t c. c ≡ termCommand (mask r t) (coefficient r t) }
+abbrev pub term_kind : Kind Register
+term_kind = record { bytes = 0x12 ∷ []; count = λ r. r.terms; says = λ r t c. c ≡ term_command (mask r t) (coefficient r t) }
 
 -- `13` tank, from, to
-abbrev pub windowCommand : (tank from to : ℕ) → Command
-windowCommand tank from to = record { byte = 0x13; operands = tank ∷ from ∷ to ∷ [] }
+abbrev pub window_command : (tank from to : ℕ) → Command
+window_command tank from to = record { byte = 0x13; operands = tank ∷ from ∷ to ∷ [] }
 
-abbrev pub windowKind : Kind Register
-windowKind = record { bytes = 0x13 ∷ []; count = λ r. r.windows; says = λ r j c. c ≡ windowCommand (windowTank r j) (windowFrom r j) (windowTo r j) }
+abbrev pub window_kind : Kind Register
+window_kind = record { bytes = 0x13 ∷ []; count = λ r. r.windows; says = λ r j c. c ≡ window_command (window_tank r j) (window_from r j) (window_to r j) }
 
 -- the entries of row k, that for choice 0 first
-abbrev pub rowList : Register → ℕ → List ℤ
-rowList r k = joinBelow rowEntries (λ j. rowEntry r k j ∷ [])
+abbrev pub row_list : Register → ℕ → List ℤ
+row_list r k = join_below row_entries (λ j. row_entry r k j ∷ [])
 
 -- `14` total, entries
-abbrev pub rowCommand : ℤ → List ℤ → Command
-rowCommand total entries = record { byte = 0x14; operands = of_z w16 total ∷ map (of_z w8) entries }
+abbrev pub row_command : ℤ → List ℤ → Command
+row_command total entries = record { byte = 0x14; operands = of_z w16 total ∷ map (of_z w8) entries }
 
-abbrev pub rowKind : Kind Register
-rowKind = record { bytes = 0x14 ∷ []; count = λ r. r.rows; says = λ r k c. c ≡ rowCommand (rowTotal r k) (rowList r k) }
+abbrev pub row_kind : Kind Register
+row_kind = record { bytes = 0x14 ∷ []; count = λ r. r.rows; says = λ r k c. c ≡ row_command (row_total r k) (row_list r k) }
 
 -- in this order
 abbrev pub kinds : List (Kind Register)
-kinds = windowKind ∷ choiceKind ∷ rowKind ∷ termKind ∷ []
+kinds = window_kind ∷ choice_kind ∷ row_kind ∷ term_kind ∷ []
 
 -- `1F`
-abbrev pub endCommand : Command
-endCommand = record { byte = 0x1F; operands = [] }
+abbrev pub end_command : Command
+end_command = record { byte = 0x1F; operands = [] }
 
 -- the commands are those of a register
 abbrev pub Commands : Register → List Command → Type 0
-Commands r = Then (Kinds r (Header r) kinds) (Only (λ c. c ≡ endCommand))
+Commands r = Then (Kinds r (Header r) kinds) (Only (λ c. c ≡ end_command))
 
 -- a run of bytes is an encoding of a register
 abbrev pub Encodes : Register → List ℕ → Type 0
-Encodes r s = G.Encodes registerPart Commands r s
+Encodes r s = G.Encodes register_part Commands r s
 
 -- ---- byte by byte: with `18`, which is an encoding of every register, and without it, which is one of a register of the usual length;
--- there are no others (`of-register` in `soundness/specs/Written`)
+-- there are no others (`of_register` in `soundness/specs/Written`)
 
 -- `10` base cost i32
-unfoldable pub encodeBase : ℤ → List ℕ
-encodeBase base = 0x10 ∷ bytes_of 4 (of_z w32 base)
+unfoldable pub encode_base : ℤ → List ℕ
+encode_base base = 0x10 ∷ bytes_of 4 (of_z w32 base)
 
 -- `11` choice: tank u16, minute u16
-unfoldable pub encodeChoice : (tank minute : ℕ) → List ℕ
-encodeChoice tank minute = 0x11 ∷ (bytes_of 2 tank ++ bytes_of 2 minute)
+unfoldable pub encode_choice : (tank minute : ℕ) → List ℕ
+encode_choice tank minute = 0x11 ∷ (bytes_of 2 tank ++ bytes_of 2 minute)
 
 -- `12` term: mask u32, coefficient i32
-unfoldable pub encodeTerm : (mask : ℕ) → ℤ → List ℕ
-encodeTerm mask coefficient = 0x12 ∷ (bytes_of 4 mask ++ bytes_of 4 (of_z w32 coefficient))
+unfoldable pub encode_term : (mask : ℕ) → ℤ → List ℕ
+encode_term mask coefficient = 0x12 ∷ (bytes_of 4 mask ++ bytes_of 4 (of_z w32 coefficient))
 
 -- `13` window: tank u16, from u16, to u16
-unfoldable pub encodeWindow : (tank from to : ℕ) → List ℕ
-encodeWindow tank from to = 0x13 ∷ (bytes_of 2 tank ++ (bytes_of 2 from ++ bytes_of 2 to))
+unfoldable pub encode_window : (tank from to : ℕ) → List ℕ
+encode_window tank from to = 0x13 ∷ (bytes_of 2 tank ++ (bytes_of 2 from ++ bytes_of 2 to))
 
 -- `14` row: total i16, entries i8
-unfoldable pub encodeRow : ℤ → List ℤ → List ℕ
-encodeRow total entries = 0x14 ∷ (bytes_of 2 (of_z w16 total) ++ flat_map (λ a. bytes_of 1 (of_z w8 a)) entries)
+unfoldable pub encode_row : ℤ → List ℤ → List ℕ
+encode_row total entries = 0x14 ∷ (bytes_of 2 (of_z w16 total) ++ flat_map (λ a. bytes_of 1 (of_z w8 a)) entries)
 
 -- `18` day length u16
-unfoldable pub encodeLength : ℕ → List ℕ
-encodeLength length = 0x18 ∷ bytes_of 2 length
+unfoldable pub encode_length : ℕ → List ℕ
+encode_length length = 0x18 ∷ bytes_of 2 length
 
 -- the windows, the choices, the rows, and the terms, one after the other
 
-abbrev pub encodeWindows : Register → List ℕ
-encodeWindows r = joinBelow r.windows (λ j. encodeWindow (windowTank r j) (windowFrom r j) (windowTo r j))
+abbrev pub encode_windows : Register → List ℕ
+encode_windows r = join_below r.windows (λ j. encode_window (window_tank r j) (window_from r j) (window_to r j))
 
-abbrev pub encodeChoices : Register → List ℕ
-encodeChoices r = joinBelow r.choices (λ i. encodeChoice (tank r i) (minute r i))
+abbrev pub encode_choices : Register → List ℕ
+encode_choices r = join_below r.choices (λ i. encode_choice (tank r i) (minute r i))
 
-abbrev pub encodeRows : Register → List ℕ
-encodeRows r = joinBelow r.rows (λ k. encodeRow (rowTotal r k) (rowList r k))
+abbrev pub encode_rows : Register → List ℕ
+encode_rows r = join_below r.rows (λ k. encode_row (row_total r k) (row_list r k))
 
-abbrev pub encodeTerms : Register → List ℕ
-encodeTerms r = joinBelow r.terms (λ t. encodeTerm (mask r t) (coefficient r t))
+abbrev pub encode_terms : Register → List ℕ
+encode_terms r = join_below r.terms (λ t. encode_term (mask r t) (coefficient r t))
 
 -- after the bytes of a header
-abbrev pub encodeAfter : List ℕ → Register → List ℕ
-encodeAfter header r = header ++ encodeWindows r ++ encodeChoices r ++ encodeRows r ++ encodeTerms r ++ (0x1F ∷ [])
+abbrev pub encode_after : List ℕ → Register → List ℕ
+encode_after header r = header ++ encode_windows r ++ encode_choices r ++ encode_rows r ++ encode_terms r ++ (0x1F ∷ [])
 
-abbrev pub encodeWithLength : Register → List ℕ
-encodeWithLength r = encodeAfter (encodeBase r.base ++ encodeLength r.day_length) r
+abbrev pub encode_with_length : Register → List ℕ
+encode_with_length r = encode_after (encode_base r.base ++ encode_length r.day_length) r
 
-abbrev pub encodeWithoutLength : Register → List ℕ
-encodeWithoutLength r = encodeAfter (encodeBase r.base) r
+abbrev pub encode_without_length : Register → List ℕ
+encode_without_length r = encode_after (encode_base r.base) r
 
 -- what a writer makes: the length is said where it is not the usual one
-unfoldable pub encodeRegister : Register → List ℕ
-encodeRegister r = cond (eqb r.day_length usualDay) (encodeWithoutLength r) (encodeWithLength r)
+unfoldable pub encode_register : Register → List ℕ
+encode_register r = cond (eqb r.day_length usual_day) (encode_without_length r) (encode_with_length r)
 
 -- ---- the day length in bytes
 
@@ -142,12 +142,12 @@ abbrev pub SaysLength : List ℕ → Type 0
 SaysLength s = (get_or s 0 0 ≡ 0x10) × (get_or s 5 0 ≡ 0x18)
 
 -- the length that `18` says there, and else the usual one
-abbrev pub lengthIn : List ℕ → ℕ
-lengthIn s = cond (eqb (get_or s 5 0) 0x18) (natAt 2 s 6) usualDay
+abbrev pub length_in : List ℕ → ℕ
+length_in s = cond (eqb (get_or s 5 0) 0x18) (nat_at 2 s 6) usual_day
 
 -- ---- rows in bytes
 
 -- reading as before there were rows, which refuses each `14` with 1, comes to one directly after `10`, `11`, `13` or `18`. It comes
 -- to none past a byte that is no command, nor past a command that it refuses
 abbrev pub SaysRow : List ℕ → Type 0
-SaysRow s = comesTo partBeforeRows (λ p. isAmong p.previous (0x10 ∷ 0x11 ∷ 0x13 ∷ 0x18 ∷ [])) 0x14 s ≡ true
+SaysRow s = comes_to part_before_rows (λ p. is_among p.previous (0x10 ∷ 0x11 ∷ 0x13 ∷ 0x18 ∷ [])) 0x14 s ≡ true

@@ -2,7 +2,7 @@
 use Rattle.std.specs.Prelude.{ℕ, List}
 use Rattle.wire.specs.Outcome.{Outcome, given}
 use Rattle.register.specs.declared.Register.{Register}
-use Rattle.register.specs.Format.{registerByItself}
+use Rattle.register.specs.Format.{register_by_itself}
 
-abbrev pub openRegister : List ℕ → Outcome Register
-openRegister s = given 1 (registerByItself s)
+abbrev pub open_register : List ℕ → Outcome Register
+open_register s = given 1 (register_by_itself s)

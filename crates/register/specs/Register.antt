@@ -2,7 +2,7 @@
 use Rattle.std.specs.Prelude.{ℕ, suc, ◌+◌, ◌*◌, List, get_or, set, replicate, ℤ, pos}
 use Rattle.std.proofs.lemmas.List.Edits.{sets}
 use Rattle.register.specs.declared.Register.{Register}
-use Rattle.register.specs.Limits.{maxChoices, maxTerms, maxWindows, maxRows, rowEntries, usualDay}
+use Rattle.register.specs.Limits.{max_choices, max_terms, max_windows, max_rows, row_entries, usual_day}
 
 -- choice i: its tank and its minute
 
@@ -22,28 +22,28 @@ coefficient r t = get_or r.coefficients t (pos 0)
 
 -- window j: its tank, its "from" and its "to"
 
-abbrev pub windowTank : Register → ℕ → ℕ
-windowTank r j = get_or r.window_tanks j 0
+abbrev pub window_tank : Register → ℕ → ℕ
+window_tank r j = get_or r.window_tanks j 0
 
-abbrev pub windowFrom : Register → ℕ → ℕ
-windowFrom r j = get_or r.window_froms j 0
+abbrev pub window_from : Register → ℕ → ℕ
+window_from r j = get_or r.window_froms j 0
 
-abbrev pub windowTo : Register → ℕ → ℕ
-windowTo r j = get_or r.window_tos j 0
+abbrev pub window_to : Register → ℕ → ℕ
+window_to r j = get_or r.window_tos j 0
 
 -- row k: its total b, and its entry for choice j, in lists of totals and of entries; the entries of all rows stand one after the other
 
-abbrev pub totalIn : List ℤ → ℕ → ℤ
-totalIn totals k = get_or totals k (pos 0)
+abbrev pub total_in : List ℤ → ℕ → ℤ
+total_in totals k = get_or totals k (pos 0)
 
-abbrev pub entryIn : List ℤ → ℕ → ℕ → ℤ
-entryIn entries k j = get_or entries (k * rowEntries + j) (pos 0)
+abbrev pub entry_in : List ℤ → ℕ → ℕ → ℤ
+entry_in entries k j = get_or entries (k * row_entries + j) (pos 0)
 
-abbrev pub rowTotal : Register → ℕ → ℤ
-rowTotal r k = totalIn r.row_totals k
+abbrev pub row_total : Register → ℕ → ℤ
+row_total r k = total_in r.row_totals k
 
-abbrev pub rowEntry : Register → ℕ → ℕ → ℤ
-rowEntry r k j = entryIn r.row_entries k j
+abbrev pub row_entry : Register → ℕ → ℕ → ℤ
+row_entry r k j = entry_in r.row_entries k j
 
 -- no base cost, no day length, no choice, no term, no window, no row; every entry is 0
 unfoldable pub fresh : Register
@@ -52,24 +52,24 @@ fresh = record {
   day_length = 0;
   choices = 0;
   terms = 0;
-  tanks = replicate maxChoices 0;
-  minutes = replicate maxChoices 0;
-  masks = replicate maxTerms 0;
-  coefficients = replicate maxTerms (pos 0);
+  tanks = replicate max_choices 0;
+  minutes = replicate max_choices 0;
+  masks = replicate max_terms 0;
+  coefficients = replicate max_terms (pos 0);
   windows = 0;
-  window_tanks = replicate maxWindows 0;
-  window_froms = replicate maxWindows 0;
-  window_tos = replicate maxWindows 0;
+  window_tanks = replicate max_windows 0;
+  window_froms = replicate max_windows 0;
+  window_tos = replicate max_windows 0;
   rows = 0;
-  row_totals = replicate maxRows (pos 0);
-  row_entries = replicate (maxRows * rowEntries) (pos 0);
+  row_totals = replicate max_rows (pos 0);
+  row_entries = replicate (max_rows * row_entries) (pos 0);
 }
 
 -- ---- a register with other values of one group: the base cost, the day length, the choices, the terms, the windows,
 -- the rows
 
-abbrev pub setBase : Register → ℤ → Register
-setBase r base = record {
+abbrev pub set_base : Register → ℤ → Register
+set_base r base = record {
   base = base;
   day_length = r.day_length;
   choices = r.choices;
@@ -87,8 +87,8 @@ setBase r base = record {
   row_entries = r.row_entries;
 }
 
-abbrev pub setLength : Register → ℕ → Register
-setLength r length = record {
+abbrev pub set_length : Register → ℕ → Register
+set_length r length = record {
   base = r.base;
   day_length = length;
   choices = r.choices;
@@ -106,8 +106,8 @@ setLength r length = record {
   row_entries = r.row_entries;
 }
 
-abbrev pub setChoices : Register → ℕ → (tanks minutes : List ℕ) → Register
-setChoices r n tanks minutes = record {
+abbrev pub set_choices : Register → ℕ → (tanks minutes : List ℕ) → Register
+set_choices r n tanks minutes = record {
   base = r.base;
   day_length = r.day_length;
   choices = n;
@@ -125,8 +125,8 @@ setChoices r n tanks minutes = record {
   row_entries = r.row_entries;
 }
 
-abbrev pub setTerms : Register → ℕ → List ℕ → List ℤ → Register
-setTerms r m masks coefficients = record {
+abbrev pub set_terms : Register → ℕ → List ℕ → List ℤ → Register
+set_terms r m masks coefficients = record {
   base = r.base;
   day_length = r.day_length;
   choices = r.choices;
@@ -144,8 +144,8 @@ setTerms r m masks coefficients = record {
   row_entries = r.row_entries;
 }
 
-abbrev pub setWindows : Register → ℕ → (tanks froms tos : List ℕ) → Register
-setWindows r k tanks froms tos = record {
+abbrev pub set_windows : Register → ℕ → (tanks froms tos : List ℕ) → Register
+set_windows r k tanks froms tos = record {
   base = r.base;
   day_length = r.day_length;
   choices = r.choices;
@@ -163,8 +163,8 @@ setWindows r k tanks froms tos = record {
   row_entries = r.row_entries;
 }
 
-abbrev pub setRows : Register → ℕ → (totals entries : List ℤ) → Register
-setRows r k totals entries = record {
+abbrev pub set_rows : Register → ℕ → (totals entries : List ℤ) → Register
+set_rows r k totals entries = record {
   base = r.base;
   day_length = r.day_length;
   choices = r.choices;
@@ -185,26 +185,26 @@ setRows r k totals entries = record {
 -- ---- what a command gives
 
 -- the base cost, and the length that a day has where no command says one
-abbrev pub withBase : Register → ℤ → Register
-withBase r base = setLength (setBase r base) usualDay
+abbrev pub with_base : Register → ℤ → Register
+with_base r base = set_length (set_base r base) usual_day
 
 -- the day length
-abbrev pub withLength : Register → ℕ → Register
-withLength r length = setLength r length
+abbrev pub with_length : Register → ℕ → Register
+with_length r length = set_length r length
 
 -- one choice more; choices are numbered from 0
-abbrev pub withChoice : Register → ℕ → ℕ → Register
-withChoice r tank minute = setChoices r (suc r.choices) (set r.tanks r.choices tank) (set r.minutes r.choices minute)
+abbrev pub with_choice : Register → ℕ → ℕ → Register
+with_choice r tank minute = set_choices r (suc r.choices) (set r.tanks r.choices tank) (set r.minutes r.choices minute)
 
 -- one term more
-abbrev pub withTerm : Register → ℕ → ℤ → Register
-withTerm r mask coefficient = setTerms r (suc r.terms) (set r.masks r.terms mask) (set r.coefficients r.terms coefficient)
+abbrev pub with_term : Register → ℕ → ℤ → Register
+with_term r mask coefficient = set_terms r (suc r.terms) (set r.masks r.terms mask) (set r.coefficients r.terms coefficient)
 
 -- one window more
-abbrev pub withWindow : Register → (tank from to : ℕ) → Register
-withWindow r tank from to =
-    setWindows r (suc r.windows) (set r.window_tanks r.windows tank) (set r.window_froms r.windows from) (set r.window_tos r.windows to)
+abbrev pub with_window : Register → (tank from to : ℕ) → Register
+with_window r tank from to =
+    set_windows r (suc r.windows) (set r.window_tanks r.windows tank) (set r.window_froms r.windows from) (set r.window_tos r.windows to)
 
 -- one row more; rows are numbered from 0
-abbrev pub withRow : Register → ℤ → List ℤ → Register
-withRow r b entries = setRows r (suc r.rows) (set r.row_totals r.rows b) (sets r.row_entries (r.rows * rowEntries) entries)
+abbrev pub with_row : Register → ℤ → List ℤ → Register
+with_row r b entries = set_rows r (suc r.rows) (set r.row_totals r.rows b) (sets r.row_entries (r.rows * row_entries) entries)

@@ -4,18 +4,18 @@
 use Rattle.std.specs.Prelude.{ℕ, ◌^◌, ◌<◌, ◌≤◌, ◌≡◌, ◌⊎◌, ◌*◌, ℤ, pos, nat_abs, ◌≤ℤ◌}
 use Rattle.integers.specs.Lists.{Column, Table}
 use Rattle.register.specs.declared.Register.{Register}
-use Rattle.register.specs.Limits.{maxChoices, maxTerms, maxWindows, maxRows, rowEntries, maxRowTotal, lowestEntry, highestEntry, maxBase, maxTank, maxCoefficient, shortDay, usualDay, longDay}
-use Rattle.register.specs.Register.{tank, minute, mask, coefficient, windowTank, windowFrom, windowTo, rowTotal, rowEntry}
+use Rattle.register.specs.Limits.{max_choices, max_terms, max_windows, max_rows, row_entries, max_row_total, lowest_entry, highest_entry, max_base, max_tank, max_coefficient, short_day, usual_day, long_day}
+use Rattle.register.specs.Register.{tank, minute, mask, coefficient, window_tank, window_from, window_to, row_total, row_entry}
 
 -- a day has 1,380, 1,440 or 1,500 minutes
 abbrev pub DayLength : ℕ → Type 0
-DayLength length = (length ≡ shortDay) ⊎ ((length ≡ usualDay) ⊎ (length ≡ longDay))
+DayLength length = (length ≡ short_day) ⊎ ((length ≡ usual_day) ⊎ (length ≡ long_day))
 
 -- the ranges of a choice's numbers on a day of this length; a minute may be 0, a tank not
 pub record Choice (length tank minute : ℕ) : Type 0 where
-  pub tank-above : 1 ≤ tank
-  pub tank-within : tank ≤ maxTank
-  pub minute-below : minute < length
+  pub tank_above : 1 ≤ tank
+  pub tank_within : tank ≤ max_tank
+  pub minute_below : minute < length
 
 -- a choice comes before another: by tank, then minute; so does a window, by tank, then "from"
 abbrev pub Before : (c d : ℕ × ℕ) → Type 0
@@ -23,10 +23,10 @@ Before c d = (c.0 < d.0) ⊎ ((c.0 ≡ d.0) × (c.1 < d.1))
 
 -- the coefficient has a range of both signs without 0; the mask names some of the n choices, at least one
 pub record Term (n mask : ℕ) (coefficient : ℤ) : Type 0 where
-  pub coefficient-within : nat_abs coefficient ≤ maxCoefficient
-  pub coefficient-not-0 : 1 ≤ nat_abs coefficient
-  pub mask-not-0 : 1 ≤ mask
-  pub mask-names : mask < 2 ^ n
+  pub coefficient_within : nat_abs coefficient ≤ max_coefficient
+  pub coefficient_not_0 : 1 ≤ nat_abs coefficient
+  pub mask_not_0 : 1 ≤ mask
+  pub mask_names : mask < 2 ^ n
 
 -- masks rise
 abbrev pub Rises : (c d : ℕ × ℤ) → Type 0
@@ -34,35 +34,35 @@ Rises c d = c.0 < d.0
 
 -- the ranges of a window's numbers on a day of this length; "from" is below "to"
 pub record Window (length t from to : ℕ) : Type 0 where
-  pub tank-above : 1 ≤ t
-  pub tank-within : t ≤ maxTank
-  pub from-below : from < length
-  pub to-above : 1 ≤ to
-  pub to-within : to ≤ length
+  pub tank_above : 1 ≤ t
+  pub tank_within : t ≤ max_tank
+  pub from_below : from < length
+  pub to_above : 1 ≤ to
+  pub to_within : to ≤ length
   pub ordered : from < to
 
 -- the ranges of a row's total and of its entries; those past the n choices are 0
 pub record FeedingRow (n : ℕ) (total : ℤ) (entry : ℕ → ℤ) : Type 0 where
-  pub total-within : nat_abs total ≤ maxRowTotal
-  pub entry-above : (j : ℕ) → j < rowEntries → lowestEntry ≤ℤ entry j
-  pub entry-below : (j : ℕ) → j < rowEntries → entry j ≤ℤ highestEntry
-  pub past-0 : (j : ℕ) → n ≤ j → j < rowEntries → entry j ≡ pos 0
+  pub total_within : nat_abs total ≤ max_row_total
+  pub entry_above : (j : ℕ) → j < row_entries → lowest_entry ≤ℤ entry j
+  pub entry_below : (j : ℕ) → j < row_entries → entry j ≤ℤ highest_entry
+  pub past_0 : (j : ℕ) → n ≤ j → j < row_entries → entry j ≡ pos 0
 
 -- up to 32 choices, each in its ranges, rising
 abbrev pub Choices : (length n : ℕ) → (ℕ → ℕ × ℕ) → Type 0
-Choices length n f = Table maxChoices n f (λ c. Choice length c.0 c.1) Before
+Choices length n f = Table max_choices n f (λ c. Choice length c.0 c.1) Before
 
 -- up to 256 terms over n choices, masks rising
 abbrev pub Terms : (n m : ℕ) → (ℕ → ℕ × ℤ) → Type 0
-Terms n m f = Table maxTerms m f (λ c. Term n c.0 c.1) Rises
+Terms n m f = Table max_terms m f (λ c. Term n c.0 c.1) Rises
 
 -- up to 64 windows (tank, from, to), each in its ranges, rising
 abbrev pub Windows : (length k : ℕ) → (ℕ → ℕ × ℕ × ℕ) → Type 0
-Windows length k f = Table maxWindows k f (λ c. Window length c.0 c.1 c.2) (λ c d. Before (c.0, c.1) (d.0, d.1))
+Windows length k f = Table max_windows k f (λ c. Window length c.0 c.1 c.2) (λ c d. Before (c.0, c.1) (d.0, d.1))
 
 -- up to 8 rows over n choices (total, entries), each in its ranges, in any order
 pub record Rows (n k : ℕ) (f : ℕ → ℤ × (ℕ → ℤ)) : Type 0 where
-  pub few : k ≤ maxRows
+  pub few : k ≤ max_rows
   pub each : (i : ℕ) → i < k → FeedingRow n (f i).0 (f i).1
 
 -- one of the tank's windows among k holds the minute: "from" ≤ minute < "to"
@@ -78,36 +78,36 @@ abbrev pub MayFeed : (k : ℕ) → (ℕ → ℕ × ℕ × ℕ) → (tank minute 
 MayFeed k f tank minute = ((j : ℕ) → j < k → (f j).0 ≡ tank → ⊥) ⊎ Inside k f tank minute
 
 -- window j of a register
-abbrev pub windowAt : Register → ℕ → ℕ × ℕ × ℕ
-windowAt r j = (windowTank r j, windowFrom r j, windowTo r j)
+abbrev pub window_at : Register → ℕ → ℕ × ℕ × ℕ
+window_at r j = (window_tank r j, window_from r j, window_to r j)
 
 -- row k of a register
-abbrev pub rowAt : Register → ℕ → ℤ × (ℕ → ℤ)
-rowAt r k = (rowTotal r k, rowEntry r k)
+abbrev pub row_at : Register → ℕ → ℤ × (ℕ → ℤ)
+row_at r k = (row_total r k, row_entry r k)
 
 -- within the limits, as far as commands other than the end say; entries past the counts are 0
 pub record Within (r : Register) : Type 0 where
-  pub base : nat_abs r.base ≤ maxBase
+  pub base : nat_abs r.base ≤ max_base
   -- 0 before the first command
   pub day : (r.day_length ≡ 0) ⊎ DayLength r.day_length
-  pub tanks : Column maxChoices r.choices 0 r.tanks
-  pub minutes : Column maxChoices r.choices 0 r.minutes
+  pub tanks : Column max_choices r.choices 0 r.tanks
+  pub minutes : Column max_choices r.choices 0 r.minutes
   pub choices : Choices r.day_length r.choices (λ i. (tank r i, minute r i))
-  pub masks : Column maxTerms r.terms 0 r.masks
-  pub coefficients : Column maxTerms r.terms (pos 0) r.coefficients
+  pub masks : Column max_terms r.terms 0 r.masks
+  pub coefficients : Column max_terms r.terms (pos 0) r.coefficients
   pub terms : Terms r.choices r.terms (λ t. (mask r t, coefficient r t))
-  pub window-tanks : Column maxWindows r.windows 0 r.window_tanks
-  pub window-froms : Column maxWindows r.windows 0 r.window_froms
-  pub window-tos : Column maxWindows r.windows 0 r.window_tos
-  pub windows : Windows r.day_length r.windows (windowAt r)
-  pub row-totals : Column maxRows r.rows (pos 0) r.row_totals
-  pub row-entries : Column (maxRows * rowEntries) (r.rows * rowEntries) (pos 0) r.row_entries
-  pub rows : Rows r.choices r.rows (rowAt r)
+  pub window_tanks : Column max_windows r.windows 0 r.window_tanks
+  pub window_froms : Column max_windows r.windows 0 r.window_froms
+  pub window_tos : Column max_windows r.windows 0 r.window_tos
+  pub windows : Windows r.day_length r.windows (window_at r)
+  pub row_totals : Column max_rows r.rows (pos 0) r.row_totals
+  pub row_entries : Column (max_rows * row_entries) (r.rows * row_entries) (pos 0) r.row_entries
+  pub rows : Rows r.choices r.rows (row_at r)
   -- each choice's tank may be fed at its minute
-  pub may-feed : (i : ℕ) → i < r.choices → MayFeed r.windows (windowAt r) (tank r i) (minute r i)
+  pub may_feed : (i : ℕ) → i < r.choices → MayFeed r.windows (window_at r) (tank r i) (minute r i)
 
 -- and the day's length is one of the three, and a first choice is there, which the end command asks for
 pub record Valid (r : Register) : Type 0 where
   pub within : Within r
-  pub day-length : DayLength r.day_length
-  pub some-choice : 1 ≤ r.choices
+  pub day_length : DayLength r.day_length
+  pub some_choice : 1 ≤ r.choices

@@ -1,11 +1,11 @@
 // The refusal of each of the register's commands, by what has been seen before it.
 ghost use Rattle.std.specs.Prelude.{◌≡◌, [], ◌∷◌, not, ◌||◌, eqb, ◌<◌, ◌≤◌, length};
-ghost use Rattle.integers.specs.Lists.{comesBefore};
+ghost use Rattle.integers.specs.Lists.{comes_before};
 ghost use Rattle.wire.specs.Checks.{refusal};
-ghost use Rattle.wire.specs.Part.{checksAt, size};
-ghost use Rattle.wire.specs.Rows.{Progress, isAmong, row_of};
-ghost use Rattle.register.specs.Limits.{maxChoices, maxWindows};
-ghost use Rattle.register.specs.Format.{baseChecks, choiceChecks, termChecks, windowChecks, rowChecks, lengthChecks, endChecks, registerRows, registerPart};
+ghost use Rattle.wire.specs.Part.{checks_at, size};
+ghost use Rattle.wire.specs.Rows.{Progress, is_among, row_of};
+ghost use Rattle.register.specs.Limits.{max_choices, max_windows};
+ghost use Rattle.register.specs.Format.{base_checks, choice_checks, term_checks, window_checks, row_checks, length_checks, end_checks, register_rows, register_part};
 ghost use Rattle.register.specs.Answer.{Given};
 
 use super::rows::past_zero;
@@ -15,14 +15,14 @@ use wire::{command_refusal, first_of};
 
 // The refusal of a base cost, or 0.
 fn base_refusal(base: i32) -> u8
-    ensures { result ≡ refusal (baseChecks base) }
+    ensures { result ≡ refusal (base_checks base) }
 {
     first_of(Register::MAX_BASE < wire::magnitude(base as i64), 4, 0)
 }
 
 // A tank with a second number does not come after the last of n others: by tank, then by the second number.
 fn pair_falls(n: usize, tank0: u16, second0: u16, tank: u16, second: u16) -> bool
-    ensures { result ≡ not (eqb n 0 || comesBefore (tank0 ∷ second0 ∷ []) (tank ∷ second ∷ [])) }
+    ensures { result ≡ not (eqb n 0 || comes_before (tank0 ∷ second0 ∷ []) (tank ∷ second ∷ [])) }
 {
     let later = (tank0 < tank) | ((tank0 == tank) & (second0 < second));
     !((n == 0) | later)
@@ -39,7 +39,7 @@ fn choice_refusal(
     minute: u16,
     may: bool,
 ) -> u8
-    ensures { result ≡ refusal (choiceChecks length n tank0 minute0 tank minute may) }
+    ensures { result ≡ refusal (choice_checks length n tank0 minute0 tank minute may) }
 {
     let out = (tank == 0) | (Register::MAX_TANK < tank) | (length <= minute);
     let falls = pair_falls(n, tank0, minute0, tank, minute);
@@ -52,8 +52,8 @@ fn choice_refusal(
 
 // The refusal of a term after m others, the last of which has mask0, where there are n choices, or 0.
 fn term_refusal(n: usize, m: usize, mask0: u32, mask: u32, coefficient: i32) -> u8
-    requires { n ≤ maxChoices }
-    ensures { result ≡ refusal (termChecks n m mask0 mask coefficient) }
+    requires { n ≤ max_choices }
+    ensures { result ≡ refusal (term_checks n m mask0 mask coefficient) }
 {
     let size = wire::magnitude(coefficient as i64);
     let out = (size == 0) | (Register::MAX_COEFFICIENT < size);
@@ -73,7 +73,7 @@ fn window_refusal(
     from: u16,
     to: u16,
 ) -> u8
-    ensures { result ≡ refusal (windowChecks length k tank0 from0 tank from to) }
+    ensures { result ≡ refusal (window_checks length k tank0 from0 tank from to) }
 {
     let out = (tank == 0)
         | (Register::MAX_TANK < tank)
@@ -87,7 +87,7 @@ fn window_refusal(
 
 // The refusal of a row after k others, or 0; `zeros` where its entries past the choices are 0.
 fn row_refusal(k: usize, total: i16, zeros: bool) -> u8
-    ensures { result ≡ refusal (rowChecks k total zeros) }
+    ensures { result ≡ refusal (row_checks k total zeros) }
 {
     let out = Register::MAX_ROW_TOTAL < wire::magnitude(total as i64);
     first_of(
@@ -99,7 +99,7 @@ fn row_refusal(k: usize, total: i16, zeros: bool) -> u8
 
 // The refusal of a day length, or 0.
 fn length_refusal(length: u16) -> u8
-    ensures { result ≡ refusal (lengthChecks length) }
+    ensures { result ≡ refusal (length_checks length) }
 {
     let known = (length == Register::SHORT_DAY)
         | (length == Register::USUAL_DAY)
@@ -109,14 +109,14 @@ fn length_refusal(length: u16) -> u8
 
 // The refusal of an end after n choices, or 0.
 fn end_refusal(n: usize) -> u8
-    ensures { result ≡ refusal (endChecks n) }
+    ensures { result ≡ refusal (end_checks n) }
 {
     first_of(n == 0, 3, 0)
 }
 
 // A term or the end may stand directly after a command: after each but the end.
 fn after_any(previous: u8) -> bool
-    ensures { result ≡ isAmong previous (0x10 ∷ 0x11 ∷ 0x12 ∷ 0x13 ∷ 0x14 ∷ 0x18 ∷ []) }
+    ensures { result ≡ is_among previous (0x10 ∷ 0x11 ∷ 0x12 ∷ 0x13 ∷ 0x14 ∷ 0x18 ∷ []) }
 {
     (previous == 0x10)
         | ((previous == 0x11)
@@ -126,7 +126,7 @@ fn after_any(previous: u8) -> bool
 
 // A row may stand directly after a command: after each but a term and the end.
 fn before_terms(previous: u8) -> bool
-    ensures { result ≡ isAmong previous (0x10 ∷ 0x11 ∷ 0x13 ∷ 0x14 ∷ 0x18 ∷ []) }
+    ensures { result ≡ is_among previous (0x10 ∷ 0x11 ∷ 0x13 ∷ 0x14 ∷ 0x18 ∷ []) }
 {
     (previous == 0x10)
         | ((previous == 0x11) | ((previous == 0x13) | ((previous == 0x14) | (previous == 0x18))))
@@ -134,7 +134,7 @@ fn before_terms(previous: u8) -> bool
 
 // A command may stand directly after another, or first where that is 0.
 fn stands_after(previous: u8, command: u8) -> bool
-    ensures { result ≡ isAmong previous (row_of registerRows command).follows }
+    ensures { result ≡ is_among previous (row_of register_rows command).follows }
 {
     match command {
         0x10 => previous == 0,
@@ -152,7 +152,7 @@ fn stands_after(previous: u8, command: u8) -> bool
 
 // The bytes of a command.
 pub fn command_size(command: u8) -> usize
-    ensures { result ≡ size registerPart command }
+    ensures { result ≡ size register_part command }
 {
     match command {
         0x10 => 5,
@@ -177,8 +177,8 @@ pub fn refusal_at<'a>(
     tos: &'a [u16; Register::MAX_WINDOWS],
 ) -> u8
     requires at_in_bounds { at < length bytes.now }
-    requires counts_within { (seen.choices ≤ maxChoices) × (passed ≤ seen.windows) × (seen.windows ≤ maxWindows) }
-    ensures { (p : Progress Register) → Given p seen passed tanks.now froms.now tos.now → result ≡ refusal (checksAt registerPart bytes.now p at) }
+    requires counts_within { (seen.choices ≤ max_choices) × (passed ≤ seen.windows) × (seen.windows ≤ max_windows) }
+    ensures { (p : Progress Register) → Given p seen passed tanks.now froms.now tos.now → result ≡ refusal (checks_at register_part bytes.now p at) }
 {
     let command = bytes[at];
     let previous = seen.previous;

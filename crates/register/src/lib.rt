@@ -10,8 +10,8 @@ mod windows;
 
 ghost use Rattle.std.specs.Prelude.{◌≡◌, ◌-◌};
 ghost use Rattle.register.specs.Register.{fresh};
-ghost use Rattle.register.specs.Format.{registerInJob, registerByItself};
-ghost use Rattle.register.specs.Answer.{refusedRead, registerRead, refusedAnswer, registerAnswer};
+ghost use Rattle.register.specs.Format.{register_in_job, register_by_itself};
+ghost use Rattle.register.specs.Answer.{refused_read, register_read, refused_answer, register_answer};
 
 use checks::refusal_at;
 use rows::put_entries;
@@ -129,7 +129,7 @@ impl Register {
 
 impl RegisterRead {
     fn refused(number: u8, position: usize) -> RegisterRead
-        ensures { result ≡ refusedRead number position }
+        ensures { result ≡ refused_read number position }
     {
         let register = Register::fresh();
         RegisterRead {
@@ -142,7 +142,7 @@ impl RegisterRead {
 
 impl RegisterAnswer {
     fn refused(number: u8, position: usize) -> RegisterAnswer
-        ensures { result ≡ refusedAnswer number position }
+        ensures { result ≡ refused_answer number position }
     {
         let register = Register::fresh();
         RegisterAnswer {
@@ -163,7 +163,7 @@ fn last_of(n: usize) -> usize
 
 // The register at the front of a run of bytes.
 pub fn read_register(bytes: &[u8]) -> RegisterRead
-    ensures { result ≡ registerRead (registerInJob bytes.now) }
+    ensures { result ≡ register_read (register_in_job bytes.now) }
 {
     let mut register = Register::fresh();
     let mut previous: u8 = 0;
@@ -264,7 +264,7 @@ pub fn read_register(bytes: &[u8]) -> RegisterRead
 // The register as a run of bytes by itself.
 #[unsafe(no_mangle)]
 pub extern "C" fn feedcheck_register(bytes: &[u8]) -> RegisterAnswer
-    ensures { result ≡ registerAnswer (registerByItself bytes.now) }
+    ensures { result ≡ register_answer (register_by_itself bytes.now) }
 {
     let part = read_register(bytes);
     let number = part.number;

@@ -2,17 +2,17 @@
 ghost use Rattle.std.specs.Prelude.{◌≡◌, ◌+◌, ◌*◌, ◌≤◌, length};
 ghost use Rattle.std.specs.Int.{w8};
 ghost use Rattle.std.proofs.lemmas.List.Edits.{sets};
-ghost use Rattle.wire.specs.Number.{intAt};
-ghost use Rattle.register.specs.Limits.{maxRows, rowEntries};
-ghost use Rattle.register.specs.Format.{zeroPast};
-ghost use Rattle.register.specs.Answer.{entriesAt};
+ghost use Rattle.wire.specs.Number.{int_at};
+ghost use Rattle.register.specs.Limits.{max_rows, row_entries};
+ghost use Rattle.register.specs.Format.{zero_past};
+ghost use Rattle.register.specs.Answer.{entries_at};
 
 use super::Register;
 
 // The entries at a position are 0 for all but the first n choices.
 pub fn past_zero(bytes: &[u8], at: usize, n: usize) -> bool
-    requires { at + rowEntries ≤ length bytes.now }
-    ensures { result ≡ zeroPast n (λ j. intAt w8 bytes.now (at + j)) }
+    requires { at + row_entries ≤ length bytes.now }
+    ensures { result ≡ zero_past n (λ j. int_at w8 bytes.now (at + j)) }
 {
     let mut j = n;
     while j < Register::ROW_ENTRIES {
@@ -31,9 +31,9 @@ pub fn put_entries(
     bytes: &[u8],
     at: usize,
 )
-    requires place_within { place + rowEntries ≤ maxRows * rowEntries }
-    requires bytes_there { at + rowEntries ≤ length bytes.now }
-    ensures { entries.new ≡ sets entries.old place (entriesAt bytes.now at) }
+    requires place_within { place + row_entries ≤ max_rows * row_entries }
+    requires bytes_there { at + row_entries ≤ length bytes.now }
+    ensures { entries.new ≡ sets entries.old place (entries_at bytes.now at) }
 {
     let mut j = 0;
     while j < Register::ROW_ENTRIES {

@@ -1,21 +1,21 @@
 // A walk over the register's commands: where the command of a term stands.
 ghost use Rattle.std.specs.Prelude.{◌≡◌};
-ghost use Rattle.wire.specs.Rows.{isAmong};
-ghost use Rattle.register.specs.Encoding.{termKind};
-ghost use Rattle.register.specs.Position.{termPosition};
+ghost use Rattle.wire.specs.Rows.{is_among};
+ghost use Rattle.register.specs.Encoding.{term_kind};
+ghost use Rattle.register.specs.Position.{term_position};
 
 use super::checks::command_size;
 
 // A command with this byte says a term.
 fn is_term(command: u8) -> bool
-    ensures { result ≡ isAmong command termKind.bytes }
+    ensures { result ≡ is_among command term_kind.bytes }
 {
     command == 0x12
 }
 
 // The position of the command of a term, counted from 0, or 0 where there are fewer: commands follow each other by their sizes.
 pub fn term_position(bytes: &[u8], term: usize) -> usize
-    ensures { result ≡ termPosition bytes.now term }
+    ensures { result ≡ term_position bytes.now term }
 {
     let mut left = term;
     let mut at: usize = 0;

@@ -1,7 +1,7 @@
 // The windows of a register: whether a tank may be fed at a minute. They rise by tank, and so do the choices.
 ghost use Rattle.std.specs.Prelude.{◌≡◌, ◌⊎◌, ℕ, ◌<◌, ◌≤◌, get_or};
-ghost use Rattle.register.specs.Limits.{maxWindows};
-ghost use Rattle.register.specs.Format.{mayFeed};
+ghost use Rattle.register.specs.Limits.{max_windows};
+ghost use Rattle.register.specs.Format.{may_feed};
 ghost use Rattle.register.specs.Answer.{NoFall};
 
 use super::Register;
@@ -17,8 +17,8 @@ pub fn may_feed<'a>(
     tank: u16,
     minute: u16,
 ) -> bool
-    requires { (passed ≤ n) × (n ≤ maxWindows) }
-    ensures { NoFall n tanks.now → ((j : ℕ) → j < passed → get_or tanks.now j 0 < tank) → result ≡ mayFeed n tanks.now froms.now tos.now tank minute }
+    requires { (passed ≤ n) × (n ≤ max_windows) }
+    ensures { NoFall n tanks.now → ((j : ℕ) → j < passed → get_or tanks.now j 0 < tank) → result ≡ may_feed n tanks.now froms.now tos.now tank minute }
 {
     let mut none = true;
     let mut j = passed;
@@ -45,7 +45,7 @@ pub fn pass_windows(
     n: usize,
     tank: u16,
 ) -> usize
-    requires { (passed ≤ n) × (n ≤ maxWindows) }
+    requires { (passed ≤ n) × (n ≤ max_windows) }
     ensures within { (passed ≤ result) × (result ≤ n) }
     ensures lower { (j : ℕ) → j < result → (j < passed) ⊎ (get_or tanks.now j 0 < tank) }
     ensures ends { (result ≡ n) ⊎ (tank ≤ get_or tanks.now result 0) }

@@ -9,10 +9,10 @@ use native.Mathlib.Omega.{arith}
 use lib.IntN.{ℤ}
 use lib.ListN.{length, get_or}
 use Rattle.forms.specs.Form.{times}
-use Rattle.forms.specs.Table.{tableNumbers, withTable}
-use Rattle.forms.specs.Store.{addForm, Bounded, maxBeforeForm}
-use Rattle.forms.proofs.Store.{bounded-weaken}
-use Rattle.forms.proofs.Table.{withTable-at, withTable-past, withTable-length, is-withTable}
+use Rattle.forms.specs.Table.{table_numbers, with_table}
+use Rattle.forms.specs.Store.{add_form, Bounded, max_before_form}
+use Rattle.forms.proofs.Store.{bounded_weaken}
+use Rattle.forms.proofs.Table.{with_table_at, with_table_past, with_table-length, is_with_table}
 use Rattle.wire.specs.Part.{accepted}
 use Rattle.wire.specs.Rows.{Progress}
 use Rattle.wire.proofs.Accepting.{reached}
@@ -22,32 +22,32 @@ use Rattle.register.specs.Valid as Reg
 use Rattle.scheme.specs.declared.Scheme.{Scheme}
 use Rattle.scheme.specs.Scheme.{side}
 use Rattle.scheme.specs.Valid.{Valid}
-use Rattle.penalty.proofs.Bounds.{side-square}
-use Rattle.certificate.specs.Limits.{squareEntries}
+use Rattle.penalty.proofs.Bounds.{side_square}
+use Rattle.certificate.specs.Limits.{square_entries}
 use Rattle.certificate.specs.Certificate.{Certificate}
-use Rattle.certificate.specs.RowForm.{rowFormOf}
-use Rattle.certificate.specs.Format.{commandSize, commandsInJob}
-use Rattle.certificate.specs.Answer.{IsMultiplier, named_of, multiplierAt, squareRead}
-use Rattle.residual.specs.Residual.{squareAt}
-use Rattle.residual.specs.Built.{withScaleIn, Reads, added, lessWhere}
+use Rattle.certificate.specs.RowForm.{row_form_of}
+use Rattle.certificate.specs.Format.{command_size, commands_in_job}
+use Rattle.certificate.specs.Answer.{IsMultiplier, named_of, multiplier_at, square_read}
+use Rattle.residual.specs.Residual.{square_at}
+use Rattle.residual.specs.Built.{with_scale_in, Reads, added, less_where}
 use Rattle.residual.proofs.Bounds.{small}
-use Rattle.residual.proofs.Adds.{added-signed, row-command}
-use Rattle.residual.proofs.Table.{signedForm}
-use Rattle.residual.proofs.ByCommand.{holdsR, table-multiplier, table-square, bounded-R}
-use Rattle.residual.proofs.Midway.{Midway, started, reads_on, multiplier-allowed, multiplier-on, square-on, ends-here}
+use Rattle.residual.proofs.Adds.{added_signed, row_command}
+use Rattle.residual.proofs.Table.{signed_form}
+use Rattle.residual.proofs.ByCommand.{holds_r, table_multiplier, table_square, bounded_R}
+use Rattle.residual.proofs.Midway.{Midway, started, reads_on, multiplier_allowed, multiplier_on, square_on, ends_here}
 
 -- a table put over another
-pub withTable-again : (n : ℕ) (a b : ℕ → ℕ → ℤ) (lent : List ℤ) → n * n ≤ length lent → withTable n a (withTable n b lent) ≡ withTable n a lent
-withTable-again n a b lent room =
-    let len = withTable-length n b lent room in
-    is-withTable n a lent (withTable n a (withTable n b lent)) (withTable-length n a (withTable n b lent) (rw len room) ∙ len) room
-    (withTable-at n a (withTable n b lent))
-    (λ k l. withTable-past n a (withTable n b lent) k l ∙ withTable-past n b lent k l)
+pub with_table_again : (n : ℕ) (a b : ℕ → ℕ → ℤ) (lent : List ℤ) → n * n ≤ length lent → with_table n a (with_table n b lent) ≡ with_table n a lent
+with_table_again n a b lent room =
+    let len = with_table-length n b lent room in
+    is_with_table n a lent (with_table n a (with_table n b lent)) (with_table-length n a (with_table n b lent) (rw len room) ∙ len) room
+    (with_table_at n a (with_table n b lent))
+    (λ k l. with_table_past n a (with_table n b lent) k l ∙ with_table_past n b lent k l)
 
 pub record Filled (reg : Register) (sch : Scheme) (s : List ℕ) (lent t : List ℤ) (at : ℕ) : Type 0 where
   pub certificate : Certificate
   pub midway : Midway reg sch s certificate at
-  pub holds : t ≡ holdsR (coefficient reg) reg sch certificate lent
+  pub holds : t ≡ holds_r (coefficient reg) reg sch certificate lent
 
 -- what is known of the register, the scheme and the bytes
 pub record Ready (reg : Register) (sch : Scheme) (s : List ℕ) : Type 0 where
@@ -59,76 +59,76 @@ pub record Ready (reg : Register) (sch : Scheme) (s : List ℕ) : Type 0 where
 abbrev pub side_in : Register → Scheme → ℕ
 side_in reg sch = reg.choices + sch.products + 1
 
-pub is-side : (reg : Register) (sch : Scheme) → side_in reg sch ≡ side reg.choices sch
-is-side reg sch = add-one (reg.choices + sch.products)
+pub is_side : (reg : Register) (sch : Scheme) → side_in reg sch ≡ side reg.choices sch
+is_side reg sch = add-one (reg.choices + sch.products)
 
 module _ {reg : Register} {sch : Scheme} {s : List ℕ} (h : Ready reg sch s) where
-  pub side-small : side_in reg sch ≤ squareEntries
-  side-small = omega (arith, h.register.choices.few, h.scheme.within.products-within)
+  pub side_small : side_in reg sch ≤ square_entries
+  side_small = omega (arith, h.register.choices.few, h.scheme.within.products_within)
 
-  module _ (lent : List ℤ) (l : tableNumbers ≤ length lent) where
+  module _ (lent : List ℤ) (l : table_numbers ≤ length lent) where
     fits : side reg.choices sch * side reg.choices sch ≤ length lent
-    fits = omega (arith, side-square reg sch h.register h.scheme)
+    fits = omega (arith, side_square reg sch h.register h.scheme)
 
     -- the table u after the first command
-    module _ (u : List ℤ) (d : u ≡ holdsR (coefficient reg) reg sch (withScaleIn s) lent) where
-      pub first-length : length u ≡ length lent
-      first-length = ap length d ∙ withTable-length (side reg.choices sch) _ lent fits
+    module _ (u : List ℤ) (d : u ≡ holds_r (coefficient reg) reg sch (with_scale_in s) lent) where
+      pub first_length : length u ≡ length lent
+      first_length = ap length d ∙ with_table-length (side reg.choices sch) _ lent fits
 
-      pub first_under : (k : Certificate) → holdsR (coefficient reg) reg sch k u ≡ holdsR (coefficient reg) reg sch k lent
-      first_under k = ap (holdsR (coefficient reg) reg sch k) d ∙ withTable-again (side reg.choices sch) _ _ lent fits
+      pub first_under : (k : Certificate) → holds_r (coefficient reg) reg sch k u ≡ holds_r (coefficient reg) reg sch k lent
+      first_under k = ap (holds_r (coefficient reg) reg sch k) d ∙ with_table_again (side reg.choices sch) _ _ lent fits
 
-      pub first-filled : Filled reg sch s u u (commandSize 0x30)
-      first-filled = record {
-        certificate = withScaleIn s;
+      pub first_filled : Filled reg sch s u u (command_size 0x30)
+      first_filled = record {
+        certificate = with_scale_in s;
         midway = (started reg sch s h.reads).midway;
-        holds = d ∙ sym (first_under (withScaleIn s));
+        holds = d ∙ sym (first_under (with_scale_in s));
       }
 
     module _ {t : List ℤ} {at : ℕ} (f : Filled reg sch s lent t at) where
-      pub filled-length : length t ≡ length lent
-      filled-length = rw f.holds (withTable-length (side reg.choices sch) _ lent fits)
+      pub filled_length : length t ≡ length lent
+      filled_length = rw f.holds (with_table-length (side reg.choices sch) _ lent fits)
 
-      pub filled-bounded : Bounded (side_in reg sch) maxBeforeForm t
-      filled-bounded =
-          rw (is-side reg sch, f.holds)
-          (bounded-weaken (bounded-R (coefficient reg) reg sch f.certificate lent fits (small reg h.register) h.register.choices.few h.scheme.within f.midway.within) (omega arith))
+      pub filled_bounded : Bounded (side_in reg sch) max_before_form t
+      filled_bounded =
+          rw (is_side reg sch, f.holds)
+          (bounded_weaken (bounded_R (coefficient reg) reg sch f.certificate lent fits (small reg h.register) h.register.choices.few h.scheme.within f.midway.within) (omega arith))
 
       -- one command more
 
-      form-filled : (x : IsMultiplier (get_or s at 0)) (u : List ℤ) → u ≡ addForm (side_in reg sch) (signedForm reg sch (multiplierAt s at)) t → Filled reg sch s lent u (at + commandSize (get_or s at 0))
-      form-filled x u e = record {
+      form_filled : (x : IsMultiplier (get_or s at 0)) (u : List ℤ) → u ≡ add_form (side_in reg sch) (signed_form reg sch (multiplier_at s at)) t → Filled reg sch s lent u (at + command_size (get_or s at 0))
+      form_filled x u e = record {
         certificate = _;
-        midway = multiplier-on reg sch s h.reads f.midway x;
+        midway = multiplier_on reg sch s h.reads f.midway x;
         holds =
-            e ∙ rw (is-side reg sch, f.holds)
-            (table-multiplier (coefficient reg) reg sch f.certificate lent fits h.scheme.within.products (multiplierAt s at) (multiplier-allowed reg sch s h.reads f.midway x));
+            e ∙ rw (is_side reg sch, f.holds)
+            (table_multiplier (coefficient reg) reg sch f.certificate lent fits h.scheme.within.products (multiplier_at s at) (multiplier_allowed reg sch s h.reads f.midway x));
       }
 
-      pub multiplier-filled : (x : 0x31 ≤ get_or s at 0) (y : get_or s at 0 ≤ 0x39) (u : List ℤ) → u ≡ addForm (side_in reg sch) (added reg sch (named_of (multiplierAt s at))) t →
-          Filled reg sch s lent u (at + commandSize (get_or s at 0))
-      multiplier-filled x y u e = form-filled (inl (x, y)) u (rw (added-signed reg sch (multiplierAt s at)) at e)
+      pub multiplier_filled : (x : 0x31 ≤ get_or s at 0) (y : get_or s at 0 ≤ 0x39) (u : List ℤ) → u ≡ add_form (side_in reg sch) (added reg sch (named_of (multiplier_at s at))) t →
+          Filled reg sch s lent u (at + command_size (get_or s at 0))
+      multiplier_filled x y u e = form_filled (inl (x, y)) u (rw (added_signed reg sch (multiplier_at s at)) at e)
 
-      pub row-filled : get_or s at 0 ≡ 0x3B → (u : List ℤ) → u ≡ addForm (side_in reg sch) (times (multiplierAt s at).m (rowFormOf reg (get_or (multiplierAt s at).names 0 0) (get_or (multiplierAt s at).names 1 0))) t →
-          Filled reg sch s lent u (at + commandSize (get_or s at 0))
-      unfolding multiplierAt
-      row-filled c u e = form-filled (inr c) u (rw (row-command reg sch (multiplierAt s at) (multiplier-allowed reg sch s h.reads f.midway (inr c)) c).adds e)
+      pub row_filled : get_or s at 0 ≡ 0x3B → (u : List ℤ) → u ≡ add_form (side_in reg sch) (times (multiplier_at s at).m (row_form_of reg (get_or (multiplier_at s at).names 0 0) (get_or (multiplier_at s at).names 1 0))) t →
+          Filled reg sch s lent u (at + command_size (get_or s at 0))
+      unfolding multiplier_at
+      row_filled c u e = form_filled (inr c) u (rw (row_command reg sch (multiplier_at s at) (multiplier_allowed reg sch s h.reads f.midway (inr c)) c).adds e)
 
-      pub square-filled : get_or s at 0 ≡ 0x3A → (u : List ℤ) → u ≡ lessWhere (side_in reg sch) (squareAt (squareRead s at)) (λ i j. true) t → Filled reg sch s lent u (at + commandSize (get_or s at 0))
-      square-filled c u e = record {
+      pub square_filled : get_or s at 0 ≡ 0x3A → (u : List ℤ) → u ≡ less_where (side_in reg sch) (square_at (square_read s at)) (λ i j. true) t → Filled reg sch s lent u (at + command_size (get_or s at 0))
+      square_filled c u e = record {
         certificate = _;
-        midway = square-on reg sch s h.reads f.midway c;
-        holds = e ∙ rw (is-side reg sch, f.holds) (table-square (coefficient reg) reg sch f.certificate lent fits (squareRead s at));
+        midway = square_on reg sch s h.reads f.midway c;
+        holds = e ∙ rw (is_side reg sch, f.holds) (table_square (coefficient reg) reg sch f.certificate lent fits (square_read s at));
       }
 
       -- at the end, which there is
 
-      pub filled-last : (IsMultiplier (get_or s at 0) → ⊥) → (get_or s at 0 ≡ 0x3A → ⊥) → (p : Progress Certificate) (e : ℕ) → commandsInJob reg sch s ≡ accepted p e →
-          t ≡ holdsR (coefficient reg) reg sch p.parsed lent
-      filled-last x y p e d =
-          let q = ends-here reg sch s h.reads f.midway x y in
+      pub filled_last : (IsMultiplier (get_or s at 0) → ⊥) → (get_or s at 0 ≡ 0x3A → ⊥) → (p : Progress Certificate) (e : ℕ) → commands_in_job reg sch s ≡ accepted p e →
+          t ≡ holds_r (coefficient reg) reg sch p.parsed lent
+      filled_last x y p e d =
+          let q = ends_here reg sch s h.reads f.midway x y in
           let z : reached 0x3F f.certificate ≡ p = cc in
-          f.holds ∙ ap (λ (p : Progress Certificate). holdsR (coefficient reg) reg sch p.parsed lent) z
+          f.holds ∙ ap (λ (p : Progress Certificate). holds_r (coefficient reg) reg sch p.parsed lent) z
 
-      pub filled-inside : length s ≤ at → ⊥
-      filled-inside o = omega (arith, reads_on reg sch s h.reads f.midway)
+      pub filled_inside : length s ≤ at → ⊥
+      filled_inside o = omega (arith, reads_on reg sch s h.reads f.midway)

@@ -13,31 +13,31 @@ use lib.Dec.{T, eqb, leb, ltb, eqb→eq, ltb→lt, leb→le}
 use Rattle.integers.specs.Integer.{bit}
 use Rattle.integers.specs.Lists.{All}
 use Rattle.integers.proofs.Lists.{T_and, cond_cases, ◌▹◌}
-use Rattle.integers.proofs.Order.{≤ℤ-trans, *ℤ-nonneg, pos-nonneg}
-use Rattle.integers.proofs.Ring.{one-*ℤ}
-use Rattle.sets.specs.Sets.{isSubset}
-use Rattle.sets.proofs.Sets.{proper-union}
+use Rattle.integers.proofs.Order.{≤ℤ_trans, *ℤ_nonneg, pos_nonneg}
+use Rattle.integers.proofs.Ring.{one_*ℤ}
+use Rattle.sets.specs.Sets.{is_subset}
+use Rattle.sets.proofs.Sets.{proper_union}
 use Rattle.forms.specs.Form.{Form, place, places, value, times}
-use Rattle.forms.proofs.Form.{Below, below-[], below-times, value-[], value-times}
-use Rattle.register.specs.Register.{rowTotal, rowEntry}
+use Rattle.forms.proofs.Form.{Below, below-[], below_times, value-[], value-times}
+use Rattle.register.specs.Register.{row_total, row_entry}
 use Rattle.register.specs.declared.Register.{Register}
 use Rattle.plan.specs.Fits.{Fits}
-use Rattle.plan.proofs.Fits.{every-fits}
+use Rattle.plan.proofs.Fits.{every_fits}
 use Rattle.scheme.specs.declared.Scheme.{Scheme}
 use Rattle.scheme.specs.Scheme.{left, right, variables, side}
 use Rattle.scheme.specs.Filling.{factor, induced}
 use Rattle.scheme.specs.Valid.{Products}
-use Rattle.scheme.proofs.Filling.{one-variable, two-variables}
+use Rattle.scheme.proofs.Filling.{one_variable, two_variables}
 use Rattle.certificate.specs.Certificate.{Multiplier}
-use Rattle.certificate.specs.RowForm.{rowFormOf}
-use Rattle.certificate.specs.Rules.{Rule, nullRule, rowRule, subtractedRule, noRule, rules, ruleOf, byKey}
-use Rattle.certificate.proofs.RowForm.{below-row, row-induced-0}
-use Rattle.residual.specs.Residual.{nullPart, subtractedPart}
+use Rattle.certificate.specs.RowForm.{row_form_of}
+use Rattle.certificate.specs.Rules.{Rule, null_rule, row_rule, subtracted_rule, no_rule, rules, rule_of, by_key}
+use Rattle.certificate.proofs.RowForm.{below_row, row_induced_0}
+use Rattle.residual.specs.Residual.{null_part, subtracted_part}
 use Rattle.residual.specs.Relaxed.{Relaxed}
 use Rattle.certificate.specs.Within.{Allowed}
 use Rattle.certificate.proofs.Passes.{RulePasses}
 use Rattle.certificate.proofs.Conditions.{tested}
-use Rattle.residual.proofs.Forms.{null-difference, nonneg-difference, nonneg-single, nonneg-together}
+use Rattle.residual.proofs.Forms.{null_difference, nonneg_difference, nonneg_single, nonneg_together}
 
 -- what is proved of each rule
 pub record Sound (P : ℕ → Type 0) (n : ℕ) (s : Scheme) (ρ : Rule) : Type 0 where
@@ -50,35 +50,35 @@ abbrev pub EveryPlan : ℕ → Type 0
 EveryPlan plan = Unit {0}
 
 -- over plans with P, and so over those of them with Q
-pub sound-among : {P Q : ℕ → Type 0} {n : ℕ} {s : Scheme} {ρ : Rule} → ((plan : ℕ) → Q plan → P plan) → Sound P n s ρ → Sound Q n s ρ
-sound-among q h = record { below = h.below; null = λ u t f plan x. h.null u t f plan (q plan x); above = h.above; nonneg = h.nonneg }
+pub sound_among : {P Q : ℕ → Type 0} {n : ℕ} {s : Scheme} {ρ : Rule} → ((plan : ℕ) → Q plan → P plan) → Sound P n s ρ → Sound Q n s ρ
+sound_among q h = record { below = h.below; null = λ u t f plan x. h.null u t f plan (q plan x); above = h.above; nonneg = h.nonneg }
 
 -- what holds of each row holds of what is looked up
-byKey-all {ℓ} : {A : Type ℓ} (P : A → Type 0) (none : A) (k : ℕ) (es : List (ℕ × A)) → P none → All (λ e. P e.1) es → P (byKey none k es)
-unfolding byKey
-byKey-all P none k [] h hs = h
-byKey-all P none k (e ∷ es) h hs = cond_cases P (eqb k e.0) e.1 (byKey none k es) (λ _. hs.0) (λ _. byKey-all P none k es h hs.1)
+by_key_all {ℓ} : {A : Type ℓ} (P : A → Type 0) (none : A) (k : ℕ) (es : List (ℕ × A)) → P none → All (λ e. P e.1) es → P (by_key none k es)
+unfolding by_key
+by_key_all P none k [] h hs = h
+by_key_all P none k (e ∷ es) h hs = cond_cases P (eqb k e.0) e.1 (by_key none k es) (λ _. hs.0) (λ _. by_key_all P none k es h hs.1)
 
-pub rule-all : (Q : Rule → Type 0) (r : Register) (s : Scheme) → Q noRule → ((i j k l : ℕ) → All (λ e. Q e.1) (rules r s i j k l)) → (t : Multiplier) → Q (ruleOf r s t)
-unfolding ruleOf
-rule-all Q r s none rows t = byKey-all Q noRule t.kind _ none (rows _ _ _ _)
+pub rule_all : (Q : Rule → Type 0) (r : Register) (s : Scheme) → Q no_rule → ((i j k l : ℕ) → All (λ e. Q e.1) (rules r s i j k l)) → (t : Multiplier) → Q (rule_of r s t)
+unfolding rule_of
+rule_all Q r s none rows t = by_key_all Q no_rule t.kind _ none (rows _ _ _ _)
 
 -- a product that is there, and its operands
 pub record IsProduct (n : ℕ) (s : Scheme) (i : ℕ) : Type 0 where
   pub after : n ≤ i
   pub there : i < variables n s
   pub left_below : left n s i < i
-  pub right-below : right n s i < i
+  pub right_below : right n s i < i
 
-pub is-product : (n : ℕ) (s : Scheme) → Products n s → (i : ℕ) → T (leb n i && ltb i (variables n s)) → IsProduct n s i
-is-product n s products i h =
+pub is_product : (n : ℕ) (s : Scheme) → Products n s → (i : ℕ) → T (leb n i && ltb i (variables n s)) → IsProduct n s i
+is_product n s products i h =
     let (l, u) = (T_and (leb n i) (ltb i (variables n s))).0 h in
     let p = products i (leb→le _ _ l) (ltb→lt _ _ u) in
     record {
       after = leb→le _ _ l;
       there = ltb→lt _ _ u;
       left_below = omega (arith, p.ordered, p.falls);
-      right-below = p.falls;
+      right_below = p.falls;
     }
 
 module _ (r : Register) (s : Scheme) where
@@ -86,18 +86,18 @@ module _ (r : Register) (s : Scheme) where
   n = r.choices
 
   module _ (products : Products n s) where
-    null-rule : {there ordered fits : Bool} {form : Form} → (T there → Below (side n s) form) → (T fits → (plan : ℕ) → value (factor (induced n s plan)) form ≡ pos 0) →
-        Sound (Fits r) n s (nullRule there ordered fits form)
-    null-rule b v = record { below = b; null = λ _ _ f plan _. v f plan; above = λ t. absurd t; nonneg = λ t. absurd t }
+    null_rule_lem : {there ordered fits : Bool} {form : Form} → (T there → Below (side n s) form) → (T fits → (plan : ℕ) → value (factor (induced n s plan)) form ≡ pos 0) →
+        Sound (Fits r) n s (null_rule there ordered fits form)
+    null_rule_lem b v = record { below = b; null = λ _ _ f plan _. v f plan; above = λ t. absurd t; nonneg = λ t. absurd t }
 
     -- of a row: its form is 0 where the plan fits the row
-    row-rule : (k i : ℕ) → Sound (Fits r) n s (rowRule (ltb k r.rows && ltb i (variables n s)) (rowFormOf r k i))
-    row-rule k i = record {
-      below = λ h. let (_, l) = both h in below-row n (rowEntry r k) (rowTotal r k) i (omega arith) (omega (arith, ltb→lt i (variables n s) l));
+    row_rule_lem : (k i : ℕ) → Sound (Fits r) n s (row_rule (ltb k r.rows && ltb i (variables n s)) (row_form_of r k i))
+    row_rule_lem k i = record {
+      below = λ h. let (_, l) = both h in below_row n (row_entry r k) (row_total r k) i (omega arith) (omega (arith, ltb→lt i (variables n s) l));
       null = λ _ h _ plan f.
           let (l, _) = both h in
           let y = factor (induced n s plan) in
-          once (value y (rowFormOf r k i)) (sym (value-times y (pos 1) (rowFormOf r k i)) ∙ row-induced-0 n (rowEntry r k) (rowTotal r k) i s plan (pos 1) (f k (ltb→lt k r.rows l)));
+          once (value y (row_form_of r k i)) (sym (value-times y (pos 1) (row_form_of r k i)) ∙ row_induced_0 n (row_entry r k) (row_total r k) i s plan (pos 1) (f k (ltb→lt k r.rows l)));
       above = λ t. absurd t;
       nonneg = λ t. absurd t;
     }
@@ -106,78 +106,78 @@ module _ (r : Register) (s : Scheme) where
         both = (T_and (ltb k r.rows) (ltb i (variables n s))).0
 
         once : (x : ℤ) → pos 1 *ℤ x ≡ pos 0 → x ≡ pos 0
-        once x e = sym (one-*ℤ x) ∙ e
+        once x e = sym (one_*ℤ x) ∙ e
 
-    subtracted-rule : {there : Bool} {form : Form} → (T there → Below (side n s) form) → (T there → (D : ℕ) (y : ℕ → ℤ) → Relaxed n s D y → pos 0 ≤ℤ value (places (pos D) y) form) →
-        Sound (Fits r) n s (subtractedRule there form)
-    subtracted-rule b v = record { below = b; null = λ t. absurd t; above = λ _. ≤ℤ_refl (pos 0); nonneg = λ _. v }
+    subtracted_rule_lem : {there : Bool} {form : Form} → (T there → Below (side n s) form) → (T there → (D : ℕ) (y : ℕ → ℤ) → Relaxed n s D y → pos 0 ≤ℤ value (places (pos D) y) form) →
+        Sound (Fits r) n s (subtracted_rule there form)
+    subtracted_rule_lem b v = record { below = b; null = λ t. absurd t; above = λ _. ≤ℤ_refl (pos 0); nonneg = λ _. v }
 
     -- 1 where the plan feeds all of a set, else 0
     abbrev fed : ℕ → ℕ → ℤ
-    fed plan e = bit (isSubset e plan)
+    fed plan e = bit (is_subset e plan)
 
-    rules-sound : (i j k l : ℕ) → All (λ e. Sound (Fits r) n s e.1) (rules r s i j k l)
-    rules-sound i j k l =
-        null-rule (λ h. omega (arith, ltb→lt))
-        (λ _ plan. null-difference _ (place i) (place i) 0 (place i) (two-variables n s plan i i ∙ ap (fed plan) (or_self _) ∙ sym (one-variable n s plan i)))
-        ▹ null-rule (λ h. omega (arith, ltb→lt, simp T_and at h))
-        (λ f plan. null-difference _ 0 (place i) (place i) (place j) (one-variable n s plan i ∙ ap (fed plan) (sym (proper-union _ _ f)) ∙ sym (two-variables n s plan i j)))
-        ▹ null-rule (λ h. omega (arith, ltb→lt, simp T_and at h))
-        (λ f plan. null-difference _ 0 (place i) (place j) (place k) (one-variable n s plan i ∙ ap (fed plan) (eqb→eq _ _ f) ∙ sym (two-variables n s plan j k)))
-        ▹ null-rule (λ h. omega (arith, ltb→lt, simp T_and at h))
-        (λ f plan. null-difference _ (place i) (place j) (place k) (place l) (two-variables n s plan i j ∙ ap (fed plan) (eqb→eq _ _ f) ∙ sym (two-variables n s plan k l)))
-        ▹ subtracted-rule (λ h. let p = is-product n s products i h in omega arith)
-        (λ h D y relaxed. let p = is-product n s products i h in nonneg-difference _ (place (left n s i)) (place i) (pos-nonneg D) (relaxed.below_left i p.after p.there))
-        ▹ subtracted-rule (λ h. let p = is-product n s products i h in omega arith)
-        (λ h D y relaxed. let p = is-product n s products i h in nonneg-difference _ (place (right n s i)) (place i) (pos-nonneg D) (relaxed.below_right i p.after p.there))
-        ▹ subtracted-rule (λ h. let p = is-product n s products i h in omega arith)
-        (λ h D y relaxed. let p = is-product n s products i h in nonneg-together _ (place i) (place (left n s i)) (place (right n s i)) (pos-nonneg D) (relaxed.above i p.after p.there))
-        ▹ subtracted-rule (λ h. omega (arith, ltb→lt))
-        (λ h D y relaxed. nonneg-single _ (place i) (pos-nonneg D) (relaxed.low i (ltb→lt _ _ h)))
-        ▹ subtracted-rule (λ h. omega (arith, ltb→lt))
-        (λ h D y relaxed. nonneg-difference _ 0 (place i) (pos-nonneg D) (relaxed.high i (ltb→lt _ _ h)))
-        ▹ row-rule i j
+    rules_sound : (i j k l : ℕ) → All (λ e. Sound (Fits r) n s e.1) (rules r s i j k l)
+    rules_sound i j k l =
+        null_rule_lem (λ h. omega (arith, ltb→lt))
+        (λ _ plan. null_difference _ (place i) (place i) 0 (place i) (two_variables n s plan i i ∙ ap (fed plan) (or_self _) ∙ sym (one_variable n s plan i)))
+        ▹ null_rule_lem (λ h. omega (arith, ltb→lt, simp T_and at h))
+        (λ f plan. null_difference _ 0 (place i) (place i) (place j) (one_variable n s plan i ∙ ap (fed plan) (sym (proper_union _ _ f)) ∙ sym (two_variables n s plan i j)))
+        ▹ null_rule_lem (λ h. omega (arith, ltb→lt, simp T_and at h))
+        (λ f plan. null_difference _ 0 (place i) (place j) (place k) (one_variable n s plan i ∙ ap (fed plan) (eqb→eq _ _ f) ∙ sym (two_variables n s plan j k)))
+        ▹ null_rule_lem (λ h. omega (arith, ltb→lt, simp T_and at h))
+        (λ f plan. null_difference _ (place i) (place j) (place k) (place l) (two_variables n s plan i j ∙ ap (fed plan) (eqb→eq _ _ f) ∙ sym (two_variables n s plan k l)))
+        ▹ subtracted_rule_lem (λ h. let p = is_product n s products i h in omega arith)
+        (λ h D y relaxed. let p = is_product n s products i h in nonneg_difference _ (place (left n s i)) (place i) (pos_nonneg D) (relaxed.below_left i p.after p.there))
+        ▹ subtracted_rule_lem (λ h. let p = is_product n s products i h in omega arith)
+        (λ h D y relaxed. let p = is_product n s products i h in nonneg_difference _ (place (right n s i)) (place i) (pos_nonneg D) (relaxed.below_right i p.after p.there))
+        ▹ subtracted_rule_lem (λ h. let p = is_product n s products i h in omega arith)
+        (λ h D y relaxed. let p = is_product n s products i h in nonneg_together _ (place i) (place (left n s i)) (place (right n s i)) (pos_nonneg D) (relaxed.above i p.after p.there))
+        ▹ subtracted_rule_lem (λ h. omega (arith, ltb→lt))
+        (λ h D y relaxed. nonneg_single _ (place i) (pos_nonneg D) (relaxed.low i (ltb→lt _ _ h)))
+        ▹ subtracted_rule_lem (λ h. omega (arith, ltb→lt))
+        (λ h D y relaxed. nonneg_difference _ 0 (place i) (pos_nonneg D) (relaxed.high i (ltb→lt _ _ h)))
+        ▹ row_rule_lem i j
         ▹ tt
 
-    pub rule-sound : (t : Multiplier) → Sound (Fits r) n s (ruleOf r s t)
-    rule-sound = rule-all (Sound (Fits r) n s) r s (null-rule (λ _. below-[]) (λ f. absurd f)) rules-sound
+    pub rule_sound : (t : Multiplier) → Sound (Fits r) n s (rule_of r s t)
+    rule_sound = rule_all (Sound (Fits r) n s) r s (null_rule_lem (λ _. below-[]) (λ f. absurd f)) rules_sound
 
     -- where the register has no rows, over every plan
-    pub rule-sound-every : r.rows ≡ 0 → (t : Multiplier) → Sound EveryPlan n s (ruleOf r s t)
-    rule-sound-every e t = sound-among (λ plan _. every-fits r e plan) (rule-sound t)
+    pub rule_sound_every : r.rows ≡ 0 → (t : Multiplier) → Sound EveryPlan n s (rule_of r s t)
+    rule_sound_every e t = sound_among (λ plan _. every_fits r e plan) (rule_sound t)
 
   -- ---- what a multiplier adds and subtracts, where the rules are sound over the plans with P
 
-  module _ {P : ℕ → Type 0} (sound : (t : Multiplier) → Sound P n s (ruleOf r s t)) (t : Multiplier) (ok : Allowed r s t) where
+  module _ {P : ℕ → Type 0} (sound : (t : Multiplier) → Sound P n s (rule_of r s t)) (t : Multiplier) (ok : Allowed r s t) where
     abbrev rule : Rule
-    rule = ruleOf r s t
+    rule = rule_of r s t
 
     passes : RulePasses rule t.m
     passes = (tested r s t ok).rule
 
-    form-below : Below (side n s) (times t.m rule.form)
-    form-below = below-times t.m ((sound t).below passes.there)
+    form_below : Below (side n s) (times t.m rule.form)
+    form_below = below_times t.m ((sound t).below passes.there)
 
-    pub null-below : Below (side n s) (nullPart r s t)
-    unfolding nullPart
-    null-below = cond_cases (Below (side n s)) rule.null _ [] (λ _. form-below) (λ _. below-[])
+    pub null_below : Below (side n s) (null_part r s t)
+    unfolding null_part
+    null_below = cond_cases (Below (side n s)) rule.null _ [] (λ _. form_below) (λ _. below-[])
 
-    pub subtracted-below : Below (side n s) (subtractedPart r s t)
-    unfolding subtractedPart
-    subtracted-below = cond_cases (Below (side n s)) rule.null [] _ (λ _. below-[]) (λ _. form-below)
+    pub subtracted_below : Below (side n s) (subtracted_part r s t)
+    unfolding subtracted_part
+    subtracted_below = cond_cases (Below (side n s)) rule.null [] _ (λ _. below-[]) (λ _. form_below)
 
     -- a null form vanishes at the filling that a plan with P induces
-    pub null-0 : (plan : ℕ) → P plan → value (factor (induced n s plan)) (nullPart r s t) ≡ pos 0
-    unfolding nullPart
-    null-0 plan h =
+    pub null_0 : (plan : ℕ) → P plan → value (factor (induced n s plan)) (null_part r s t) ≡ pos 0
+    unfolding null_part
+    null_0 plan h =
         cond_cases (λ f. value (factor (induced n s plan)) f ≡ pos 0) rule.null (times t.m rule.form) []
         (λ u. value-times (factor (induced n s plan)) t.m rule.form ∙ ap (λ x. t.m *ℤ x) ((sound t).null u passes.there passes.fits plan h) ∙ *ℤ-zero t.m)
         (λ _. value-[] (factor (induced n s plan)))
 
     -- a subtracted form is never negative on the relaxation
-    pub subtracted-nonneg : (D : ℕ) (y : ℕ → ℤ) → Relaxed n s D y → pos 0 ≤ℤ value (places (pos D) y) (subtractedPart r s t)
-    unfolding subtractedPart
-    subtracted-nonneg D y relaxed =
+    pub subtracted_nonneg : (D : ℕ) (y : ℕ → ℤ) → Relaxed n s D y → pos 0 ≤ℤ value (places (pos D) y) (subtracted_part r s t)
+    unfolding subtracted_part
+    subtracted_nonneg D y relaxed =
         cond_cases (λ f. pos 0 ≤ℤ value (places (pos D) y) f) rule.null [] (times t.m rule.form)
         (λ _. rw value-[] (≤ℤ_refl (pos 0)))
-        (λ u. rw value-times (*ℤ-nonneg t.m _ (≤ℤ-trans _ _ _ ((sound t).above u) passes.m-above) ((sound t).nonneg u passes.there D y relaxed)))
+        (λ u. rw value-times (*ℤ_nonneg t.m _ (≤ℤ_trans _ _ _ ((sound t).above u) passes.m_above) ((sound t).nonneg u passes.there D y relaxed)))

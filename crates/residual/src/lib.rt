@@ -4,24 +4,24 @@
 
 ghost use Rattle.std.specs.Prelude.{◌≡◌, true, ℕ, ◌+◌, ◌-◌, ◌≤◌, ◌<◌, eqb, pos, nat_abs, ◌*ℤ◌, [], ◌∷◌, length};
 ghost use Rattle.forms.specs.Form.{mono, times};
-ghost use Rattle.forms.specs.Store.{addForm, Bounded, maxBeforeMonomial, maxBeforeForm};
-ghost use Rattle.scheme.specs.Scheme.{maxProducts, side as side_of};
+ghost use Rattle.forms.specs.Store.{add_form, Bounded, max_before_monomial, max_before_form};
+ghost use Rattle.scheme.specs.Scheme.{max_products, side as side_of};
 ghost use Rattle.scheme.specs.Valid.{Products, Valid as SchemeValid};
 ghost use Rattle.wire.specs.Part.{accepted};
 ghost use Rattle.wire.specs.Rows.{Progress};
-ghost use Rattle.register.specs.Limits.{maxChoices, maxRows};
-ghost use Rattle.register.specs.Register.{coefficient, entryIn, totalIn};
+ghost use Rattle.register.specs.Limits.{max_choices, max_rows};
+ghost use Rattle.register.specs.Register.{coefficient, entry_in, total_in};
 ghost use Rattle.register.specs.Valid.{Valid as RegisterValid};
-ghost use Rattle.forms.specs.Table.{tableNumbers, withTable};
+ghost use Rattle.forms.specs.Table.{table_numbers, with_table};
 ghost use Rattle.certificate.specs.Certificate.{Certificate};
-ghost use Rattle.certificate.specs.Format.{commandsInJob};
-ghost use Rattle.certificate.specs.Limits.{maxMultiplier, maxRowMultiplier, maxWeight, squareEntries, maxEntry};
-ghost use Rattle.certificate.specs.RowForm.{rowForm};
+ghost use Rattle.certificate.specs.Format.{commands_in_job};
+ghost use Rattle.certificate.specs.Limits.{max_multiplier, max_row_multiplier, max_weight, square_entries, max_entry};
+ghost use Rattle.certificate.specs.RowForm.{row_form};
 ghost use Rattle.certificate.specs.Rules.{minus1};
-ghost use Rattle.residual.specs.Limits.{maxRowFactor};
-ghost use Rattle.residual.specs.Residual.{R, squareAt};
-ghost use Rattle.certificate.specs.Answer.{squareIn};
-ghost use Rattle.residual.specs.Built.{withScaleIn, Reads, Addable, added, EntriesWithin, SquareRange, rowFactor, timesEntries, lessWhere};
+ghost use Rattle.residual.specs.Limits.{max_row_factor};
+ghost use Rattle.residual.specs.Residual.{R, square_at};
+ghost use Rattle.certificate.specs.Answer.{square_in};
+ghost use Rattle.residual.specs.Built.{with_scale_in, Reads, Addable, added, EntriesWithin, SquareRange, row_factor, times_entries, less_where};
 
 use certificate::{Multiplier, Square, command_size, multiplier_at, square_at};
 use forms::{add_monomial, add_multiple};
@@ -31,10 +31,10 @@ use scheme::Scheme;
 
 // Adds k times the product of places p and q, less k times that of places p2 and q2.
 fn add_difference(table: &mut [i64], side: usize, p: usize, q: usize, p2: usize, q2: usize, k: i64)
-    requires bounded { Bounded side maxBeforeForm table.old }
+    requires bounded { Bounded side max_before_form table.old }
     requires p_lt_side { (p < side) × (q < side) × (p2 < side) × (q2 < side) }
-    requires k_bound { nat_abs k ≤ maxMultiplier }
-    ensures { table.new ≡ addForm side (times k (mono p q (pos 1) ∷ mono p2 q2 minus1 ∷ [])) table.old }
+    requires k_bound { nat_abs k ≤ max_multiplier }
+    ensures { table.new ≡ add_form side (times k (mono p q (pos 1) ∷ mono p2 q2 minus1 ∷ [])) table.old }
 {
     add_multiple(table, side, p, q, k, 1);
     add_multiple(table, side, p2, q2, k, -1);
@@ -42,11 +42,11 @@ fn add_difference(table: &mut [i64], side: usize, p: usize, q: usize, p2: usize,
 
 // Adds k times z_k − z_l − z_r + 1, by the places of the variables.
 fn add_product_bound(table: &mut [i64], side: usize, z: usize, l: usize, r: usize, k: i64)
-    requires bounded { Bounded side maxBeforeForm table.old }
+    requires bounded { Bounded side max_before_form table.old }
     requires z_lt_side { (z < side) × (l < side) × (r < side) }
-    requires k_bound { nat_abs k ≤ maxMultiplier }
+    requires k_bound { nat_abs k ≤ max_multiplier }
     ensures { table.new ≡
-        addForm side (times k (mono 0 z (pos 1) ∷ mono 0 l minus1 ∷ mono 0 r minus1 ∷ mono 0 0 (pos 1) ∷ [])) table.old }
+        add_form side (times k (mono 0 z (pos 1) ∷ mono 0 l minus1 ∷ mono 0 r minus1 ∷ mono 0 0 (pos 1) ∷ [])) table.old }
 {
     add_multiple(table, side, 0, z, k, 1);
     add_multiple(table, side, 0, l, k, -1);
@@ -57,12 +57,12 @@ fn add_product_bound(table: &mut [i64], side: usize, z: usize, l: usize, r: usiz
 // Subtracts the form of a product, m times. There are n choices.
 fn subtract_product_form(table: &mut [i64], side: usize, scheme: Scheme, n: usize, t: Multiplier)
     requires products { Products n scheme }
-    requires products_le_max_products { scheme.products ≤ maxProducts }
+    requires products_le_max_products { scheme.products ≤ max_products }
     requires side_value { side ≡ side_of n scheme }
     requires addable { Addable n scheme t }
     requires le_kind { (0x35 ≤ t.kind) × (t.kind ≤ 0x37) }
-    requires bounded { Bounded side maxBeforeForm table.old }
-    ensures { (reg : Register) → reg.choices ≡ n → table.new ≡ addForm side (added reg scheme t) table.old }
+    requires bounded { Bounded side max_before_form table.old }
+    ensures { (reg : Register) → reg.choices ≡ n → table.new ≡ add_form side (added reg scheme t) table.old }
 {
     let kind = t.kind;
     let k = -t.m;
@@ -91,12 +91,12 @@ fn add_row_form(
     variable: usize,
     m: i64,
 )
-    requires row_within { row < maxRows }
+    requires row_within { row < max_rows }
     requires places { (n < side) × (variable + 1 < side) }
-    requires few { n ≤ maxChoices }
-    requires m_bound { nat_abs m ≤ maxRowMultiplier }
-    requires bounded { Bounded side maxBeforeForm table.old }
-    ensures { table.new ≡ addForm side (times m (rowForm n (entryIn entries.now row) (totalIn totals.now row) variable)) table.old }
+    requires few { n ≤ max_choices }
+    requires m_bound { nat_abs m ≤ max_row_multiplier }
+    requires bounded { Bounded side max_before_form table.old }
+    ensures { table.new ≡ add_form side (times m (row_form n (entry_in entries.now row) (total_in totals.now row) variable)) table.old }
 {
     let start = row * Register::ROW_ENTRIES;
     let z = variable + 1;
@@ -109,11 +109,11 @@ fn add_row_form(
 // Adds the form of a multiplier command, `31` to `39`, m times, or subtracts it m times. There are n choices.
 pub fn add_multiplier(table: &mut [i64], side: usize, scheme: Scheme, n: usize, t: Multiplier)
     requires products { Products n scheme }
-    requires products_le_max_products { scheme.products ≤ maxProducts }
+    requires products_le_max_products { scheme.products ≤ max_products }
     requires side_value { side ≡ side_of n scheme }
     requires addable { Addable n scheme t }
-    requires bounded { Bounded side maxBeforeForm table.old }
-    ensures { (reg : Register) → reg.choices ≡ n → table.new ≡ addForm side (added reg scheme t) table.old }
+    requires bounded { Bounded side max_before_form table.old }
+    ensures { (reg : Register) → reg.choices ≡ n → table.new ≡ add_form side (added reg scheme t) table.old }
 {
     let kind = t.kind;
     let m = t.m;
@@ -136,8 +136,8 @@ pub fn add_multiplier(table: &mut [i64], side: usize, scheme: Scheme, n: usize, 
 
 // A number times an entry of a square: the weight, or the factor of a row.
 fn times_entry(factor: i64, entry: i16) -> i64
-    requires factor_bound { nat_abs factor ≤ maxRowFactor }
-    requires bound { nat_abs entry ≤ maxEntry }
+    requires factor_bound { nat_abs factor ≤ max_row_factor }
+    requires bound { nat_abs entry ≤ max_entry }
     ensures { result ≡ factor *ℤ entry }
 {
     factor * (entry as i64)
@@ -145,10 +145,10 @@ fn times_entry(factor: i64, entry: i16) -> i64
 
 // w·v_i, the factor of a row, by the weight and the entries of a square.
 fn row_factor(weight: u32, entries: &[i16; Square::ENTRIES], row: usize) -> i64
-    requires weight_le_max_weight { weight ≤ maxWeight }
+    requires weight_le_max_weight { weight ≤ max_weight }
     requires entries_within { EntriesWithin entries.now }
-    requires row_lt_square_entries { row < squareEntries }
-    ensures { result ≡ rowFactor (record { w = weight; v = entries.now }) row }
+    requires row_lt_square_entries { row < square_entries }
+    ensures { result ≡ row_factor (record { w = weight; v = entries.now }) row }
 {
     times_entry(weight as i64, entries[row])
 }
@@ -161,12 +161,12 @@ fn subtract_row(
     factor: i64,
     entries: &[i16; Square::ENTRIES],
 )
-    requires row_lt_side { (row < side) × (side ≤ squareEntries) }
-    requires factor_bound { nat_abs factor ≤ maxRowFactor }
+    requires row_lt_side { (row < side) × (side ≤ square_entries) }
+    requires factor_bound { nat_abs factor ≤ max_row_factor }
     requires entries_within { EntriesWithin entries.now }
-    requires bounded { Bounded side maxBeforeMonomial table.old }
+    requires bounded { Bounded side max_before_monomial table.old }
     ensures { table.new ≡
-        lessWhere side (timesEntries factor entries.now) (λ i j. eqb i row) table.old }
+        less_where side (times_entries factor entries.now) (λ i j. eqb i row) table.old }
 {
     let row_start = row * side;
     let mut j = 0;
@@ -180,10 +180,10 @@ fn subtract_row(
 
 // Subtracts a square at each row and column. The factor w·v_i is the same along row i and is formed once for it.
 pub fn subtract_square(table: &mut [i64], side: usize, square: Square)
-    requires square_range { SquareRange (squareIn square) }
-    requires side_le_square_entries { side ≤ squareEntries }
-    requires bounded { Bounded side maxBeforeForm table.old }
-    ensures { table.new ≡ lessWhere side (squareAt (squareIn square)) (λ i j. true) table.old }
+    requires square_range { SquareRange (square_in square) }
+    requires side_le_square_entries { side ≤ square_entries }
+    requires bounded { Bounded side max_before_form table.old }
+    ensures { table.new ≡ less_where side (square_at (square_in square)) (λ i j. true) table.old }
 {
     let weight = square.weight;
     let mut row = 0;
@@ -198,10 +198,10 @@ pub fn subtract_square(table: &mut [i64], side: usize, square: Square)
 fn put_scaled_function(bytes: &[u8], register: Register, scheme: Scheme, table: &mut [i64])
     requires register_valid { RegisterValid register }
     requires scheme_valid { SchemeValid register scheme }
-    requires table_numbers_in_bounds { tableNumbers ≤ length table.old }
+    requires table_numbers_in_bounds { table_numbers ≤ length table.old }
     requires reads { Reads register scheme bytes.now }
     ensures { table.new ≡
-        withTable (side_of register.choices scheme) (R (coefficient register) register scheme (withScaleIn bytes.now)) table.old }
+        with_table (side_of register.choices scheme) (R (coefficient register) register scheme (with_scale_in bytes.now)) table.old }
 {
     let side = register.choices + scheme.products + 1;
     let scale = wire::u32_at(bytes, 1);
@@ -215,10 +215,10 @@ fn put_scaled_function(bytes: &[u8], register: Register, scheme: Scheme, table: 
 pub fn put_residual(bytes: &[u8], register: Register, scheme: Scheme, table: &mut [i64])
     requires register_valid { RegisterValid register }
     requires scheme_valid { SchemeValid register scheme }
-    requires table_numbers_in_bounds { tableNumbers ≤ length table.old }
+    requires table_numbers_in_bounds { table_numbers ≤ length table.old }
     requires reads { Reads register scheme bytes.now }
-    ensures { (p : Progress Certificate) (e : ℕ) → commandsInJob register scheme bytes.now ≡ accepted p e →
-        table.new ≡ withTable (side_of register.choices scheme) (R (coefficient register) register scheme p.parsed) table.old }
+    ensures { (p : Progress Certificate) (e : ℕ) → commands_in_job register scheme bytes.now ≡ accepted p e →
+        table.new ≡ with_table (side_of register.choices scheme) (R (coefficient register) register scheme p.parsed) table.old }
 {
     put_scaled_function(bytes, register, scheme, table);
     let side = register.choices + scheme.products + 1;

@@ -3,89 +3,89 @@ use Prim.Native.Nat.{ℕ, ◌+◌}
 use mathlib.Core.Path.{◌≡◌, refl, sym, ◌∙◌, ap, ap₂}
 use mathlib.Core.Logic.{inl}
 use mathlib.Core.List.{List, [], ◌∷◌, ◌++◌, append-nil, flat_map}
-use Rattle.integers.specs.Lists.{joinBelow}
+use Rattle.integers.specs.Lists.{join_below}
 use Rattle.wire.specs.Rows.{row_of}
-use Rattle.wire.specs.Encoding.{Command, fields, encodeCommand, encode}
+use Rattle.wire.specs.Encoding.{Command, fields, encode_command, encode}
 use Rattle.wire.specs.Grammar.{Form}
-use Rattle.wire.proofs.Encoding.{encode-append, encode-below}
-use Rattle.wire.proofs.Grammar.{each_below, each-only}
+use Rattle.wire.proofs.Encoding.{encode-append, encode_below}
+use Rattle.wire.proofs.Grammar.{each_below, each_only}
 use Rattle.register.specs.declared.Register.{Register}
 use Rattle.scheme.specs.declared.Scheme.{Scheme}
-use Rattle.scheme.specs.Scheme.{productLeft, productRight, left, right, splitLeft, splitRight}
-use Rattle.scheme.specs.Format.{schemePart}
-use Rattle.scheme.specs.Encoding.{productCommand, splitCommand, endCommand, productKind, splitKind, Commands, Encodes, encodeProduct, encodeSplit, encodeScheme}
-use Rattle.scheme.proofs.Sets.{left_at, right-at}
+use Rattle.scheme.specs.Scheme.{product_left, product_right, left, right, split_left, split_right}
+use Rattle.scheme.specs.Format.{scheme_part}
+use Rattle.scheme.specs.Encoding.{product_command, split_command, end_command, product_kind, split_kind, Commands, Encodes, encode_product, encode_split, encode_scheme}
+use Rattle.scheme.proofs.Sets.{left_at, right_at}
 
 module _ (reg : Register) where
   -- ---- the bytes of a command
 
-  product-bytes : (l r : ℕ) → encodeCommand (schemePart reg) (productCommand l r) ≡ encodeProduct l r
-  unfolding encodeCommand fields row_of encodeProduct
-  product-bytes l r = rw append-nil
+  product_bytes : (l r : ℕ) → encode_command (scheme_part reg) (product_command l r) ≡ encode_product l r
+  unfolding encode_command fields row_of encode_product
+  product_bytes l r = rw append-nil
 
-  split-bytes : (l r : ℕ) → encodeCommand (schemePart reg) (splitCommand l r) ≡ encodeSplit l r
-  unfolding encodeCommand fields row_of encodeSplit
-  split-bytes l r = rw append-nil
+  split_bytes : (l r : ℕ) → encode_command (scheme_part reg) (split_command l r) ≡ encode_split l r
+  unfolding encode_command fields row_of encode_split
+  split_bytes l r = rw append-nil
 
-  end-bytes : encodeCommand (schemePart reg) endCommand ≡ 0x2F ∷ []
-  unfolding encodeCommand fields row_of
-  end-bytes = refl
+  end_bytes : encode_command (scheme_part reg) end_command ≡ 0x2F ∷ []
+  unfolding encode_command fields row_of
+  end_bytes = refl
 
   -- ---- the commands that a writer makes
 
   module _ (s : Scheme) where
-    abbrev productsOf : List Command
-    productsOf = joinBelow s.products (λ i. productCommand (productLeft s i) (productRight s i) ∷ [])
+    abbrev products_of : List Command
+    products_of = join_below s.products (λ i. product_command (product_left s i) (product_right s i) ∷ [])
 
-    abbrev splitsOf : List Command
-    splitsOf = joinBelow s.splits (λ t. splitCommand (splitLeft s t) (splitRight s t) ∷ [])
+    abbrev splits_of : List Command
+    splits_of = join_below s.splits (λ t. split_command (split_left s t) (split_right s t) ∷ [])
 
-    commandsOf-are : Commands s (productsOf ++ splitsOf ++ (endCommand ∷ []))
-    commandsOf-are = record {
-      first = productsOf ++ splitsOf;
-      second = endCommand ∷ [];
-      is-first = record {
-        first = productsOf;
-        second = splitsOf;
-        is-first = record {
+    commands_of_are : Commands s (products_of ++ splits_of ++ (end_command ∷ []))
+    commands_of_are = record {
+      first = products_of ++ splits_of;
+      second = end_command ∷ [];
+      is_first = record {
+        first = products_of;
+        second = splits_of;
+        is_first = record {
           first = [];
-          second = productsOf;
-          is-first = refl;
-          is-second = each_below (Form productKind s) (λ i. productCommand (productLeft s i) (productRight s i)) s.products (λ i l. (inl refl, refl));
+          second = products_of;
+          is_first = refl;
+          is_second = each_below (Form product_kind s) (λ i. product_command (product_left s i) (product_right s i)) s.products (λ i l. (inl refl, refl));
           whole = refl;
         };
-        is-second = each_below (Form splitKind s) (λ t. splitCommand (splitLeft s t) (splitRight s t)) s.splits (λ t l. (inl refl, refl));
+        is_second = each_below (Form split_kind s) (λ t. split_command (split_left s t) (split_right s t)) s.splits (λ t l. (inl refl, refl));
         whole = refl;
       };
-      is-second = record { command = endCommand; form = refl; whole = refl };
+      is_second = record { command = end_command; form = refl; whole = refl };
       whole = refl;
     }
 
-    commandsOf-bytes : encode (schemePart reg) (productsOf ++ splitsOf ++ (endCommand ∷ [])) ≡ encodeScheme reg.choices s
-    unfolding encode flat_map encodeScheme
-    commandsOf-bytes =
+    commands_of_bytes : encode (scheme_part reg) (products_of ++ splits_of ++ (end_command ∷ [])) ≡ encode_scheme reg.choices s
+    unfolding encode flat_map encode_scheme
+    commands_of_bytes =
         let n = reg.choices in
-        let P = schemePart reg in
+        let P = scheme_part reg in
         rw (
-          encode-append P (productsOf ++ splitsOf) (endCommand ∷ []),
-          encode-append P productsOf splitsOf,
-          encode-below P (λ i. productCommand (productLeft s i) (productRight s i)) (λ i. encodeProduct (left n s (n + i)) (right n s (n + i))) s.products (λ i. rw (left_at n s i, right-at n s i) (product-bytes (productLeft s i) (productRight s i))),
-          encode-below P (λ t. splitCommand (splitLeft s t) (splitRight s t)) (λ t. encodeSplit (splitLeft s t) (splitRight s t)) s.splits (λ t. split-bytes (splitLeft s t) (splitRight s t)),
-          end-bytes,
+          encode-append P (products_of ++ splits_of) (end_command ∷ []),
+          encode-append P products_of splits_of,
+          encode_below P (λ i. product_command (product_left s i) (product_right s i)) (λ i. encode_product (left n s (n + i)) (right n s (n + i))) s.products (λ i. rw (left_at n s i, right_at n s i) (product_bytes (product_left s i) (product_right s i))),
+          encode_below P (λ t. split_command (split_left s t) (split_right s t)) (λ t. encode_split (split_left s t) (split_right s t)) s.splits (λ t. split_bytes (split_left s t) (split_right s t)),
+          end_bytes,
           append-nil,
         )
 
-    pub canonical : Encodes reg s (encodeScheme reg.choices s)
-    canonical = record { commands = productsOf ++ splitsOf ++ (endCommand ∷ []); are = commandsOf-are; bytes = sym commandsOf-bytes }
+    pub canonical : Encodes reg s (encode_scheme reg.choices s)
+    canonical = record { commands = products_of ++ splits_of ++ (end_command ∷ []); are = commands_of_are; bytes = sym commands_of_bytes }
 
     -- and the only one, where each product and each split has one form
-    pub only-canonical : (x : List ℕ) → Encodes reg s x → x ≡ encodeScheme reg.choices s
-    only-canonical x e =
+    pub only_canonical : (x : List ℕ) → Encodes reg s x → x ≡ encode_scheme reg.choices s
+    only_canonical x e =
         let t = e.are in
-        let body = t.is-first in
-        let front = body.is-first in
-        let products = each-only (Form productKind s) _ s.products front.second (λ i d f. f.1) front.is-second in
-        let splits = each-only (Form splitKind s) _ s.splits body.second (λ i d f. f.1) body.is-second in
-        let end : t.second ≡ endCommand ∷ [] = t.is-second.whole ∙ ap (λ c. c ∷ []) t.is-second.form in
+        let body = t.is_first in
+        let front = body.is_first in
+        let products = each_only (Form product_kind s) _ s.products front.second (λ i d f. f.1) front.is_second in
+        let splits = each_only (Form split_kind s) _ s.splits body.second (λ i d f. f.1) body.is_second in
+        let end : t.second ≡ end_command ∷ [] = t.is_second.whole ∙ ap (λ c. c ∷ []) t.is_second.form in
         let both : List Command → List Command → List Command = λ x y. x ++ y in
-        e.bytes ∙ ap (encode (schemePart reg)) (t.whole ∙ ap₂ both (body.whole ∙ ap₂ both (front.whole ∙ ap₂ both front.is-first products) splits) end) ∙ commandsOf-bytes
+        e.bytes ∙ ap (encode (scheme_part reg)) (t.whole ∙ ap₂ both (body.whole ∙ ap₂ both (front.whole ∙ ap₂ both front.is_first products) splits) end) ∙ commands_of_bytes

@@ -3,33 +3,33 @@ use Prim.Native.Nat.{ℕ, ◌+◌, ◌*◌, ◌≤◌}
 use native.Mathlib.Omega.{arith}
 use mathlib.Core.Path.{◌≡◌}
 use lib.ListN.{length, length-append}
-use Rattle.wire.proofs.Number.{length-bytesOf}
+use Rattle.wire.proofs.Number.{length-bytes_of}
 use Rattle.register.specs.declared.Register.{Register}
 use Rattle.register.specs.Valid as R
-use Rattle.integers.proofs.Join.{length-join}
+use Rattle.integers.proofs.Join.{length_join}
 use Rattle.scheme.specs.declared.Scheme.{Scheme}
-use Rattle.scheme.specs.Scheme.{left, right, splitLeft, splitRight}
+use Rattle.scheme.specs.Scheme.{left, right, split_left, split_right}
 use Rattle.scheme.specs.Valid.{Valid}
-use Rattle.scheme.specs.Encoding.{encodeProduct, encodeSplit, encodeScheme}
+use Rattle.scheme.specs.Encoding.{encode_product, encode_split, encode_scheme}
 
 -- the bytes of one product, and of one split
 
-length-product : (l r : ℕ) → length (encodeProduct l r) ≡ 3
-unfolding encodeProduct
-length-product l r = rw (length-append, length-bytesOf, length-bytesOf)
+length_product : (l r : ℕ) → length (encode_product l r) ≡ 3
+unfolding encode_product
+length_product l r = rw (length-append, length-bytes_of, length-bytes_of)
 
-length-split : (l r : ℕ) → length (encodeSplit l r) ≡ 3
-unfolding encodeSplit
-length-split l r = rw (length-append, length-bytesOf, length-bytesOf)
+length_split : (l r : ℕ) → length (encode_split l r) ≡ 3
+unfolding encode_split
+length_split l r = rw (length-append, length-bytes_of, length-bytes_of)
 
-pub length-encode : (n : ℕ) (s : Scheme) → length (encodeScheme n s) ≡ 3 * s.products + 3 * s.splits + 1
-unfolding encodeScheme
+pub length-encode : (n : ℕ) (s : Scheme) → length (encode_scheme n s) ≡ 3 * s.products + 3 * s.splits + 1
+unfolding encode_scheme
 length-encode n s =
-    let p = length-join s.products 3 (λ i. encodeProduct (left n s (n + i)) (right n s (n + i))) (λ i. length-product (left n s (n + i)) (right n s (n + i))) in
-    let t = length-join s.splits 3 (λ t. encodeSplit (splitLeft s t) (splitRight s t)) (λ t. length-split (splitLeft s t) (splitRight s t)) in
+    let p = length_join s.products 3 (λ i. encode_product (left n s (n + i)) (right n s (n + i))) (λ i. length_product (left n s (n + i)) (right n s (n + i))) in
+    let t = length_join s.splits 3 (λ t. encode_split (split_left s t) (split_right s t)) (λ t. length_split (split_left s t) (split_right s t)) in
     simp (length-append, p, t) (omega arith)
 
 -- the longest has 865
-pub encode-within : (reg : Register) → R.Valid reg → (s : Scheme) → Valid reg s → length (encodeScheme reg.choices s) ≤ 865
-encode-within reg ok s v =
-    omega (arith, length-encode reg.choices s, ok.within.terms.few, v.within.products-within, v.within.splits-within)
+pub encode_within : (reg : Register) → R.Valid reg → (s : Scheme) → Valid reg s → length (encode_scheme reg.choices s) ≤ 865
+encode_within reg ok s v =
+    omega (arith, length-encode reg.choices s, ok.within.terms.few, v.within.products_within, v.within.splits_within)

@@ -4,12 +4,12 @@ use Prim.Native.Nat.{ℕ}
 use lib.ListN.{replicate}
 use Rattle.scheme.specs.declared.Scheme.{Scheme}
 
-abbrev pub schemeBytes : List ℕ
-schemeBytes = 0x21 ∷ 0 ∷ 1 ∷ 0x21 ∷ 2 ∷ 3 ∷ 0x22 ∷ 0 ∷ 0 ∷ 0x22 ∷ 1 ∷ 1 ∷ 0x22 ∷ 4 ∷ 4 ∷ 0x2F ∷ []
+abbrev pub scheme_bytes : List ℕ
+scheme_bytes = 0x21 ∷ 0 ∷ 1 ∷ 0x21 ∷ 2 ∷ 3 ∷ 0x22 ∷ 0 ∷ 0 ∷ 0x22 ∷ 1 ∷ 1 ∷ 0x22 ∷ 4 ∷ 4 ∷ 0x2F ∷ []
 
 -- products 3 = (0, 1) and 4 = (2, 3), splits (0, 0), (1, 1), (4, 4)
-abbrev pub exampleScheme : Scheme
-exampleScheme = record {
+abbrev pub example_scheme : Scheme
+example_scheme = record {
   products = 2;
   splits = 3;
   lefts = 0 ∷ 2 ∷ replicate 30 0;
@@ -19,8 +19,8 @@ exampleScheme = record {
 }
 
 -- the builder's scheme for the example's register: one product, and the last term split in two
-abbrev pub builtScheme : Scheme
-builtScheme = record {
+abbrev pub built_scheme : Scheme
+built_scheme = record {
   products = 1;
   splits = 3;
   lefts = 0 ∷ replicate 31 0;

@@ -7,20 +7,20 @@ use native.Mathlib.Omega.{arith}
 use lib.Dec.{eqb}
 use lib.IntN.{ℤ, pos, ◌+ℤ◌, ◌*ℤ◌, *ℤ-zero}
 use borrow.Author.Tests.{eqb-true}
-use Rattle.forms.proofs.Form.{value-join}
+use Rattle.forms.proofs.Form.{value_join}
 use Rattle.forms.specs.Form.{mono, value}
 use Rattle.integers.proofs.Diff.{diff₁, diffs}
-use Rattle.integers.proofs.Sum.{sumBelow-cong}
-use Rattle.integers.specs.Sum.{sumBelow, sumOver}
+use Rattle.integers.proofs.Sum.{sum_below_cong}
+use Rattle.integers.specs.Sum.{sum_below, sum_over}
 use Rattle.register.specs.declared.Register.{Register}
 use Rattle.scheme.specs.Filling.{Filling, factor}
 use Rattle.scheme.specs.Function.{term, g}
-use Rattle.scheme.specs.Scheme.{splitLeft, splitRight}
+use Rattle.scheme.specs.Scheme.{split_left, split_right}
 use Rattle.scheme.specs.declared.Scheme.{Scheme}
 
 -- a term is its coefficient where both variables of its split are 1
 pub value-term : (z : Filling) (l r : ℕ) (c : ℤ) → value (factor z) (term l r c) ≡ cond (z l && z r) c (pos 0)
-unfolding value sumOver term
+unfolding value sum_over term
 value-term z l r c = go (eqb l r) refl
   where
     one : (c : ℤ) → c *ℤ pos 1 *ℤ pos 1 +ℤ pos 0 ≡ c
@@ -41,11 +41,11 @@ value-term z l r c = go (eqb l r) refl
     go false e = product (z l) (z r)
 
 -- g at a filling: base cost + the coefficients of the terms whose two variables are 1
-pub value-g : (z : Filling) (c : ℕ → ℤ) (r : Register) (s : Scheme) → value (factor z) (g c r s) ≡ r.base +ℤ sumBelow r.terms (λ t. cond (z (splitLeft s t) && z (splitRight s t)) (c t) (pos 0))
-unfolding g value sumOver
+pub value-g : (z : Filling) (c : ℕ → ℤ) (r : Register) (s : Scheme) → value (factor z) (g c r s) ≡ r.base +ℤ sum_below r.terms (λ t. cond (z (split_left s t) && z (split_right s t)) (c t) (pos 0))
+unfolding g value sum_over
 value-g z c r s =
     ap₂ ◌+ℤ◌ (one r.base)
-    (value-join (factor z) r.terms _ ∙ sumBelow-cong r.terms _ _ (λ t l. value-term z (splitLeft s t) (splitRight s t) (c t)))
+    (value_join (factor z) r.terms _ ∙ sum_below_cong r.terms _ _ (λ t l. value-term z (split_left s t) (split_right s t) (c t)))
   where
     one : (a : ℤ) → a *ℤ pos 1 *ℤ pos 1 ≡ a
     one = diff₁ _ λ p q. simp diffs (omega arith)

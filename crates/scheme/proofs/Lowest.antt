@@ -8,24 +8,24 @@ use Rattle.integers.proofs.Lists.{◌▹◌}
 use Rattle.wire.specs.Number.{Bytes}
 use Rattle.wire.specs.Part.{refused}
 use Rattle.wire.specs.Refused.{RefusedAt, RefusedByItself}
-use Rattle.wire.proofs.Lowest.{Rising, Rises, rows-rising, refused-iff, refused-by-itself-iff}
+use Rattle.wire.proofs.Lowest.{Rising, Rises, rows_rising, refused_iff, refused_by_itself_iff}
 use Rattle.register.specs.declared.Register.{Register}
 use Rattle.scheme.specs.Scheme.{fresh}
-use Rattle.scheme.specs.Format.{productChecks, splitChecks, endChecks, schemeRows, schemePart, schemeInJob, schemeByItself}
+use Rattle.scheme.specs.Format.{product_checks, split_checks, end_checks, scheme_rows, scheme_part, scheme_in_job, scheme_by_itself}
 
 module _ (reg : Register) where
-  scheme-rises : All Rises (schemeRows reg)
-  unfolding productChecks splitChecks endChecks
-  scheme-rises = (λ r xs. tt) ▹ (λ r xs. tt) ▹ (λ r xs. tt) ▹ tt
+  scheme_rises : All Rises (scheme_rows reg)
+  unfolding product_checks split_checks end_checks
+  scheme_rises = (λ r xs. tt) ▹ (λ r xs. tt) ▹ (λ r xs. tt) ▹ tt
 
-  scheme-rising : Rising (schemePart reg)
-  scheme-rising = rows-rising fresh (schemeRows reg) scheme-rises
+  scheme_rising : Rising (scheme_part reg)
+  scheme_rising = rows_rising fresh (scheme_rows reg) scheme_rises
 
   module _ (s : List ℕ) (b : Bytes s) (n at : ℕ) where
-    pub scheme-refused : (schemeInJob reg s ≡ refused n at) ↔ RefusedAt (schemePart reg) s n at
-    unfolding schemeInJob
-    scheme-refused = refused-iff (schemePart reg) s scheme-rising n at b
+    pub scheme_refused : (scheme_in_job reg s ≡ refused n at) ↔ RefusedAt (scheme_part reg) s n at
+    unfolding scheme_in_job
+    scheme_refused = refused_iff (scheme_part reg) s scheme_rising n at b
 
-    pub scheme-refused-by-itself : (schemeByItself reg s ≡ refused n at) ↔ RefusedByItself (schemePart reg) s n at
-    unfolding schemeByItself schemeInJob
-    scheme-refused-by-itself = refused-by-itself-iff (schemePart reg) s scheme-rising n at b
+    pub scheme_refused_by_itself : (scheme_by_itself reg s ≡ refused n at) ↔ RefusedByItself (scheme_part reg) s n at
+    unfolding scheme_by_itself scheme_in_job
+    scheme_refused_by_itself = refused_by_itself_iff (scheme_part reg) s scheme_rising n at b

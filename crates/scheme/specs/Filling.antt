@@ -2,7 +2,7 @@
 use Rattle.std.specs.Prelude.{ℕ, Bool, ℤ, pos}
 use Rattle.integers.specs.Integer.{bit}
 use Rattle.forms.specs.Form.{places}
-use Rattle.sets.specs.Sets.{isSubset}
+use Rattle.sets.specs.Sets.{is_subset}
 use Rattle.scheme.specs.declared.Scheme.{Scheme}
 use Rattle.scheme.specs.Variables.{E}
 
@@ -16,4 +16,4 @@ factor z = places (pos 1) (λ i. bit (z i))
 
 -- the filling that a plan induces: a variable is 1 when the choices of its set are all fed
 abbrev pub induced : ℕ → Scheme → ℕ → Filling
-induced n s plan v = isSubset (E n s v) plan
+induced n s plan v = is_subset (E n s v) plan

@@ -1,31 +1,31 @@
 -- The scheme's record: its limits, its entries, the fresh one, and one more product or split.
 use Rattle.std.specs.Prelude.{ℕ, suc, ◌+◌, ◌-◌, ◌≡◌, List, length, get_or, set, replicate}
-use Rattle.register.specs.Limits.{maxTerms}
+use Rattle.register.specs.Limits.{max_terms}
 use Rattle.scheme.specs.declared.Scheme.{Scheme}
 
 -- at most 32 products
-abbrev pub maxProducts : ℕ
-maxProducts = 32
+abbrev pub max_products : ℕ
+max_products = 32
 
 -- and at most 64 variables, choices and products together
-abbrev pub maxVariables : ℕ
-maxVariables = 64
+abbrev pub max_variables : ℕ
+max_variables = 64
 
 -- the two operands of the product that has i before it
 
-abbrev pub productLeft : Scheme → ℕ → ℕ
-productLeft s i = get_or s.lefts i 0
+abbrev pub product_left : Scheme → ℕ → ℕ
+product_left s i = get_or s.lefts i 0
 
-abbrev pub productRight : Scheme → ℕ → ℕ
-productRight s i = get_or s.rights i 0
+abbrev pub product_right : Scheme → ℕ → ℕ
+product_right s i = get_or s.rights i 0
 
 -- of product k, where there are n choices; the first product has number n
 
 abbrev pub left : ℕ → Scheme → ℕ → ℕ
-left n s k = productLeft s (k - n)
+left n s k = product_left s (k - n)
 
 abbrev pub right : ℕ → Scheme → ℕ → ℕ
-right n s k = productRight s (k - n)
+right n s k = product_right s (k - n)
 
 -- N
 abbrev pub variables : ℕ → Scheme → ℕ
@@ -37,34 +37,34 @@ side n s = suc (variables n s)
 
 -- the split of term t (the paper's own term): the two variables whose product the term is in g, or one variable twice
 
-abbrev pub splitLeft : Scheme → ℕ → ℕ
-splitLeft s t = get_or s.split_lefts t 0
+abbrev pub split_left : Scheme → ℕ → ℕ
+split_left s t = get_or s.split_lefts t 0
 
-abbrev pub splitRight : Scheme → ℕ → ℕ
-splitRight s t = get_or s.split_rights t 0
+abbrev pub split_right : Scheme → ℕ → ℕ
+split_right s t = get_or s.split_rights t 0
 
 -- no product, no split; every entry is 0
 unfoldable pub fresh : Scheme
 fresh = record {
   products = 0;
   splits = 0;
-  lefts = replicate maxProducts 0;
-  rights = replicate maxProducts 0;
-  split_lefts = replicate maxTerms 0;
-  split_rights = replicate maxTerms 0;
+  lefts = replicate max_products 0;
+  rights = replicate max_products 0;
+  split_lefts = replicate max_terms 0;
+  split_rights = replicate max_terms 0;
 }
 
 -- the arrays have room for 32 products and 256 splits
 pub record Lengths (s : Scheme) : Type 0 where
-  pub lefts : length s.lefts ≡ maxProducts
-  pub rights : length s.rights ≡ maxProducts
-  pub split-lefts : length s.split_lefts ≡ maxTerms
-  pub split-rights : length s.split_rights ≡ maxTerms
+  pub lefts : length s.lefts ≡ max_products
+  pub rights : length s.rights ≡ max_products
+  pub split_lefts : length s.split_lefts ≡ max_terms
+  pub split_rights : length s.split_rights ≡ max_terms
 
 -- ---- a scheme with other products, and with other splits
 
-abbrev pub setProducts : Scheme → ℕ → (lefts rights : List ℕ) → Scheme
-setProducts s k lefts rights = record {
+abbrev pub set_products : Scheme → ℕ → (lefts rights : List ℕ) → Scheme
+set_products s k lefts rights = record {
   products = k;
   splits = s.splits;
   lefts = lefts;
@@ -73,8 +73,8 @@ setProducts s k lefts rights = record {
   split_rights = s.split_rights;
 }
 
-abbrev pub setSplits : Scheme → ℕ → (lefts rights : List ℕ) → Scheme
-setSplits s t lefts rights = record {
+abbrev pub set_splits : Scheme → ℕ → (lefts rights : List ℕ) → Scheme
+set_splits s t lefts rights = record {
   products = s.products;
   splits = t;
   lefts = s.lefts;
@@ -85,8 +85,8 @@ setSplits s t lefts rights = record {
 
 -- ---- one more
 
-abbrev pub withProduct : Scheme → ℕ → ℕ → Scheme
-withProduct s l r = setProducts s (suc s.products) (set s.lefts s.products l) (set s.rights s.products r)
+abbrev pub with_product : Scheme → ℕ → ℕ → Scheme
+with_product s l r = set_products s (suc s.products) (set s.lefts s.products l) (set s.rights s.products r)
 
-abbrev pub withSplit : Scheme → ℕ → ℕ → Scheme
-withSplit s l r = setSplits s (suc s.splits) (set s.split_lefts s.splits l) (set s.split_rights s.splits r)
+abbrev pub with_split : Scheme → ℕ → ℕ → Scheme
+with_split s l r = set_splits s (suc s.splits) (set s.split_lefts s.splits l) (set s.split_rights s.splits r)

@@ -3,10 +3,10 @@ use Rattle.std.specs.Prelude.{ℕ, ◌≤◌, ◌<◌, ◌≡◌}
 use Rattle.std.specs.Int.Bits.{bit_or}
 use Rattle.integers.specs.Lists.{Column}
 use Rattle.register.specs.declared.Register.{Register}
-use Rattle.register.specs.Limits.{maxTerms}
+use Rattle.register.specs.Limits.{max_terms}
 use Rattle.register.specs.Register.{mask}
 use Rattle.scheme.specs.declared.Scheme.{Scheme}
-use Rattle.scheme.specs.Scheme.{maxProducts, left, right, variables, splitLeft, splitRight}
+use Rattle.scheme.specs.Scheme.{max_products, left, right, variables, split_left, split_right}
 use Rattle.scheme.specs.Variables.{E}
 
 -- a product of l and r with number k: its operands are two variables before it, in order, and its set is not that of any
@@ -31,17 +31,17 @@ pub record Split (N l r union mask : ℕ) : Type 0 where
 abbrev pub SplitOf : Register → Scheme → ℕ → Type 0
 SplitOf reg s t =
     let n = reg.choices in
-    Split (variables n s) (splitLeft s t) (splitRight s t) (bit_or (E n s (splitLeft s t)) (E n s (splitRight s t))) (mask reg t)
+    Split (variables n s) (split_left s t) (split_right s t) (bit_or (E n s (split_left s t)) (E n s (split_right s t))) (mask reg t)
 
 -- at most 32 products, and splits for the first terms; entries past the counts are 0
 pub record Within (reg : Register) (s : Scheme) : Type 0 where
-  pub lefts : Column maxProducts s.products 0 s.lefts
-  pub rights : Column maxProducts s.products 0 s.rights
-  pub products-within : s.products ≤ maxProducts
+  pub lefts : Column max_products s.products 0 s.lefts
+  pub rights : Column max_products s.products 0 s.rights
+  pub products_within : s.products ≤ max_products
   pub products : Products reg.choices s
-  pub split-lefts : Column maxTerms s.splits 0 s.split_lefts
-  pub split-rights : Column maxTerms s.splits 0 s.split_rights
-  pub splits-within : s.splits ≤ reg.terms
+  pub split_lefts : Column max_terms s.splits 0 s.split_lefts
+  pub split_rights : Column max_terms s.splits 0 s.split_rights
+  pub splits_within : s.splits ≤ reg.terms
   pub splits : (t : ℕ) → t < s.splits → SplitOf reg s t
 
 -- and there is one split for each term

@@ -1,13 +1,13 @@
 // The checks of the scheme's commands: refusals 1 to 8.
 ghost use Rattle.std.specs.Prelude.{◌≡◌, [], ◌∷◌, ◌+◌, ◌<◌, ◌≤◌, length};
 ghost use Rattle.wire.specs.Checks.{refusal};
-ghost use Rattle.wire.specs.Part.{checksAt, size};
-ghost use Rattle.wire.specs.Rows.{Progress, isAmong, row_of};
+ghost use Rattle.wire.specs.Part.{checks_at, size};
+ghost use Rattle.wire.specs.Rows.{Progress, is_among, row_of};
 ghost use Rattle.register.specs.declared.Register.{Register};
 ghost use Rattle.scheme.specs.Scheme.{variables};
-ghost use Rattle.scheme.specs.Format.{productChecks, splitChecks, endChecks, schemeRows, schemePart};
-ghost use Rattle.scheme.specs.Sets.{SetsBelow, noneIs, unionIn};
-ghost use Rattle.scheme.specs.Answer.{seenOf};
+ghost use Rattle.scheme.specs.Format.{product_checks, split_checks, end_checks, scheme_rows, scheme_part};
+ghost use Rattle.scheme.specs.Sets.{SetsBelow, none_is, union_in};
+ghost use Rattle.scheme.specs.Answer.{seen_of};
 
 use super::{Scheme, Seen, union_of};
 use crate::lookup::first_with;
@@ -16,7 +16,7 @@ use wire::{command_refusal, first_of};
 // No variable below the count has this set.
 fn is_new(sets: &[u32], count: usize, union: u32) -> bool
     requires { count ≤ length sets.now }
-    ensures { result ≡ noneIs sets.now count union }
+    ensures { result ≡ none_is sets.now count union }
 {
     first_with(sets, count, union) == count
 }
@@ -24,7 +24,7 @@ fn is_new(sets: &[u32], count: usize, union: u32) -> bool
 // The refusal of the product of variables l and r after k others, where there are n choices, or 0.
 fn product_refusal(sets: &[u32], n: usize, k: usize, l: u8, r: u8) -> u8
     requires { n + k ≤ length sets.now }
-    ensures { result ≡ refusal (productChecks k (n + k) l r (noneIs sets.now (n + k) (unionIn sets.now l r))) }
+    ensures { result ≡ refusal (product_checks k (n + k) l r (none_is sets.now (n + k) (union_in sets.now l r))) }
 {
     let count = n + k;
     let unnamed = (count <= l as usize) | (count <= r as usize);
@@ -43,7 +43,7 @@ fn split_refusal(
     r: u8,
     mask: u32,
 ) -> u8
-    ensures { result ≡ refusal (splitChecks terms splits count l r (unionIn sets.now l r) mask) }
+    ensures { result ≡ refusal (split_checks terms splits count l r (union_in sets.now l r) mask) }
 {
     let unnamed = (count <= l as usize) | (count <= r as usize);
     let unfit = union_of(sets, l, r) != mask;
@@ -53,21 +53,21 @@ fn split_refusal(
 
 // The refusal of an end after so many splits, where there are so many terms, or 0.
 fn end_refusal(terms: usize, splits: usize) -> u8
-    ensures { result ≡ refusal (endChecks terms splits) }
+    ensures { result ≡ refusal (end_checks terms splits) }
 {
     first_of(splits < terms, 3, 0)
 }
 
 // A split or the end may stand directly after a command, or first where that is 0.
 fn after_products(previous: u8) -> bool
-    ensures { result ≡ isAmong previous (0 ∷ 0x21 ∷ 0x22 ∷ []) }
+    ensures { result ≡ is_among previous (0 ∷ 0x21 ∷ 0x22 ∷ []) }
 {
     (previous == 0) | ((previous == 0x21) | (previous == 0x22))
 }
 
 // A command may stand directly after another, or first where that is 0.
 fn stands_after(previous: u8, command: u8) -> bool
-    ensures { (reg : Register) → result ≡ isAmong previous (row_of (schemeRows reg) command).follows }
+    ensures { (reg : Register) → result ≡ is_among previous (row_of (scheme_rows reg) command).follows }
 {
     match command {
         0x21 => (previous == 0) | (previous == 0x21),
@@ -79,7 +79,7 @@ fn stands_after(previous: u8, command: u8) -> bool
 
 // The bytes of a command.
 fn command_size(command: u8) -> usize
-    ensures { (reg : Register) → result ≡ size (schemePart reg) command }
+    ensures { (reg : Register) → result ≡ size (scheme_part reg) command }
 {
     match command {
         0x21 => 3,
@@ -93,9 +93,9 @@ fn command_size(command: u8) -> usize
 pub fn refusal_at(bytes: &[u8], at: usize, seen: Seen, sets: &[u32]) -> u8
     requires at_in_bounds { at < length bytes.now }
     requires products_in_bounds { seen.choices + seen.products ≤ length sets.now }
-    ensures { (reg : Register) (p : Progress Scheme) → seenOf reg p ≡ seen →
+    ensures { (reg : Register) (p : Progress Scheme) → seen_of reg p ≡ seen →
         SetsBelow reg.choices p.parsed (variables reg.choices p.parsed) sets.now →
-        result ≡ refusal (checksAt (schemePart reg) bytes.now p at) }
+        result ≡ refusal (checks_at (scheme_part reg) bytes.now p at) }
 {
     let command = bytes[at];
     let placed = command_refusal(

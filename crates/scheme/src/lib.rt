@@ -11,8 +11,8 @@ mod variable_sets;
 ghost use Rattle.std.specs.Prelude.{◌≡◌};
 ghost use Rattle.register.specs.Valid.{Valid};
 ghost use Rattle.scheme.specs.Scheme.{fresh};
-ghost use Rattle.scheme.specs.Format.{schemeInJob};
-ghost use Rattle.scheme.specs.Answer.{refusedRead, schemeRead, refusedParts, openParts, partsRead, schemeAnswer};
+ghost use Rattle.scheme.specs.Format.{scheme_in_job};
+ghost use Rattle.scheme.specs.Answer.{refused_read, scheme_read, refused_parts, open_parts, parts_read, scheme_answer};
 
 use checks::refusal_at;
 use variable_sets::entry;
@@ -93,7 +93,7 @@ impl Scheme {
 
 impl SchemeRead {
     fn refused(number: u8, position: usize) -> SchemeRead
-        ensures { result ≡ refusedRead number position }
+        ensures { result ≡ refused_read number position }
     {
         let scheme = Scheme::fresh();
         SchemeRead {
@@ -106,7 +106,7 @@ impl SchemeRead {
 
 impl PartsRead {
     fn refused(number: u8, part: u8, position: usize) -> PartsRead
-        ensures { result ≡ refusedParts number part position }
+        ensures { result ≡ refused_parts number part position }
     {
         let register = Register::fresh();
         let scheme = Scheme::fresh();
@@ -123,7 +123,7 @@ impl PartsRead {
 // The scheme at the front of a run of bytes, with a register.
 pub fn read_scheme(bytes: &[u8], register: Register) -> SchemeRead
     requires { Valid register }
-    ensures { result ≡ schemeRead (schemeInJob register bytes.now) }
+    ensures { result ≡ scheme_read (scheme_in_job register bytes.now) }
 {
     let n = register.choices;
     let terms = register.terms;
@@ -179,7 +179,7 @@ pub fn read_scheme(bytes: &[u8], register: Register) -> SchemeRead
 
 // Parts 1 and 2, each a run of bytes by itself.
 pub fn open_parts(register: &[u8], scheme: &[u8]) -> PartsRead
-    ensures { result ≡ partsRead (openParts register.now scheme.now) }
+    ensures { result ≡ parts_read (open_parts register.now scheme.now) }
 {
     let first = feedcheck_register(register);
     let first_number = first.number;
@@ -209,7 +209,7 @@ pub fn open_parts(register: &[u8], scheme: &[u8]) -> PartsRead
 // The scheme of a register, each as a run of bytes by itself.
 #[unsafe(no_mangle)]
 pub extern "C" fn feedcheck_scheme(register: &[u8], scheme: &[u8]) -> SchemeAnswer
-    ensures { result ≡ schemeAnswer register.now scheme.now }
+    ensures { result ≡ scheme_answer register.now scheme.now }
 {
     let parts = open_parts(register, scheme);
     let whole = parts.scheme;

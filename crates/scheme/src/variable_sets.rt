@@ -1,9 +1,9 @@
 // The sets of the variables, as an array of masks.
 ghost use Rattle.std.specs.Prelude.{◌≡◌, ◌+◌, ◌≤◌, get_or};
-ghost use Rattle.register.specs.Limits.{maxChoices};
-ghost use Rattle.scheme.specs.Scheme.{maxProducts};
+ghost use Rattle.register.specs.Limits.{max_choices};
+ghost use Rattle.scheme.specs.Scheme.{max_products};
 ghost use Rattle.scheme.specs.Valid.{Products};
-ghost use Rattle.scheme.specs.Sets.{SetsBelow, unionIn};
+ghost use Rattle.scheme.specs.Sets.{SetsBelow, union_in};
 
 use super::Scheme;
 
@@ -16,14 +16,14 @@ pub fn entry(entries: &[u32], i: usize) -> u32
 
 // The union of the sets of two variables.
 pub fn union_of(sets: &[u32], l: u8, r: u8) -> u32
-    ensures { result ≡ unionIn sets.now l r }
+    ensures { result ≡ union_in sets.now l r }
 {
     entry(sets, l as usize) | entry(sets, r as usize)
 }
 
 // The sets of n choices.
 pub fn choice_sets(n: usize) -> [u32; Scheme::MAX_VARIABLES]
-    requires { n ≤ maxChoices }
+    requires { n ≤ max_choices }
     ensures { (s : Scheme) → SetsBelow n s n result }
 {
     let mut sets = [0; Scheme::MAX_VARIABLES];
@@ -37,8 +37,8 @@ pub fn choice_sets(n: usize) -> [u32; Scheme::MAX_VARIABLES]
 
 // The sets of all variables, where there are n choices.
 pub fn sets_of(n: usize, scheme: Scheme) -> [u32; Scheme::MAX_VARIABLES]
-    requires n_le_max_choices { n ≤ maxChoices }
-    requires products_le_max_products { scheme.products ≤ maxProducts }
+    requires n_le_max_choices { n ≤ max_choices }
+    requires products_le_max_products { scheme.products ≤ max_products }
     requires products { Products n scheme }
     ensures { SetsBelow n scheme (n + scheme.products) result }
 {

@@ -9,28 +9,28 @@ use lib.Pow.{pow_pos}
 use lib.Bits.{bit_and, and_block, and_self, and_zero_r, and_comm, and_mask}
 use lib.IntN.{ℤ, pos, ◌+ℤ◌}
 use lib.Signed.{◌≤ℤ◌, ≤ℤ_refl}
-use Rattle.integers.proofs.Sum.{sumBelow-cong, sumBelow-mono}
-use Rattle.integers.proofs.Order.{+ℤ-mono}
-use Rattle.sets.specs.Sets.{isSubset}
-use Rattle.sets.proofs.Sets.{subset-is}
-use Rattle.sets.proofs.Subsets.{subset-trans}
+use Rattle.integers.proofs.Sum.{sum_below_cong, sum_below_mono}
+use Rattle.integers.proofs.Order.{+ℤ_mono}
+use Rattle.sets.specs.Sets.{is_subset}
+use Rattle.sets.proofs.Sets.{subset_is}
+use Rattle.sets.proofs.Subsets.{subset_trans}
 use Rattle.register.specs.declared.Register.{Register}
 use Rattle.register.specs.Register.{mask}
 use Rattle.plan.specs.Plan.{cost}
-use Rattle.search.specs.Sum.{possible, negative, termSum, sum}
+use Rattle.search.specs.Sum.{possible, negative, term_sum, sum}
 use Rattle.search.proofs.Sums.{negative-≤}
 
 -- a full plan under the partial plan with d choices undecided and q * 2 ^ d fed feeds the same decided choices
 module _ (d q x : ℕ) (l : x < 2 ^ d) where
-  pub under-fed : T (isSubset (q * 2 ^ d) (q * 2 ^ d + x))
-  under-fed = (subset-is (q * 2 ^ d) (q * 2 ^ d + x)).1 (ap (bit_and (q * 2 ^ d + x)) (sym (add-zero (q * 2 ^ d))) ∙ and_block d q q x 0 l (pow_pos d) ∙ rw (and_self, and_zero_r, add-zero))
+  pub under_fed : T (is_subset (q * 2 ^ d) (q * 2 ^ d + x))
+  under_fed = (subset_is (q * 2 ^ d) (q * 2 ^ d + x)).1 (ap (bit_and (q * 2 ^ d + x)) (sym (add-zero (q * 2 ^ d))) ∙ and_block d q q x 0 l (pow_pos d) ∙ rw (and_self, and_zero_r, add-zero))
 
-  pub under-possible : T (isSubset (q * 2 ^ d + x) (possible d (q * 2 ^ d)))
-  under-possible = (subset-is _ _).1 (and_block d q q (2 ^ d - 1) x (omega (arith, pow_pos d)) l ∙ rw (and_self, and_comm (2 ^ d - 1) x, and_mask, mod-eq_of_lt l))
+  pub under_possible : T (is_subset (q * 2 ^ d + x) (possible d (q * 2 ^ d)))
+  under_possible = (subset_is _ _).1 (and_block d q q (2 ^ d - 1) x (omega (arith, pow_pos d)) l ∙ rw (and_self, and_comm (2 ^ d - 1) x, and_mask, mod-eq_of_lt l))
 
-  pub term-bound : (c : ℤ) (m : ℕ) → termSum c m (q * 2 ^ d) (possible d (q * 2 ^ d)) ≤ℤ cond (isSubset m (q * 2 ^ d + x)) c (pos 0)
-  term-bound c m = by (isSubset m (q * 2 ^ d)) (isSubset m (possible d (q * 2 ^ d))) (isSubset m (q * 2 ^ d + x))
-      (λ t. subset-trans m _ _ t under-fed) (λ t. subset-trans m _ _ t under-possible)
+  pub term_bound : (c : ℤ) (m : ℕ) → term_sum c m (q * 2 ^ d) (possible d (q * 2 ^ d)) ≤ℤ cond (is_subset m (q * 2 ^ d + x)) c (pos 0)
+  term_bound c m = by (is_subset m (q * 2 ^ d)) (is_subset m (possible d (q * 2 ^ d))) (is_subset m (q * 2 ^ d + x))
+      (λ t. subset_trans m _ _ t under_fed) (λ t. subset_trans m _ _ t under_possible)
     where
       by : (f p g : Bool) → (T f → T g) → (T g → T p) → cond f c (cond p (negative c) (pos 0)) ≤ℤ cond g c (pos 0)
       by true p true h k = ≤ℤ_refl c
@@ -42,12 +42,12 @@ module _ (d q x : ℕ) (l : x < 2 ^ d) where
 
   pub sum_bound : (c : ℕ → ℤ) (r : Register) → sum c r d (q * 2 ^ d) ≤ℤ cost c r (q * 2 ^ d + x)
   unfolding sum cost
-  sum_bound c r = +ℤ-mono r.base r.base _ _ (≤ℤ_refl r.base) (sumBelow-mono r.terms _ _ (λ t k. term-bound (c t) (mask r t)))
+  sum_bound c r = +ℤ_mono r.base r.base _ _ (≤ℤ_refl r.base) (sum_below_mono r.terms _ _ (λ t k. term_bound (c t) (mask r t)))
 
 -- at a full plan it is the cost
-pub sum-full : (c : ℕ → ℤ) (r : Register) (plan : ℕ) → sum c r 0 plan ≡ cost c r plan
+pub sum_full : (c : ℕ → ℤ) (r : Register) (plan : ℕ) → sum c r 0 plan ≡ cost c r plan
 unfolding sum cost
-sum-full c r plan = rw add-zero (ap (λ s. r.base +ℤ s) (sumBelow-cong r.terms _ _ (λ t l. by (isSubset (mask r t) plan) (c t))))
+sum_full c r plan = rw add-zero (ap (λ s. r.base +ℤ s) (sum_below_cong r.terms _ _ (λ t l. by (is_subset (mask r t) plan) (c t))))
   where
     by : (b : Bool) (c : ℤ) → cond b c (cond b (negative c) (pos 0)) ≡ cond b c (pos 0)
     by true c = refl

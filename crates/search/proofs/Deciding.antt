@@ -11,14 +11,14 @@ use lib.Bits.{bit_or, or_shifted, or_shifted_r, or_block, or_zero_r}
 use lib.IntN.{ℤ, pos, negsuc, ◌+ℤ◌, +ℤ_assoc, +ℤ_idr, +ℤ_idl}
 use lib.Signed.{lt_z}
 use borrow.Author.Tests.{eq-eqb}
-use Rattle.integers.specs.Sum.{sumBelow}
-use Rattle.integers.proofs.Sum.{sumBelow-cong, sumBelow-+}
+use Rattle.integers.specs.Sum.{sum_below}
+use Rattle.integers.proofs.Sum.{sum_below_cong, sum_below-+}
 use Rattle.integers.proofs.Lists.{T_true, flag}
-use Rattle.sets.specs.Sets.{isMember, isSubset}
-use Rattle.sets.proofs.Subsets.{subset-trans, subset-more, subset-without, subset-from}
-use Rattle.search.specs.Sum.{possible, negative, termSum}
-use Rattle.search.specs.Lent.{Terms, mask_of, coefficientOf, sum_to, lentSum, isListed, positive, termLost, termGained}
-use Rattle.search.proofs.Bound.{under-fed}
+use Rattle.sets.specs.Sets.{is_member, is_subset}
+use Rattle.sets.proofs.Subsets.{subset_trans, subset_more, subset_without, subset_from}
+use Rattle.search.specs.Sum.{possible, negative, term_sum}
+use Rattle.search.specs.Lent.{Terms, mask_of, coefficient_of, sum_to, lent_sum, is_listed, positive, term_lost, term_gained}
+use Rattle.search.proofs.Bound.{under_fed}
 
 -- ---- choice k decided, where those from k + 1 up are decided and q * 2 ^ (k + 1) are fed
 
@@ -35,18 +35,18 @@ module _ (k q : ℕ) where
   even : 2 * q % 2 ≡ 0
   even = omega arith
 
-  without : (x : ℕ) → x < 2 ^ k → isMember k (F + x) ≡ false
-  unfolding isMember
+  without : (x : ℕ) → x < 2 ^ k → is_member k (F + x) ≡ false
+  unfolding is_member
   without x l = rw (twice, digits_div (2 * q) l, even)
 
-  without-fed : isMember k F ≡ false
-  without-fed = rw (add-zero F) at (without 0 (pow_pos k))
+  without_fed : is_member k F ≡ false
+  without_fed = rw (add-zero F) at (without 0 (pow_pos k))
 
-  with-fed : bit_or F (2 ^ k) ≡ F + 2 ^ k
-  with-fed = or_shifted q (suc k) (2 ^ k) (omega (arith, pow-suc 2 k, pow_pos k))
+  with_fed : bit_or F (2 ^ k) ≡ F + 2 ^ k
+  with_fed = or_shifted q (suc k) (2 ^ k) (omega (arith, pow-suc 2 k, pow_pos k))
 
-  with-possible : bit_or (possible k F) (2 ^ k) ≡ possible (suc k) F
-  with-possible =
+  with_possible : bit_or (possible k F) (2 ^ k) ≡ possible (suc k) F
+  with_possible =
       let z : 0 * 2 ^ suc k + 2 ^ k ≡ 2 ^ k = omega arith in
       let o : 1 * 2 ^ k ≡ 2 ^ k = omega arith in
       let h : bit_or (2 ^ k - 1) (2 ^ k) ≡ 2 ^ k + (2 ^ k - 1) = rw o at (or_shifted_r 1 k (2 ^ k - 1) (omega (arith, pow_pos k))) in
@@ -55,22 +55,22 @@ module _ (k q : ℕ) where
 
   -- what a term with choice k loses by choice k unfed, and gains by it fed
 
-  unfed-term : (c : ℤ) (m : ℕ) → termSum c m F (possible k F) +ℤ cond (isMember k m) (termLost c m (possible (suc k) F)) (pos 0) ≡ termSum c m F (possible (suc k) F)
-  unfed-term c m = flag (isMember k m)
-      (λ e. rw (e, subset-without m F k e without-fed, subset-without m (possible k F) k e (without (2 ^ k - 1) (omega (arith, pow_pos k)))) (+ℤ_idl _))
-      (λ e. rw (e, ← with-possible, subset-more m (possible k F) k e) (+ℤ_idr _))
+  unfed_term : (c : ℤ) (m : ℕ) → term_sum c m F (possible k F) +ℤ cond (is_member k m) (term_lost c m (possible (suc k) F)) (pos 0) ≡ term_sum c m F (possible (suc k) F)
+  unfed_term c m = flag (is_member k m)
+      (λ e. rw (e, subset_without m F k e without_fed, subset_without m (possible k F) k e (without (2 ^ k - 1) (omega (arith, pow_pos k)))) (+ℤ_idl _))
+      (λ e. rw (e, ← with_possible, subset_more m (possible k F) k e) (+ℤ_idr _))
 
-  fed-term : (c : ℤ) (m : ℕ) → termSum c m F (possible (suc k) F) +ℤ cond (isMember k m) (termGained c m (F + 2 ^ k)) (pos 0) ≡ termSum c m (F + 2 ^ k) (possible k (F + 2 ^ k))
-  fed-term c m =
-      rw same (flag (isMember k m)
-      (λ e. rw (e, subset-without m F k e without-fed) (by (isSubset m (F + 2 ^ k)) (isSubset m (possible (suc k) F)) c (λ t. subset-trans m _ _ t inside)))
-      (λ e. rw (e, ← with-fed, subset-more m F k e) (+ℤ_idr _)))
+  fed_term : (c : ℤ) (m : ℕ) → term_sum c m F (possible (suc k) F) +ℤ cond (is_member k m) (term_gained c m (F + 2 ^ k)) (pos 0) ≡ term_sum c m (F + 2 ^ k) (possible k (F + 2 ^ k))
+  fed_term c m =
+      rw same (flag (is_member k m)
+      (λ e. rw (e, subset_without m F k e without_fed) (by (is_subset m (F + 2 ^ k)) (is_subset m (possible (suc k) F)) c (λ t. subset_trans m _ _ t inside)))
+      (λ e. rw (e, ← with_fed, subset_more m F k e) (+ℤ_idr _)))
     where
       same : possible k (F + 2 ^ k) ≡ possible (suc k) F
       same = omega (arith, pow-suc 2 k, pow_pos k)
 
-      inside : T (isSubset (F + 2 ^ k) (possible (suc k) F))
-      inside = rw (odd, same) at (under-fed k (2 * q + 1) (2 ^ k - 1) (omega (arith, pow_pos k)))
+      inside : T (is_subset (F + 2 ^ k) (possible (suc k) F))
+      inside = rw (odd, same) at (under_fed k (2 * q + 1) (2 ^ k - 1) (omega (arith, pow_pos k)))
 
       parts : (c : ℤ) → negative c +ℤ positive c ≡ c
       parts (pos c) = +ℤ_idl (pos c)
@@ -88,24 +88,24 @@ module _ (k q : ℕ) where
   none true false = refl
   none false s = refl
 
-  listed-lost : (c : ℤ) (m : ℕ) → cond (isListed k m c) (termLost c m (possible (suc k) F)) (pos 0) ≡ cond (isMember k m) (termLost c m (possible (suc k) F)) (pos 0)
-  unfolding isListed
-  listed-lost (pos n) m = none (isListed k m (pos n)) (isSubset m (possible (suc k) F)) ∙ sym (none (isMember k m) (isSubset m (possible (suc k) F)))
-  listed-lost (negsuc n) m = by (isMember k m)
+  listed_lost : (c : ℤ) (m : ℕ) → cond (is_listed k m c) (term_lost c m (possible (suc k) F)) (pos 0) ≡ cond (is_member k m) (term_lost c m (possible (suc k) F)) (pos 0)
+  unfolding is_listed
+  listed_lost (pos n) m = none (is_listed k m (pos n)) (is_subset m (possible (suc k) F)) ∙ sym (none (is_member k m) (is_subset m (possible (suc k) F)))
+  listed_lost (negsuc n) m = by (is_member k m)
     where
-      by : (b : Bool) → cond (b && true) (termLost (negsuc n) m (possible (suc k) F)) (pos 0) ≡ cond b (termLost (negsuc n) m (possible (suc k) F)) (pos 0)
+      by : (b : Bool) → cond (b && true) (term_lost (negsuc n) m (possible (suc k) F)) (pos 0) ≡ cond b (term_lost (negsuc n) m (possible (suc k) F)) (pos 0)
       by true = refl
       by false = refl
 
-  listed-gained : (c : ℤ) (m : ℕ) → cond (isListed k m c) (termGained c m (F + 2 ^ k)) (pos 0) ≡ cond (isMember k m) (termGained c m (F + 2 ^ k)) (pos 0)
-  unfolding isListed
-  listed-gained (negsuc n) m = none (isListed k m (negsuc n)) (isSubset m (F + 2 ^ k)) ∙ sym (none (isMember k m) (isSubset m (F + 2 ^ k)))
-  listed-gained (pos n) m = flag (isSubset m (F + 2 ^ k))
-      (λ e. rw (eq-eqb _ _ (lowest ((T_true _).1 e))) (by (isMember k m) (lt_z (pos n) (pos 0)) (termGained (pos n) m (F + 2 ^ k))))
-      (λ e. rw e (none (isListed k m (pos n)) false ∙ sym (none (isMember k m) false)))
+  listed_gained : (c : ℤ) (m : ℕ) → cond (is_listed k m c) (term_gained c m (F + 2 ^ k)) (pos 0) ≡ cond (is_member k m) (term_gained c m (F + 2 ^ k)) (pos 0)
+  unfolding is_listed
+  listed_gained (negsuc n) m = none (is_listed k m (negsuc n)) (is_subset m (F + 2 ^ k)) ∙ sym (none (is_member k m) (is_subset m (F + 2 ^ k)))
+  listed_gained (pos n) m = flag (is_subset m (F + 2 ^ k))
+      (λ e. rw (eq-eqb _ _ (lowest ((T_true _).1 e))) (by (is_member k m) (lt_z (pos n) (pos 0)) (term_gained (pos n) m (F + 2 ^ k))))
+      (λ e. rw e (none (is_listed k m (pos n)) false ∙ sym (none (is_member k m) false)))
     where
-      lowest : T (isSubset m (F + 2 ^ k)) → m % 2 ^ k ≡ 0
-      lowest t = subset-from m (2 * q + 1) k (rw odd t)
+      lowest : T (is_subset m (F + 2 ^ k)) → m % 2 ^ k ≡ 0
+      lowest t = subset_from m (2 * q + 1) k (rw odd t)
 
       by : (b x : Bool) (y : ℤ) → cond (b && (x || true)) y (pos 0) ≡ cond b y (pos 0)
       by true true y = refl
@@ -116,17 +116,17 @@ module _ (k q : ℕ) where
 
   module _ (base : ℤ) (r : Terms) where
     -- what the listed terms add to the change
-    abbrev pub listedSum : (ℤ → ℕ → ℕ → ℤ) → ℕ → ℤ
-    listedSum adds set = sumBelow r.count (λ t. cond (isListed k (mask_of r t) (coefficientOf r t)) (adds (coefficientOf r t) (mask_of r t) set) (pos 0))
+    abbrev pub listed_sum : (ℤ → ℕ → ℕ → ℤ) → ℕ → ℤ
+    listed_sum adds set = sum_below r.count (λ t. cond (is_listed k (mask_of r t) (coefficient_of r t)) (adds (coefficient_of r t) (mask_of r t) set) (pos 0))
 
-    pub unfed-sum : lentSum base r k F +ℤ listedSum termLost (possible (suc k) F) ≡ lentSum base r (suc k) F
+    pub unfed_sum : lent_sum base r k F +ℤ listed_sum term_lost (possible (suc k) F) ≡ lent_sum base r (suc k) F
     unfolding sum_to
-    unfed-sum =
+    unfed_sum =
         +ℤ_assoc base _ _
-        ∙ ap (λ x. base +ℤ x) (sym (sumBelow-+ r.count _ _) ∙ sumBelow-cong r.count _ _ (λ t l. rw (listed-lost (coefficientOf r t) (mask_of r t)) (unfed-term (coefficientOf r t) (mask_of r t))))
+        ∙ ap (λ x. base +ℤ x) (sym (sum_below-+ r.count _ _) ∙ sum_below_cong r.count _ _ (λ t l. rw (listed_lost (coefficient_of r t) (mask_of r t)) (unfed_term (coefficient_of r t) (mask_of r t))))
 
-    pub fed-sum : lentSum base r (suc k) F +ℤ listedSum termGained (F + 2 ^ k) ≡ lentSum base r k (F + 2 ^ k)
+    pub fed_sum : lent_sum base r (suc k) F +ℤ listed_sum term_gained (F + 2 ^ k) ≡ lent_sum base r k (F + 2 ^ k)
     unfolding sum_to
-    fed-sum =
+    fed_sum =
         +ℤ_assoc base _ _
-        ∙ ap (λ x. base +ℤ x) (sym (sumBelow-+ r.count _ _) ∙ sumBelow-cong r.count _ _ (λ t l. rw (listed-gained (coefficientOf r t) (mask_of r t)) (fed-term (coefficientOf r t) (mask_of r t))))
+        ∙ ap (λ x. base +ℤ x) (sym (sum_below-+ r.count _ _) ∙ sum_below_cong r.count _ _ (λ t l. rw (listed_gained (coefficient_of r t) (mask_of r t)) (fed_term (coefficient_of r t) (mask_of r t))))

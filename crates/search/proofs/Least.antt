@@ -11,25 +11,25 @@ use lib.IntN.{ℤ}
 use lib.Dec.{T}
 use lib.Signed.{le_z, ◌≤ℤ◌, ◌<ℤ◌}
 use Rattle.integers.proofs.Parts.{orders}
-use Rattle.integers.proofs.Order.{≤ℤ-trans, ≤ℤ-or->}
+use Rattle.integers.proofs.Order.{≤ℤ_trans, ≤ℤ_or_>}
 use Rattle.integers.proofs.Lists.{flag, and_both}
-use Rattle.integers.proofs.Entries.{below-or-last}
-use Rattle.search.specs.Walk.{Best, start, visited, better, isLeft, walk}
-use Rattle.search.proofs.Walks.{walk-left, walk-full, walk-unfit, walk-on}
+use Rattle.integers.proofs.Entries.{below_or_last}
+use Rattle.search.specs.Walk.{Best, start, visited, better, is_left, walk}
+use Rattle.search.proofs.Walks.{walk_left, walk_full, walk_unfit, walk_on}
 
 -- a comparison that held, and one that did not
 
-leZ-true : (a b : ℤ) → le_z a b ≡ true → a ≤ℤ b
-leZ-true a b e = record { le = subst T (sym e) tt }
+le_z-true : (a b : ℤ) → le_z a b ≡ true → a ≤ℤ b
+le_z-true a b e = record { le = subst T (sym e) tt }
 
-leZ-false : (a b : ℤ) → le_z a b ≡ false → b <ℤ a
-leZ-false a b e = ⊎_elim (λ l. absurd (subst T e l.le)) (λ l. l) (≤ℤ-or-> a b)
+le_z-false : (a b : ℤ) → le_z a b ≡ false → b <ℤ a
+le_z-false a b e = ⊎_elim (λ l. absurd (subst T e l.le)) (λ l. l) (≤ℤ_or_> a b)
 
 -- the best of the plans below a number that pass a test, by their costs
 pub record Least (fits : ℕ → Bool) (cost : ℕ → ℤ) (end : ℕ) (w : Best) : Type 0 where
-  pub plan-below : w.plan < end
-  pub plan-fits : fits w.plan ≡ true
-  pub cost-is : w.cost ≡ cost w.plan
+  pub plan_below : w.plan < end
+  pub plan_fits : fits w.plan ≡ true
+  pub cost_is : w.cost ≡ cost w.plan
   pub least : (p : ℕ) → p < end → fits p ≡ true → w.cost ≤ℤ cost p
   pub smallest : (p : ℕ) → p < end → fits p ≡ true → cost p ≡ w.cost → w.plan ≤ p
 
@@ -48,21 +48,21 @@ module _ (sum : ℕ → ℕ → ℤ) (fits : ℕ → Bool) (cost : ℕ → ℤ)
   visit : (end : ℕ) (w : Best) → Sofar fits cost end w → Sofar fits cost end (visited w)
   visit end w s = record {
     none = s.none;
-    some = λ e. let l = s.some e in record { plan-below = l.plan-below; plan-fits = l.plan-fits; cost-is = l.cost-is; least = l.least; smallest = l.smallest };
+    some = λ e. let l = s.some e in record { plan_below = l.plan_below; plan_fits = l.plan_fits; cost_is = l.cost_is; least = l.least; smallest = l.smallest };
   }
 
   -- no full plan below a partial plan that is left is cheaper
-  left : (d q : ℕ) (w : Best) → Sofar fits cost (q * 2 ^ d) w → isLeft (sum d (q * 2 ^ d)) w ≡ true → Sofar fits cost (q * 2 ^ d + 2 ^ d) (visited w)
+  left : (d q : ℕ) (w : Best) → Sofar fits cost (q * 2 ^ d) w → is_left (sum d (q * 2 ^ d)) w ≡ true → Sofar fits cost (q * 2 ^ d + 2 ^ d) (visited w)
   left d q w s e =
       let (m, c) = and_both w.met _ e in
       let l = s.some m in
       record {
         none = λ n. absurd (true≢false (sym m ∙ n));
         some = λ _. record {
-          plan-below = omega (arith, l.plan-below);
-          plan-fits = l.plan-fits;
-          cost-is = l.cost-is;
-          least = λ p h f. dear l (leZ-true _ _ c) p h f (dec_lt p (q * 2 ^ d));
+          plan_below = omega (arith, l.plan_below);
+          plan_fits = l.plan_fits;
+          cost_is = l.cost_is;
+          least = λ p h f. dear l (le_z-true _ _ c) p h f (dec_lt p (q * 2 ^ d));
           smallest = λ p h f k. small l p f k (dec_lt p (q * 2 ^ d));
         };
       }
@@ -71,22 +71,22 @@ module _ (sum : ℕ → ℕ → ℤ) (fits : ℕ → Bool) (cost : ℕ → ℤ)
       dear l c p h f (yes b) = l.least p b f
       dear l c p h f (no b) =
           let f : q * 2 ^ d + (p - q * 2 ^ d) ≡ p = omega arith in
-          ≤ℤ-trans _ _ _ c (rw f at (bound d q (p - q * 2 ^ d) (omega arith)))
+          ≤ℤ_trans _ _ _ c (rw f at (bound d q (p - q * 2 ^ d) (omega arith)))
 
       small : Least fits cost (q * 2 ^ d) w → (p : ℕ) → fits p ≡ true → cost p ≡ w.cost → Dec (p < q * 2 ^ d) → w.plan ≤ p
       small l p f k (yes b) = l.smallest p b f k
-      small l p f k (no b) = omega (arith, l.plan-below)
+      small l p f k (no b) = omega (arith, l.plan_below)
 
   -- a full plan that passes and is not left is cheaper than those before it that pass
-  cheaper : (p : ℕ) (w : Best) → Sofar fits cost p w → isLeft (sum 0 p) w ≡ false → fits p ≡ true → Sofar fits cost (p + 1) (better p (sum 0 p) (visited w))
+  cheaper : (p : ℕ) (w : Best) → Sofar fits cost p w → is_left (sum 0 p) w ≡ false → fits p ≡ true → Sofar fits cost (p + 1) (better p (sum 0 p) (visited w))
   cheaper p w s e passes = record {
     none = λ n. absurd (true≢false n);
     some = λ _. record {
-      plan-below = omega arith;
-      plan-fits = passes;
-      cost-is = full p;
-      least = λ k h i. ⊎_elim (λ b. (before k b i).0) (λ (f : k ≡ p). omega (arith, orders, full p, ap cost f)) (below-or-last k p (omega arith));
-      smallest = λ k h i c. ⊎_elim (λ b. absurd ((before k b i).1 c)) (λ f. omega arith) (below-or-last k p (omega arith));
+      plan_below = omega arith;
+      plan_fits = passes;
+      cost_is = full p;
+      least = λ k h i. ⊎_elim (λ b. (before k b i).0) (λ (f : k ≡ p). omega (arith, orders, full p, ap cost f)) (below_or_last k p (omega arith));
+      smallest = λ k h i c. ⊎_elim (λ b. absurd ((before k b i).1 c)) (λ f. omega arith) (below_or_last k p (omega arith));
     };
   }
     where
@@ -94,62 +94,62 @@ module _ (sum : ℕ → ℕ → ℤ) (fits : ℕ → Bool) (cost : ℕ → ℤ)
       before k b i = flag w.met
           (λ m.
           let l = (s.some m).least k b i in
-          let c : sum 0 p <ℤ w.cost = leZ-false _ _ (rw m at e) in
+          let c : sum 0 p <ℤ w.cost = le_z-false _ _ (rw m at e) in
           (omega (arith, orders), λ f. omega (arith, orders)))
           (λ m. absurd (true≢false (sym i ∙ s.none m k b)))
 
   -- a full plan that does not pass changes nothing
   unfit : (p : ℕ) (w : Best) → Sofar fits cost p w → fits p ≡ false → Sofar fits cost (p + 1) (visited w)
   unfit p w s e = record {
-    none = λ m k h. ⊎_elim (λ b. s.none m k b) (λ (f : k ≡ p). ap fits f ∙ e) (below-or-last k p (omega arith));
+    none = λ m k h. ⊎_elim (λ b. s.none m k b) (λ (f : k ≡ p). ap fits f ∙ e) (below_or_last k p (omega arith));
     some = λ m.
         let l = s.some m in
         record {
-          plan-below = omega (arith, l.plan-below);
-          plan-fits = l.plan-fits;
-          cost-is = l.cost-is;
+          plan_below = omega (arith, l.plan_below);
+          plan_fits = l.plan_fits;
+          cost_is = l.cost_is;
           least = λ k h i. l.least k (earlier k h i) i;
           smallest = λ k h i c. l.smallest k (earlier k h i) i c;
         };
   }
     where
       earlier : (k : ℕ) → k < p + 1 → fits k ≡ true → k < p
-      earlier k h i = ⊎_elim (λ b. b) (λ (f : k ≡ p). absurd (true≢false (sym i ∙ ap fits f ∙ e))) (below-or-last k p (omega arith))
+      earlier k h i = ⊎_elim (λ b. b) (λ (f : k ≡ p). absurd (true≢false (sym i ∙ ap fits f ∙ e))) (below_or_last k p (omega arith))
 
-  pub walk-least : (d q : ℕ) (w : Best) → Sofar fits cost (q * 2 ^ d) w → Sofar fits cost (q * 2 ^ d + 2 ^ d) (walk sum fits d (q * 2 ^ d) w)
-  walk-least zero q w s = flag (isLeft (sum 0 (q * 1)) w)
-      (λ e. rw (walk-left sum fits 0 (q * 1) w e) (left 0 q w s e))
+  pub walk_least : (d q : ℕ) (w : Best) → Sofar fits cost (q * 2 ^ d) w → Sofar fits cost (q * 2 ^ d + 2 ^ d) (walk sum fits d (q * 2 ^ d) w)
+  walk_least zero q w s = flag (is_left (sum 0 (q * 1)) w)
+      (λ e. rw (walk_left sum fits 0 (q * 1) w e) (left 0 q w s e))
       (λ e. flag (fits (q * 1))
-      (λ f. rw (walk-full sum fits (q * 1) w e f) (cheaper (q * 1) w s e f))
-      (λ f. rw (walk-unfit sum fits (q * 1) w f) (unfit (q * 1) w s f)))
-  walk-least (suc d) q w s = flag (isLeft (sum (suc d) (q * 2 ^ suc d)) w)
-      (λ e. rw (walk-left sum fits (suc d) (q * 2 ^ suc d) w e) (left (suc d) q w s e))
+      (λ f. rw (walk_full sum fits (q * 1) w e f) (cheaper (q * 1) w s e f))
+      (λ f. rw (walk_unfit sum fits (q * 1) w f) (unfit (q * 1) w s f)))
+  walk_least (suc d) q w s = flag (is_left (sum (suc d) (q * 2 ^ suc d)) w)
+      (λ e. rw (walk_left sum fits (suc d) (q * 2 ^ suc d) w e) (left (suc d) q w s e))
       (λ e.
       let a : 2 * q * 2 ^ d ≡ q * 2 ^ suc d = rw (pow-suc 2 d) (omega arith) in
       let b : (2 * q + 1) * 2 ^ d ≡ q * 2 ^ suc d + 2 ^ d = rw (pow-suc 2 d) (omega arith) in
       let c : q * 2 ^ suc d + 2 ^ d + 2 ^ d ≡ q * 2 ^ suc d + 2 ^ suc d = omega (arith, pow-suc 2 d) in
-      let first = rw a at (walk-least d (2 * q) (visited w) (rw a (visit _ w s))) in
-      let second = rw b at (walk-least d (2 * q + 1) (walk sum fits d (q * 2 ^ suc d) (visited w)) (rw b first)) in
-      rw (walk-on sum fits d (q * 2 ^ suc d) w e, ← c) second)
+      let first = rw a at (walk_least d (2 * q) (visited w) (rw a (visit _ w s))) in
+      let second = rw b at (walk_least d (2 * q + 1) (walk sum fits d (q * 2 ^ suc d) (visited w)) (rw b first)) in
+      rw (walk_on sum fits d (q * 2 ^ suc d) w e, ← c) second)
 
   -- from the empty partial plan
 
-  search-sofar : (n : ℕ) → Sofar fits cost (2 ^ n) (walk sum fits n 0 start)
-  search-sofar n =
+  search_sofar : (n : ℕ) → Sofar fits cost (2 ^ n) (walk sum fits n 0 start)
+  search_sofar n =
       let z : 0 * 2 ^ n ≡ 0 = omega arith in
       let f : 0 * 2 ^ n + 2 ^ n ≡ 2 ^ n = omega arith in
-      rw (f, z) at (walk-least n 0 start (record { none = λ e p l. absurd (omega arith); some = λ e. absurd (true≢false (sym e)) }))
+      rw (f, z) at (walk_least n 0 start (record { none = λ e p l. absurd (omega arith); some = λ e. absurd (true≢false (sym e)) }))
 
   -- where a full plan that passes is met, it is the best of all that pass; none is met just where none passes
 
-  pub search-least : (n : ℕ) → (walk sum fits n 0 start).met ≡ true → Least fits cost (2 ^ n) (walk sum fits n 0 start)
-  search-least n = (search-sofar n).some
+  pub search_least : (n : ℕ) → (walk sum fits n 0 start).met ≡ true → Least fits cost (2 ^ n) (walk sum fits n 0 start)
+  search_least n = (search_sofar n).some
 
-  pub search-met : (n p : ℕ) → p < 2 ^ n → fits p ≡ true → (walk sum fits n 0 start).met ≡ true
-  search-met n p l f = flag (walk sum fits n 0 start).met (λ e. e) (λ e. absurd (true≢false (sym f ∙ (search-sofar n).none e p l)))
+  pub search_met : (n p : ℕ) → p < 2 ^ n → fits p ≡ true → (walk sum fits n 0 start).met ≡ true
+  search_met n p l f = flag (walk sum fits n 0 start).met (λ e. e) (λ e. absurd (true≢false (sym f ∙ (search_sofar n).none e p l)))
 
-  pub search-none : (n : ℕ) → ((walk sum fits n 0 start).met ≡ false) ↔ NoneFits fits (2 ^ n)
-  search-none n = (
-    (search-sofar n).none,
-    (λ none. flag (walk sum fits n 0 start).met (λ e. let l = search-least n e in absurd (true≢false (sym l.plan-fits ∙ none _ l.plan-below))) (λ e. e)),
+  pub search_none : (n : ℕ) → ((walk sum fits n 0 start).met ≡ false) ↔ NoneFits fits (2 ^ n)
+  search_none n = (
+    (search_sofar n).none,
+    (λ none. flag (walk sum fits n 0 start).met (λ e. let l = search_least n e in absurd (true≢false (sym l.plan_fits ∙ none _ l.plan_below))) (λ e. e)),
   )

@@ -11,10 +11,10 @@ use lib.Dec.{T}
 use lib.Pow.{pow_pos, pow-lt}
 use lib.Bits.{bit_or, and_comm, and_mask, and_shifted, or_shifted}
 use lib.IntN.{ℤ, pos}
-use Rattle.integers.proofs.Lists.{T-or, T_true, flag}
-use Rattle.sets.specs.Sets.{isMember, isSubset}
-use Rattle.sets.proofs.Sets.{member-or, member_below, subset-is, subset-members, subset-one}
-use Rattle.search.specs.Sum.{possible, negative, termSum}
+use Rattle.integers.proofs.Lists.{T_or, T_true, flag}
+use Rattle.sets.specs.Sets.{is_member, is_subset}
+use Rattle.sets.proofs.Sets.{member_or, member_below, subset_is, subset_members, subset_one}
+use Rattle.search.specs.Sum.{possible, negative, term_sum}
 use Rattle.search.proofs.Under.{apart}
 
 true_of : (b : Bool) → T b → b ≡ true
@@ -27,60 +27,60 @@ false_of b f = flag b (λ e. absurd (f ((T_true b).1 e))) (λ e. e)
 
 module _ (d q : ℕ) where
   -- fed choices are decided
-  fed-decided : (i : ℕ) → T (isMember i (q * 2 ^ d)) → d ≤ i
-  fed-decided i t = go (dec_lt i d)
+  fed_decided : (i : ℕ) → T (is_member i (q * 2 ^ d)) → d ≤ i
+  fed_decided i t = go (dec_lt i d)
     where
       go : Dec (i < d) → d ≤ i
       go (yes l) =
-          let e = (subset-is (2 ^ i) (q * 2 ^ d)).0 (subst T (sym (subset-one i (q * 2 ^ d))) t) in
+          let e = (subset_is (2 ^ i) (q * 2 ^ d)).0 (subst T (sym (subset_one i (q * 2 ^ d))) t) in
           absurd (omega (arith, and_shifted q d (2 ^ i) (pow-lt l), pow_pos i))
       go (no l) = omega arith
 
-  undecided-possible : (i : ℕ) → i < d → T (isMember i (2 ^ d - 1))
-  undecided-possible i l = subst T (subset-one i (2 ^ d - 1)) ((subset-is (2 ^ i) (2 ^ d - 1)).1 (and_comm (2 ^ d - 1) (2 ^ i) ∙ and_mask (2 ^ i) d ∙ mod-eq_of_lt (pow-lt l)))
+  undecided_possible : (i : ℕ) → i < d → T (is_member i (2 ^ d - 1))
+  undecided_possible i l = subst T (subset_one i (2 ^ d - 1)) ((subset_is (2 ^ i) (2 ^ d - 1)).1 (and_comm (2 ^ d - 1) (2 ^ i) ∙ and_mask (2 ^ i) d ∙ mod-eq_of_lt (pow-lt l)))
 
-  possible-or : bit_or (q * 2 ^ d) (2 ^ d - 1) ≡ possible d (q * 2 ^ d)
-  possible-or = or_shifted q d (2 ^ d - 1) (omega (arith, pow_pos d))
+  possible_or : bit_or (q * 2 ^ d) (2 ^ d - 1) ≡ possible d (q * 2 ^ d)
+  possible_or = or_shifted q d (2 ^ d - 1) (omega (arith, pow_pos d))
 
   -- none of its choices is decided unfed
-  possible-is : (m : ℕ) → T (isSubset m (possible d (q * 2 ^ d))) ↔ ((i : ℕ) → d ≤ i → T (isMember i m) → T (isMember i (q * 2 ^ d)))
-  possible-is m = (
+  possible_is : (m : ℕ) → T (is_subset m (possible d (q * 2 ^ d))) ↔ ((i : ℕ) → d ≤ i → T (is_member i m) → T (is_member i (q * 2 ^ d)))
+  possible_is m = (
     (λ t i l h. ⊎_elim (λ u. u) (λ u. absurd (omega (arith, member_below d i (2 ^ d - 1) (omega (arith, pow_pos d)) u)))
-        ((T-or (isMember i (q * 2 ^ d)) (isMember i (2 ^ d - 1))).0 (subst T (ap (isMember i) (sym possible-or) ∙ member-or i (q * 2 ^ d) (2 ^ d - 1)) ((subset-members m _).0 t i h)))),
-    (λ f. (subset-members m _).1 (λ i h. subst T (sym (ap (isMember i) (sym possible-or) ∙ member-or i (q * 2 ^ d) (2 ^ d - 1)))
-        ((T-or (isMember i (q * 2 ^ d)) (isMember i (2 ^ d - 1))).1 (go i (dec_lt i d) (λ l. f i l h))))),
+        ((T_or (is_member i (q * 2 ^ d)) (is_member i (2 ^ d - 1))).0 (subst T (ap (is_member i) (sym possible_or) ∙ member_or i (q * 2 ^ d) (2 ^ d - 1)) ((subset_members m _).0 t i h)))),
+    (λ f. (subset_members m _).1 (λ i h. subst T (sym (ap (is_member i) (sym possible_or) ∙ member_or i (q * 2 ^ d) (2 ^ d - 1)))
+        ((T_or (is_member i (q * 2 ^ d)) (is_member i (2 ^ d - 1))).1 (go i (dec_lt i d) (λ l. f i l h))))),
   )
     where
-      go : (i : ℕ) → Dec (i < d) → (d ≤ i → T (isMember i (q * 2 ^ d))) → T (isMember i (q * 2 ^ d)) ⊎ T (isMember i (2 ^ d - 1))
-      go i (yes l) f = inr (undecided-possible i l)
+      go : (i : ℕ) → Dec (i < d) → (d ≤ i → T (is_member i (q * 2 ^ d))) → T (is_member i (q * 2 ^ d)) ⊎ T (is_member i (2 ^ d - 1))
+      go i (yes l) f = inr (undecided_possible i l)
       go i (no l) f = inl (f (omega arith))
 
   module _ (c : ℤ) (m : ℕ) where
-    wholly-fed : ((i : ℕ) → T (isMember i m) → T (isMember i (q * 2 ^ d))) → termSum c m (q * 2 ^ d) (possible d (q * 2 ^ d)) ≡ c
-    wholly-fed f = rw (true_of (isSubset m (q * 2 ^ d)) ((subset-members m (q * 2 ^ d)).1 f))
+    wholly_fed : ((i : ℕ) → T (is_member i m) → T (is_member i (q * 2 ^ d))) → term_sum c m (q * 2 ^ d) (possible d (q * 2 ^ d)) ≡ c
+    wholly_fed f = rw (true_of (is_subset m (q * 2 ^ d)) ((subset_members m (q * 2 ^ d)).1 f))
 
-    undecided : (i : ℕ) → i < d → T (isMember i m) → ((j : ℕ) → d ≤ j → T (isMember j m) → T (isMember j (q * 2 ^ d))) → termSum c m (q * 2 ^ d) (possible d (q * 2 ^ d)) ≡ negative c
+    undecided : (i : ℕ) → i < d → T (is_member i m) → ((j : ℕ) → d ≤ j → T (is_member j m) → T (is_member j (q * 2 ^ d))) → term_sum c m (q * 2 ^ d) (possible d (q * 2 ^ d)) ≡ negative c
     undecided i l h f =
-        rw (false_of (isSubset m (q * 2 ^ d)) (λ t. omega (arith, fed-decided i ((subset-members m (q * 2 ^ d)).0 t i h))), true_of (isSubset m (possible d (q * 2 ^ d))) ((possible-is m).1 f))
+        rw (false_of (is_subset m (q * 2 ^ d)) (λ t. omega (arith, fed_decided i ((subset_members m (q * 2 ^ d)).0 t i h))), true_of (is_subset m (possible d (q * 2 ^ d))) ((possible_is m).1 f))
 
-    unfed : (i : ℕ) → d ≤ i → T (isMember i m) → (T (isMember i (q * 2 ^ d)) → ⊥) → termSum c m (q * 2 ^ d) (possible d (q * 2 ^ d)) ≡ pos 0
+    unfed : (i : ℕ) → d ≤ i → T (is_member i m) → (T (is_member i (q * 2 ^ d)) → ⊥) → term_sum c m (q * 2 ^ d) (possible d (q * 2 ^ d)) ≡ pos 0
     unfed i l h f =
-        rw (false_of (isSubset m (q * 2 ^ d)) (λ t. f ((subset-members m (q * 2 ^ d)).0 t i h)), false_of (isSubset m (possible d (q * 2 ^ d))) (λ t. f ((possible-is m).0 t i l h)))
+        rw (false_of (is_subset m (q * 2 ^ d)) (λ t. f ((subset_members m (q * 2 ^ d)).0 t i h)), false_of (is_subset m (possible d (q * 2 ^ d))) (λ t. f ((possible_is m).0 t i l h)))
 
 -- ---- any set of choices from d up
 
-module _ (d fed : ℕ) (none : (i : ℕ) → i < d → isMember i fed ≡ false) (c : ℤ) (m : ℕ) where
+module _ (d fed : ℕ) (none : (i : ℕ) → i < d → is_member i fed ≡ false) (c : ℤ) (m : ℕ) where
   abbrev block : ℕ
-  block = (apart d fed fed none (λ i l. λ j. isMember i fed)).block
+  block = (apart d fed fed none (λ i l. λ j. is_member i fed)).block
 
   is : fed ≡ block * 2 ^ d
-  is = (apart d fed fed none (λ i l. λ j. isMember i fed)).fed-is
+  is = (apart d fed fed none (λ i l. λ j. is_member i fed)).fed_is
 
-  pub term-fed : ((i : ℕ) → T (isMember i m) → T (isMember i fed)) → termSum c m fed (possible d fed) ≡ c
-  term-fed = subst (λ fed. ((i : ℕ) → T (isMember i m) → T (isMember i fed)) → termSum c m fed (possible d fed) ≡ c) (sym is) (wholly-fed d block c m)
+  pub term_fed : ((i : ℕ) → T (is_member i m) → T (is_member i fed)) → term_sum c m fed (possible d fed) ≡ c
+  term_fed = subst (λ fed. ((i : ℕ) → T (is_member i m) → T (is_member i fed)) → term_sum c m fed (possible d fed) ≡ c) (sym is) (wholly_fed d block c m)
 
-  pub term-undecided : (i : ℕ) → i < d → T (isMember i m) → ((j : ℕ) → d ≤ j → T (isMember j m) → T (isMember j fed)) → termSum c m fed (possible d fed) ≡ negative c
-  term-undecided i l h = subst (λ fed. ((j : ℕ) → d ≤ j → T (isMember j m) → T (isMember j fed)) → termSum c m fed (possible d fed) ≡ negative c) (sym is) (undecided d block c m i l h)
+  pub term_undecided : (i : ℕ) → i < d → T (is_member i m) → ((j : ℕ) → d ≤ j → T (is_member j m) → T (is_member j fed)) → term_sum c m fed (possible d fed) ≡ negative c
+  term_undecided i l h = subst (λ fed. ((j : ℕ) → d ≤ j → T (is_member j m) → T (is_member j fed)) → term_sum c m fed (possible d fed) ≡ negative c) (sym is) (undecided d block c m i l h)
 
-  pub term-unfed : (i : ℕ) → d ≤ i → T (isMember i m) → (T (isMember i fed) → ⊥) → termSum c m fed (possible d fed) ≡ pos 0
-  term-unfed i l h = subst (λ fed. (T (isMember i fed) → ⊥) → termSum c m fed (possible d fed) ≡ pos 0) (sym is) (unfed d block c m i l h)
+  pub term_unfed : (i : ℕ) → d ≤ i → T (is_member i m) → (T (is_member i fed) → ⊥) → term_sum c m fed (possible d fed) ≡ pos 0
+  term_unfed i l h = subst (λ fed. (T (is_member i fed) → ⊥) → term_sum c m fed (possible d fed) ≡ pos 0) (sym is) (unfed d block c m i l h)

@@ -7,41 +7,41 @@ use native.Mathlib.Omega.{arith}
 use lib.ListN.{get_or}
 use lib.IntN.{ℤ, pos, negsuc, nat_abs, ◌+ℤ◌, +ℤ_assoc, +ℤ_idr}
 use lib.Signed.{lt_z, ◌≤ℤ◌, ≤ℤ_refl, clash_ℤ}
-use Rattle.integers.specs.Sum.{sumBelow}
+use Rattle.integers.specs.Sum.{sum_below}
 use Rattle.integers.proofs.Parts.{orders}
-use Rattle.integers.proofs.Sum.{sumBelow-zero, sumBelow-suc, natAbs-sum}
-use Rattle.integers.proofs.Order.{natAbs-+, pos-nonneg}
-use Rattle.integers.proofs.Machine.{ltZ-true}
-use Rattle.sets.specs.Sets.{isSubset}
-use Rattle.register.specs.Limits.{maxBase, maxTerms, maxCoefficient}
-use Rattle.search.specs.Sum.{negative, termSum}
-use Rattle.search.specs.Lent.{Terms, mask_of, coefficientOf, Small, sum_to, positive, termLost, termGained, changeTo}
+use Rattle.integers.proofs.Sum.{sum_below-zero, sum_below-suc, nat_abs-sum}
+use Rattle.integers.proofs.Order.{nat_abs-+, pos_nonneg}
+use Rattle.integers.proofs.Machine.{lt_z-true}
+use Rattle.sets.specs.Sets.{is_subset}
+use Rattle.register.specs.Limits.{max_base, max_terms, max_coefficient}
+use Rattle.search.specs.Sum.{negative, term_sum}
+use Rattle.search.specs.Lent.{Terms, mask_of, coefficient_of, Small, sum_to, positive, term_lost, term_gained, change_to}
 
 -- ---- a coefficient by its sign
 
-pub negative-below : (c : ℤ) → lt_z c (pos 0) ≡ true → c ≡ negative c
-negative-below (pos c) e = absurd (clash_ℤ (ltZ-true (pos c) (pos 0) e) (pos-nonneg c))
-negative-below (negsuc c) e = refl
+pub negative_below : (c : ℤ) → lt_z c (pos 0) ≡ true → c ≡ negative c
+negative_below (pos c) e = absurd (clash_ℤ (lt_z-true (pos c) (pos 0) e) (pos_nonneg c))
+negative_below (negsuc c) e = refl
 
-pub negative-above : (c : ℤ) → lt_z c (pos 0) ≡ false → pos 0 ≡ negative c
-negative-above (pos c) e = refl
-negative-above (negsuc c) e = absurd (true≢false e)
+pub negative_above : (c : ℤ) → lt_z c (pos 0) ≡ false → pos 0 ≡ negative c
+negative_above (pos c) e = refl
+negative_above (negsuc c) e = absurd (true≢false e)
 
-pub positive-below : (c : ℤ) → lt_z c (pos 0) ≡ true → pos 0 ≡ positive c
-positive-below (pos c) e = absurd (clash_ℤ (ltZ-true (pos c) (pos 0) e) (pos-nonneg c))
-positive-below (negsuc c) e = refl
+pub positive_below : (c : ℤ) → lt_z c (pos 0) ≡ true → pos 0 ≡ positive c
+positive_below (pos c) e = absurd (clash_ℤ (lt_z-true (pos c) (pos 0) e) (pos_nonneg c))
+positive_below (negsuc c) e = refl
 
-pub positive-above : (c : ℤ) → lt_z c (pos 0) ≡ false → c ≡ positive c
-positive-above (pos c) e = refl
-positive-above (negsuc c) e = absurd (true≢false e)
+pub positive_above : (c : ℤ) → lt_z c (pos 0) ≡ false → c ≡ positive c
+positive_above (pos c) e = refl
+positive_above (negsuc c) e = absurd (true≢false e)
 
-positive-small : (c : ℤ) → nat_abs (positive c) ≤ nat_abs c
-positive-small (pos c) = omega arith
-positive-small (negsuc c) = omega arith
+positive_small : (c : ℤ) → nat_abs (positive c) ≤ nat_abs c
+positive_small (pos c) = omega arith
+positive_small (negsuc c) = omega arith
 
-negative-small : (c : ℤ) → nat_abs (negative c) ≤ nat_abs c
-negative-small (pos c) = omega arith
-negative-small (negsuc c) = omega arith
+negative_small : (c : ℤ) → nat_abs (negative c) ≤ nat_abs c
+negative_small (pos c) = omega arith
+negative_small (negsuc c) = omega arith
 
 pub negative-≤ : (c : ℤ) → (negative c ≤ℤ c) × (negative c ≤ℤ pos 0)
 negative-≤ (pos c) = (omega (arith, orders), omega (arith, orders))
@@ -49,62 +49,62 @@ negative-≤ (negsuc c) = (≤ℤ_refl (negsuc c), omega (arith, orders))
 
 -- ---- what one term adds, loses or gains is no more than its coefficient
 
-chosen-small : (b : Bool) (x c : ℤ) → nat_abs x ≤ nat_abs c → nat_abs (cond b x (pos 0)) ≤ nat_abs c
-chosen-small true x c h = h
-chosen-small false x c h = omega arith
+chosen_small : (b : Bool) (x c : ℤ) → nat_abs x ≤ nat_abs c → nat_abs (cond b x (pos 0)) ≤ nat_abs c
+chosen_small true x c h = h
+chosen_small false x c h = omega arith
 
-pub lost-small : (c : ℤ) (m possible : ℕ) → nat_abs (termLost c m possible) ≤ nat_abs c
-lost-small c m possible = chosen-small (isSubset m possible) (negative c) c (negative-small c)
+pub lost_small : (c : ℤ) (m possible : ℕ) → nat_abs (term_lost c m possible) ≤ nat_abs c
+lost_small c m possible = chosen_small (is_subset m possible) (negative c) c (negative_small c)
 
-pub gained-small : (c : ℤ) (m fed : ℕ) → nat_abs (termGained c m fed) ≤ nat_abs c
-gained-small c m fed = chosen-small (isSubset m fed) (positive c) c (positive-small c)
+pub gained_small : (c : ℤ) (m fed : ℕ) → nat_abs (term_gained c m fed) ≤ nat_abs c
+gained_small c m fed = chosen_small (is_subset m fed) (positive c) c (positive_small c)
 
 -- a term that is not wholly decided fed adds what it can lose
-term-split : (c : ℤ) (m fed possible : ℕ) → termSum c m fed possible ≡ cond (isSubset m fed) c (termLost c m possible)
-term-split c m fed possible = refl
+term_split : (c : ℤ) (m fed possible : ℕ) → term_sum c m fed possible ≡ cond (is_subset m fed) c (term_lost c m possible)
+term_split c m fed possible = refl
 
-term-small : (c : ℤ) (m fed possible : ℕ) → nat_abs (termSum c m fed possible) ≤ nat_abs c
-term-small c m fed possible = subst (λ x. nat_abs x ≤ nat_abs c) (sym (term-split c m fed possible)) (by (isSubset m fed))
+term_small : (c : ℤ) (m fed possible : ℕ) → nat_abs (term_sum c m fed possible) ≤ nat_abs c
+term_small c m fed possible = subst (λ x. nat_abs x ≤ nat_abs c) (sym (term_split c m fed possible)) (by (is_subset m fed))
   where
-    by : (b : Bool) → nat_abs (cond b c (termLost c m possible)) ≤ nat_abs c
+    by : (b : Bool) → nat_abs (cond b c (term_lost c m possible)) ≤ nat_abs c
     by true = omega arith
-    by false = lost-small c m possible
+    by false = lost_small c m possible
 
 -- ---- the sum
 
 module _ (base : ℤ) (r : Terms) (fed possible : ℕ) where
-  pub sumTo-zero : sum_to base r 0 fed possible ≡ base
+  pub sum_to-zero : sum_to base r 0 fed possible ≡ base
   unfolding sum_to
-  sumTo-zero = rw sumBelow-zero (+ℤ_idr base)
+  sum_to-zero = rw sum_below-zero (+ℤ_idr base)
 
-  pub sumTo-suc : (i : ℕ) → sum_to base r (suc i) fed possible ≡ sum_to base r i fed possible +ℤ termSum (coefficientOf r i) (mask_of r i) fed possible
+  pub sum_to-suc : (i : ℕ) → sum_to base r (suc i) fed possible ≡ sum_to base r i fed possible +ℤ term_sum (coefficient_of r i) (mask_of r i) fed possible
   unfolding sum_to
-  sumTo-suc i = rw sumBelow-suc (sym (+ℤ_assoc base _ _))
+  sum_to-suc i = rw sum_below-suc (sym (+ℤ_assoc base _ _))
 
-  pub sumTo-small : nat_abs base ≤ maxBase → Small r → (i : ℕ) → i ≤ r.count → nat_abs (sum_to base r i fed possible) ≤ maxBase + maxTerms * maxCoefficient
+  pub sum_to_small : nat_abs base ≤ max_base → Small r → (i : ℕ) → i ≤ r.count → nat_abs (sum_to base r i fed possible) ≤ max_base + max_terms * max_coefficient
   unfolding sum_to
-  sumTo-small b w i l = omega (arith, natAbs-+ base (sumBelow i f), natAbs-sum i maxCoefficient f (λ t m. each t), w.count-within)
+  sum_to_small b w i l = omega (arith, nat_abs-+ base (sum_below i f), nat_abs-sum i max_coefficient f (λ t m. each t), w.count_within)
     where
       f : ℕ → ℤ
-      f t = termSum (coefficientOf r t) (mask_of r t) fed possible
+      f t = term_sum (coefficient_of r t) (mask_of r t) fed possible
 
-      each : (t : ℕ) → nat_abs (f t) ≤ maxCoefficient
-      each t = omega (arith, term-small (coefficientOf r t) (mask_of r t) fed possible, w.coefficients-within t)
+      each : (t : ℕ) → nat_abs (f t) ≤ max_coefficient
+      each t = omega (arith, term_small (coefficient_of r t) (mask_of r t) fed possible, w.coefficients_within t)
 
 -- ---- a change, place by place
 
 module _ (adds : ℤ → ℕ → ℕ → ℤ) (masks : List ℕ) (coefficients : List ℤ) (from set : ℕ) where
-  pub changeTo-zero : changeTo adds masks coefficients from set 0 ≡ pos 0
-  unfolding changeTo
-  changeTo-zero = sumBelow-zero _
+  pub change_to-zero : change_to adds masks coefficients from set 0 ≡ pos 0
+  unfolding change_to
+  change_to-zero = sum_below-zero _
 
-  pub changeTo-suc : (i : ℕ) → changeTo adds masks coefficients from set (suc i)
-      ≡ changeTo adds masks coefficients from set i +ℤ adds (get_or coefficients (from + i) (pos 0)) (get_or masks (from + i) 0) set
-  unfolding changeTo
-  changeTo-suc i = sumBelow-suc i _
+  pub change_to-suc : (i : ℕ) → change_to adds masks coefficients from set (suc i)
+      ≡ change_to adds masks coefficients from set i +ℤ adds (get_or coefficients (from + i) (pos 0)) (get_or masks (from + i) 0) set
+  unfolding change_to
+  change_to-suc i = sum_below-suc i _
 
-  pub changeTo-small : ((c : ℤ) (m s : ℕ) → nat_abs (adds c m s) ≤ nat_abs c) → (count : ℕ) → ((j : ℕ) → j < count → nat_abs (get_or coefficients (from + j) (pos 0)) ≤ maxCoefficient) →
-      (i : ℕ) → i ≤ count → nat_abs (changeTo adds masks coefficients from set i) ≤ maxCoefficient * i
-  unfolding changeTo
-  changeTo-small small count h i m =
-      natAbs-sum i maxCoefficient _ (λ j l. omega (arith, small (get_or coefficients (from + j) (pos 0)) (get_or masks (from + j) 0) set, h j (omega arith)))
+  pub change_to_small : ((c : ℤ) (m s : ℕ) → nat_abs (adds c m s) ≤ nat_abs c) → (count : ℕ) → ((j : ℕ) → j < count → nat_abs (get_or coefficients (from + j) (pos 0)) ≤ max_coefficient) →
+      (i : ℕ) → i ≤ count → nat_abs (change_to adds masks coefficients from set i) ≤ max_coefficient * i
+  unfolding change_to
+  change_to_small small count h i m =
+      nat_abs-sum i max_coefficient _ (λ j l. omega (arith, small (get_or coefficients (from + j) (pos 0)) (get_or masks (from + j) 0) set, h j (omega arith)))

@@ -7,8 +7,8 @@ use native.Mathlib.Omega.{arith}
 use lib.Dec.{T}
 use lib.IntN.{ℤ}
 use lib.Signed.{◌≤ℤ◌}
-use Rattle.sets.specs.Sets.{isMember}
-use Rattle.sets.proofs.Sets.{member-zero, member-suc, same-members}
+use Rattle.sets.specs.Sets.{is_member}
+use Rattle.sets.proofs.Sets.{member_zero, member_suc, same_members}
 use Rattle.register.specs.declared.Register.{Register}
 use Rattle.plan.specs.Plan.{cost}
 use Rattle.search.specs.Sum.{sum}
@@ -19,31 +19,31 @@ pub record Apart (d fed plan : ℕ) : Type 0 where
   pub block : ℕ
   pub rest : ℕ
   pub small : rest < 2 ^ d
-  pub fed-is : fed ≡ block * 2 ^ d
-  pub plan-is : plan ≡ block * 2 ^ d + rest
+  pub fed_is : fed ≡ block * 2 ^ d
+  pub plan_is : plan ≡ block * 2 ^ d + rest
 
 -- no undecided choice is in `fed`, and the decided ones are in both or in neither
-pub apart : (d fed plan : ℕ) → ((i : ℕ) → i < d → isMember i fed ≡ false) → ((i : ℕ) → d ≤ i → isMember i plan ≡ isMember i fed) → Apart d fed plan
+pub apart : (d fed plan : ℕ) → ((i : ℕ) → i < d → is_member i fed ≡ false) → ((i : ℕ) → d ≤ i → is_member i plan ≡ is_member i fed) → Apart d fed plan
 apart zero fed plan none same =
-    let e = same-members plan fed (λ i. same i (omega arith)) in
-    record { block = fed; rest = 0; small = omega arith; fed-is = omega arith; plan-is = omega (arith, e) }
+    let e = same_members plan fed (λ i. same i (omega arith)) in
+    record { block = fed; rest = 0; small = omega arith; fed_is = omega arith; plan_is = omega (arith, e) }
 apart (suc d) fed plan none same =
-    let lower : (i : ℕ) → i < d → isMember i (fed / 2) ≡ false = λ i l. sym (member-suc i fed) ∙ none (suc i) (omega arith) in
-    let upper : (i : ℕ) → d ≤ i → isMember i (plan / 2) ≡ isMember i (fed / 2) = λ i l. sym (member-suc i plan) ∙ same (suc i) (omega arith) ∙ member-suc i fed in
+    let lower : (i : ℕ) → i < d → is_member i (fed / 2) ≡ false = λ i l. sym (member_suc i fed) ∙ none (suc i) (omega arith) in
+    let upper : (i : ℕ) → d ≤ i → is_member i (plan / 2) ≡ is_member i (fed / 2) = λ i l. sym (member_suc i plan) ∙ same (suc i) (omega arith) ∙ member_suc i fed in
     let a = apart d (fed / 2) (plan / 2) lower upper in
-    let odd : fed % 2 ≡ 1 → ⊥ = λ o. subst T (none 0 (omega arith)) ((member-zero fed).1 o) in
+    let odd : fed % 2 ≡ 1 → ⊥ = λ o. subst T (none 0 (omega arith)) ((member_zero fed).1 o) in
     let twice : a.block * 2 ^ suc d ≡ 2 * (a.block * 2 ^ d) = rw (pow-suc 2 d) (omega arith) in
     record {
       block = a.block;
       rest = 2 * a.rest + plan % 2;
       small = omega (arith, pow-suc 2 d, a.small);
-      fed-is = omega (arith, odd, twice, a.fed-is);
-      plan-is = omega (arith, twice, a.plan-is);
+      fed_is = omega (arith, odd, twice, a.fed_is);
+      plan_is = omega (arith, twice, a.plan_is);
     }
 
-pub under-sum : (c : ℕ → ℤ) (r : Register) (d fed plan : ℕ) →
-    ((i : ℕ) → i < d → isMember i fed ≡ false) → ((i : ℕ) → d ≤ i → isMember i plan ≡ isMember i fed) → sum c r d fed ≤ℤ cost c r plan
-under-sum c r d fed plan none same = by (apart d fed plan none same)
+pub under_sum : (c : ℕ → ℤ) (r : Register) (d fed plan : ℕ) →
+    ((i : ℕ) → i < d → is_member i fed ≡ false) → ((i : ℕ) → d ≤ i → is_member i plan ≡ is_member i fed) → sum c r d fed ≤ℤ cost c r plan
+under_sum c r d fed plan none same = by (apart d fed plan none same)
   where
     by : Apart d fed plan → sum c r d fed ≤ℤ cost c r plan
-    by a = rw (a.fed-is, a.plan-is) (sum_bound d a.block a.rest a.small c r)
+    by a = rw (a.fed_is, a.plan_is) (sum_bound d a.block a.rest a.small c r)

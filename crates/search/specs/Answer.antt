@@ -1,9 +1,9 @@
 -- What the search call answers.
 use Rattle.std.specs.Prelude.{ℕ, cond, List, ltb, ℤ, pos}
-use Rattle.wire.specs.Outcome.{Outcome, refuses, accepts, and_then, answerBy}
+use Rattle.wire.specs.Outcome.{Outcome, refuses, accepts, and_then, answer_by}
 use Rattle.register.specs.declared.Register.{Register}
 use Rattle.register.specs.Register.{coefficient}
-use Rattle.register.specs.Opening.{openRegister}
+use Rattle.register.specs.Opening.{open_register}
 use Rattle.search.specs.declared.SearchAnswer.{SearchAnswer}
 use Rattle.plan.specs.Fits.{fits}
 use Rattle.search.specs.Sum.{sum}
@@ -14,20 +14,20 @@ unfoldable pub search : (ℕ → ℤ) → Register → Best
 search c r = walk (sum c r) (fits r) r.choices 0 start
 
 -- 14 where the visits are more than the limit, and then 16 where no plan fits. No command causes them: part and position are 0
-abbrev pub withinLimit : ℕ → Best → Outcome Best
-withinLimit limit w = cond (ltb limit w.visits) (refuses 14 0 0) (cond w.met (accepts w) (refuses 16 0 0))
+abbrev pub within_limit : ℕ → Best → Outcome Best
+within_limit limit w = cond (ltb limit w.visits) (refuses 14 0 0) (cond w.met (accepts w) (refuses 16 0 0))
 
 -- of the bytes of part 1, a run by itself, and the limit: first what refuses the register
-abbrev pub searchOutcome : List ℕ → ℕ → Outcome Best
-searchOutcome register limit = and_then (openRegister register) λ reg. withinLimit limit (search (coefficient reg) reg)
+abbrev pub search_outcome : List ℕ → ℕ → Outcome Best
+search_outcome register limit = and_then (open_register register) λ reg. within_limit limit (search (coefficient reg) reg)
 
 -- number, part and position of a refusal, other fields 0; or zeros, the plan, its cost and the visits
 
-abbrev pub refusedSearch : ℕ → ℕ → ℕ → SearchAnswer
-refusedSearch number part at = record { number = number; part = part; position = at; plan = 0; cost = pos 0; visits = 0 }
+abbrev pub refused_search : ℕ → ℕ → ℕ → SearchAnswer
+refused_search number part at = record { number = number; part = part; position = at; plan = 0; cost = pos 0; visits = 0 }
 
-abbrev pub acceptedSearch : Best → SearchAnswer
-acceptedSearch w = record { number = 0; part = 0; position = 0; plan = w.plan; cost = w.cost; visits = w.visits }
+abbrev pub accepted_search : Best → SearchAnswer
+accepted_search w = record { number = 0; part = 0; position = 0; plan = w.plan; cost = w.cost; visits = w.visits }
 
-unfoldable pub searchAnswer : List ℕ → ℕ → SearchAnswer
-searchAnswer register limit = answerBy refusedSearch acceptedSearch (searchOutcome register limit)
+unfoldable pub search_answer : List ℕ → ℕ → SearchAnswer
+search_answer register limit = answer_by refused_search accepted_search (search_outcome register limit)

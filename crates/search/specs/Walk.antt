@@ -23,11 +23,11 @@ abbrev pub better : ℕ → ℤ → Best → Best
 better plan cost w = record { met = true; plan = plan; cost = cost; visits = w.visits }
 
 -- a full plan that fits has been met, and the sum is at least the best cost so far
-abbrev pub isLeft : ℤ → Best → Bool
-isLeft s w = w.met && le_z w.cost s
+abbrev pub is_left : ℤ → Best → Bool
+is_left s w = w.met && le_z w.cost s
 
 -- from the partial plan with d choices undecided and `fed` fed, by the sum at each and a test of full plans. It is visited; where it
 -- is not left, a full plan that fits becomes the best, and of another choice d − 1 is decided, unfed and then fed
 unfoldable pub walk : (ℕ → ℕ → ℤ) → (ℕ → Bool) → (d fed : ℕ) → Best → Best
-walk sum fits zero fed w = cond (isLeft (sum 0 fed) w || not (fits fed)) (visited w) (better fed (sum 0 fed) (visited w))
-walk sum fits (suc d) fed w = cond (isLeft (sum (suc d) fed) w) (visited w) (walk sum fits d (fed + 2 ^ d) (walk sum fits d fed (visited w)))
+walk sum fits zero fed w = cond (is_left (sum 0 fed) w || not (fits fed)) (visited w) (better fed (sum 0 fed) (visited w))
+walk sum fits (suc d) fed w = cond (is_left (sum (suc d) fed) w) (visited w) (walk sum fits d (fed + 2 ^ d) (walk sum fits d fed (visited w)))

@@ -6,11 +6,11 @@ mod lists;
 mod terms;
 
 ghost use Rattle.std.specs.Prelude.{◌≡◌, ◌^◌, ◌≤◌, ◌<◌, nat_abs};
-ghost use Rattle.register.specs.Limits.{maxBase, maxChoices, maxRows};
-ghost use Rattle.plan.specs.Fits.{storedFits};
+ghost use Rattle.register.specs.Limits.{max_base, max_choices, max_rows};
+ghost use Rattle.plan.specs.Fits.{stored_fits};
 ghost use Rattle.search.specs.Walk.{Best, start, walk};
-ghost use Rattle.search.specs.Answer.{refusedSearch, searchAnswer};
-ghost use Rattle.search.specs.Lent.{termsOf, Small, lentSum, At, Holds, UpTo};
+ghost use Rattle.search.specs.Answer.{refused_search, search_answer};
+ghost use Rattle.search.specs.Lent.{terms_of, Small, lent_sum, At, Holds, UpTo};
 
 use lists::{change_of, list_all};
 use plan::fits_rows;
@@ -61,7 +61,7 @@ pub struct SearchAnswer {
 
 impl SearchAnswer {
     fn refused(number: u8, part: u8, position: usize) -> SearchAnswer
-        ensures { result ≡ refusedSearch number part position }
+        ensures { result ≡ refused_search number part position }
     {
         SearchAnswer {
             number: number,
@@ -95,12 +95,12 @@ fn walk<'a>(
     cost: &mut i64,
 ) -> u64
     requires at { At sets.now amounts.now counts.now undecided fed sum }
-    requires lent_rows { (rows ≤ maxRows) × (choices ≤ maxChoices) }
+    requires lent_rows { (rows ≤ max_rows) × (choices ≤ max_choices) }
     requires visits_le_limit { visits ≤ limit }
     requires limit_bound { limit < 2 ^ 32 }
     ensures { (a : At sets.now amounts.now counts.now undecided fed sum) (w : Best) →
         Holds w plan.old cost.old → w.visits ≡ visits →
-        UpTo limit (walk (lentSum a.base a.terms) (storedFits row_totals.now row_entries.now rows choices) undecided fed w) plan.new cost.new result }
+        UpTo limit (walk (lent_sum a.base a.terms) (stored_fits row_totals.now row_entries.now rows choices) undecided fed w) plan.new cost.new result }
 {
     let here = visits + 1;
     if limit < here {
@@ -179,11 +179,11 @@ fn search_from<'a>(
     n: usize,
     limit: u32,
 ) -> Found
-    requires base_bound { nat_abs base ≤ maxBase }
-    requires small { Small (termsOf terms masks.now coefficients.now) }
-    requires rows_le_max_rows { rows ≤ maxRows }
-    requires n_le_max_choices { n ≤ maxChoices }
-    ensures { UpTo limit (walk (lentSum base (termsOf terms masks.now coefficients.now)) (storedFits row_totals.now row_entries.now rows n) n 0 start) result.plan result.cost result.visits }
+    requires base_bound { nat_abs base ≤ max_base }
+    requires small { Small (terms_of terms masks.now coefficients.now) }
+    requires rows_le_max_rows { rows ≤ max_rows }
+    requires n_le_max_choices { n ≤ max_choices }
+    ensures { UpTo limit (walk (lent_sum base (terms_of terms masks.now coefficients.now)) (stored_fits row_totals.now row_entries.now rows n) n 0 start) result.plan result.cost result.visits }
 {
     let mut sets = [0u32; TermLists::PLACES];
     let mut amounts = [0i32; TermLists::PLACES];
@@ -219,7 +219,7 @@ fn search_from<'a>(
 // 16 where no plan fits.
 #[unsafe(no_mangle)]
 pub extern "C" fn feedcheck_search(register: &[u8], limit: u32) -> SearchAnswer
-    ensures { result ≡ searchAnswer register.now limit }
+    ensures { result ≡ search_answer register.now limit }
 {
     let first = register::feedcheck_register(register);
     let number = first.number;

@@ -1,7 +1,7 @@
 // For each choice the terms whose part of the sum may change when it is decided, listed once, and the change that they make.
 ghost use Rattle.std.specs.Prelude.{◌≡◌, cond, ℕ, ◌+◌, ◌*◌, ◌≤◌, ◌<◌, length, get_or, pos, nat_abs};
-ghost use Rattle.register.specs.Limits.{maxChoices, maxTerms, maxCoefficient};
-ghost use Rattle.search.specs.Lent.{termsOf, Small, places, isListed, ListedUnder, AllListed, Kept, changeOf};
+ghost use Rattle.register.specs.Limits.{max_choices, max_terms, max_coefficient};
+ghost use Rattle.search.specs.Lent.{terms_of, Small, places, is_listed, ListedUnder, AllListed, Kept, change_of};
 
 use super::terms::{gained_by, lost_by};
 use super::{Change, TermLists};
@@ -16,8 +16,8 @@ fn one_where(b: bool) -> usize
 
 // A term is listed under choice k: it names k, and its coefficient is negative or it names no lower choice.
 fn is_listed(mask: u32, coefficient: i32, k: usize) -> bool
-    requires { k < maxChoices }
-    ensures { result ≡ isListed k mask coefficient }
+    requires { k < max_choices }
+    ensures { result ≡ is_listed k mask coefficient }
 {
     let named = (mask >> k) % 2 == 1;
     let lowest = mask % (1u32 << k) == 0;
@@ -33,13 +33,13 @@ fn list_terms<'a>(
     sets: &mut [u32],
     amounts: &mut [i32],
 ) -> usize
-    requires small { Small (termsOf terms masks.now coefficients.now) }
-    requires k_lt_max_choices { k < maxChoices }
+    requires small { Small (terms_of terms masks.now coefficients.now) }
+    requires k_lt_max_choices { k < max_choices }
     requires sets_len { length sets.old ≡ places }
     requires amounts_len { length amounts.old ≡ places }
-    ensures listed_under { ListedUnder (termsOf terms masks.now coefficients.now) terms k sets.new amounts.new result }
-    ensures kept { Kept 0 (k * maxTerms) sets.old sets.new }
-    ensures kept_2 { Kept (pos 0) (k * maxTerms) amounts.old amounts.new }
+    ensures listed_under { ListedUnder (terms_of terms masks.now coefficients.now) terms k sets.new amounts.new result }
+    ensures kept { Kept 0 (k * max_terms) sets.old sets.new }
+    ensures kept_2 { Kept (pos 0) (k * max_terms) amounts.old amounts.new }
 {
     let mut count = 0;
     for t in 0..terms {
@@ -62,11 +62,11 @@ pub fn list_all<'a>(
     sets: &mut [u32],
     amounts: &mut [i32],
 ) -> [usize; Register::MAX_CHOICES]
-    requires small { Small (termsOf terms masks.now coefficients.now) }
-    requires n_le_max_choices { n ≤ maxChoices }
+    requires small { Small (terms_of terms masks.now coefficients.now) }
+    requires n_le_max_choices { n ≤ max_choices }
     requires sets_len { length sets.old ≡ places }
     requires amounts_len { length amounts.old ≡ places }
-    ensures { AllListed (termsOf terms masks.now coefficients.now) n sets.new amounts.new result }
+    ensures { AllListed (terms_of terms masks.now coefficients.now) n sets.new amounts.new result }
 {
     let mut counts = [0; Register::MAX_CHOICES];
     for k in 0..n {
@@ -85,10 +85,10 @@ pub fn change_of<'a>(
     possible: u32,
     fed: u32,
 ) -> Change
-    requires by_index { (j : ℕ) → j < count → nat_abs (get_or amounts.now (from + j) (pos 0)) ≤ maxCoefficient }
-    requires count_le_max_terms { count ≤ maxTerms }
-    requires max_terms_bound { from + maxTerms ≤ places }
-    ensures { result ≡ changeOf sets.now amounts.now from count possible fed }
+    requires by_index { (j : ℕ) → j < count → nat_abs (get_or amounts.now (from + j) (pos 0)) ≤ max_coefficient }
+    requires count_le_max_terms { count ≤ max_terms }
+    requires max_terms_bound { from + max_terms ≤ places }
+    ensures { result ≡ change_of sets.now amounts.now from count possible fed }
 {
     let mut lost: i32 = 0;
     let mut gained: i32 = 0;

@@ -8,171 +8,171 @@ use mathlib.Core.List.{List, [], ◌∷◌, ◌++◌, append-nil}
 use lib.Dec.{ltb}
 use lib.IntN.{ℤ, pos, nat_abs}
 use lib.ListN.{length, drop}
-use Rattle.integers.specs.Lists.{joinBelow}
-use Rattle.integers.proofs.Entries.{table-each}
+use Rattle.integers.specs.Lists.{join_below}
+use Rattle.integers.proofs.Entries.{table_each}
 use Rattle.wire.specs.Part.{Reading, refused, accepted}
 use Rattle.wire.specs.Rows.{Progress}
-use Rattle.wire.specs.Outcome.{Outcome, refuses, accepts, next, and_then, startingAt, addedBy}
-use Rattle.wire.proofs.Encoding.{byItself-accepted}
-use Rattle.wire.proofs.Outcome.{next-by, next-at, itself-refused, refused-itself}
+use Rattle.wire.specs.Outcome.{Outcome, refuses, accepts, next, and_then, starting_at, added_by}
+use Rattle.wire.proofs.Encoding.{by_itself_accepted}
+use Rattle.wire.proofs.Outcome.{next_by, next_at, itself_refused, refused_itself}
 use Rattle.register.specs.declared.Register.{Register}
-use Rattle.register.specs.Limits.{maxBase, maxTank, usualDay, longDay}
-use Rattle.register.specs.Register.{tank, minute, coefficient, fresh, setLength, withBase, withLength, withChoice}
+use Rattle.register.specs.Limits.{max_base, max_tank, usual_day, long_day}
+use Rattle.register.specs.Register.{tank, minute, coefficient, fresh, set_length, with_base, with_length, with_choice}
 use Rattle.register.specs.Valid.{DayLength, Within, Valid}
-use Rattle.register.specs.Encoding.{encodeBase, encodeLength, encodeChoice, encodeWithLength, encodeWithoutLength, encodeRegister, SaysLength, lengthIn}
+use Rattle.register.specs.Encoding.{encode_base, encode_length, encode_choice, encode_with_length, encode_without_length, encode_register, SaysLength, length_in}
 use Rattle.register.specs.Ranges.{OutOfRange}
-use Rattle.register.specs.Format.{registerInJob, registerByItself}
-use Rattle.register.specs.Answer.{registerAnswer}
+use Rattle.register.specs.Format.{register_in_job, register_by_itself}
+use Rattle.register.specs.Answer.{register_answer}
 use Rattle.register.specs.Answer as R
-use Rattle.register.proofs.Passes.{length-within}
-use Rattle.register.proofs.Entries.{fresh-within, base_more, length_more, choiceAt, choice-new, choice-more}
-use Rattle.register.proofs.Accept.{encoding-accepted}
-use Rattle.register.proofs.Canonical.{canonical, encodes-with, encodes-without}
-use Rattle.register.proofs.Opened.{opened, opened-refused}
-use Rattle.register.proofs.DayLengths.{length-said, out_of_range, other_length}
-use Rattle.register.proofs.BeforeLengths.{as-before-lengths-in-job, as-before-lengths, usual-day}
-use Rattle.scheme.specs.Format.{schemeInJob}
-use Rattle.bound.specs.Format.{certificateInJob}
-use Rattle.plan.specs.Format.{planInJob}
+use Rattle.register.proofs.Passes.{length_within}
+use Rattle.register.proofs.Entries.{fresh_within, base_more, length_more, choice_at, choice_new, choice_more}
+use Rattle.register.proofs.Accept.{encoding_accepted}
+use Rattle.register.proofs.Canonical.{canonical, encodes_with, encodes_without}
+use Rattle.register.proofs.Opened.{opened, opened_refused}
+use Rattle.register.proofs.DayLengths.{length_said, out_of_range, other_length}
+use Rattle.register.proofs.BeforeLengths.{as_before_lengths_in_job, as_before_lengths, usual_day_lem}
+use Rattle.scheme.specs.Format.{scheme_in_job}
+use Rattle.bound.specs.Format.{certificate_in_job}
+use Rattle.plan.specs.Format.{plan_in_job}
 use Rattle.job.specs.declared.Tally.{Tally}
-use Rattle.job.specs.Outcome.{Parts, ofRegister, withScheme, withCertificate, withPlan, JobPart, partThree, partFour, in_turn, ended, outcome}
-use Rattle.job.specs.Rest.{rest, fromScheme}
-use Rattle.job.specs.Answer.{afterJob, jobAnswer}
-use Rattle.job.proofs.Suppliers.{of-three}
-use Rattle.soundness.specs.Calls.{registerCall, costCall, jobCall, listingCall}
+use Rattle.job.specs.Outcome.{Parts, of_register, with_scheme, with_certificate, with_plan, JobPart, part_three, part_four, in_turn, ended, outcome}
+use Rattle.job.specs.Rest.{rest, from_scheme}
+use Rattle.job.specs.Answer.{after_job, job_answer}
+use Rattle.job.proofs.Suppliers.{of_three}
+use Rattle.soundness.specs.Calls.{register_call, cost_call, job_call, listing_call}
 use Rattle.soundness.specs.Jobs.{Accepted}
-use Rattle.soundness.specs.DayLengths.{OfDay, KeepsLength, FeedsOfDay, JobOfDay, UsualDay, ValidBeforeLengths, bytesBeforeLengths, LengthsKept, AsBeforeLengths}
-use Rattle.soundness.specs.Windows.{withoutRows}
+use Rattle.soundness.specs.DayLengths.{OfDay, KeepsLength, FeedsOfDay, JobOfDay, UsualDay, ValidBeforeLengths, bytes_before_lengths, LengthsKept, AsBeforeLengths}
+use Rattle.soundness.specs.Windows.{without_rows}
 use Rattle.soundness.proofs.Written.{unsaid}
-use Rattle.soundness.proofs.Jobs.{accepted-job, accepted-leads}
-use Rattle.soundness.proofs.Windows.{register-valid, accepted-valid, fed-lines, rows-none, windows-kept}
+use Rattle.soundness.proofs.Jobs.{accepted_job, accepted_leads}
+use Rattle.soundness.proofs.Windows.{register_valid, accepted_valid, fed_lines_lem, rows_none, windows_kept}
 
 -- ---- a valid register
 
 module _ (reg : Register) (v : Valid reg) where
-  of-day : OfDay reg.day_length reg
-  of-day = record {
-    minutes = λ i l. (v.within.choices.each i l).minute-below;
-    froms = λ j l. (v.within.windows.each j l).from-below;
-    tos = λ j l. (v.within.windows.each j l).to-within;
+  of_day : OfDay reg.day_length reg
+  of_day = record {
+    minutes = λ i l. (v.within.choices.each i l).minute_below;
+    froms = λ j l. (v.within.windows.each j l).from_below;
+    tos = λ j l. (v.within.windows.each j l).to_within;
   }
 
-  pub feeds-of-day : (plan : ℕ) → FeedsOfDay reg plan
-  feeds-of-day plan t m f = subst (λ x. x < reg.day_length) f.minute-is (of-day.minutes f.choice f.there)
+  pub feeds_of_day : (plan : ℕ) → FeedsOfDay reg plan
+  feeds_of_day plan t m f = subst (λ x. x < reg.day_length) f.minute_is (of_day.minutes f.choice f.there)
 
-  keeps-length : (s : List ℕ) → reg.day_length ≡ lengthIn s → KeepsLength s reg
-  keeps-length s e = record { said = e; one_of_three = v.day-length; of-day = of-day }
+  keeps_length : (s : List ℕ) → reg.day_length ≡ length_in s → KeepsLength s reg
+  keeps_length s e = record { said = e; one_of_three = v.day_length; of_day = of_day }
 
   -- with another of the three lengths, where such a day has its minutes, as the longest has
 
-  of-longest : OfDay longDay reg
-  of-longest =
-      let d = length-within v.day-length in
-      record { minutes = λ i l. omega (arith, of-day.minutes i l); froms = λ j l. omega (arith, of-day.froms j l); tos = λ j l. omega (arith, of-day.tos j l) }
+  of_longest : OfDay long_day reg
+  of_longest =
+      let d = length_within v.day_length in
+      record { minutes = λ i l. omega (arith, of_day.minutes i l); froms = λ j l. omega (arith, of_day.froms j l); tos = λ j l. omega (arith, of_day.tos j l) }
 
-  other-valid : (length : ℕ) → DayLength length → OfDay length reg → Valid (setLength reg length)
-  other-valid length d o = record {
+  other_valid : (length : ℕ) → DayLength length → OfDay length reg → Valid (set_length reg length)
+  other_valid length d o = record {
     within = record {
       base = v.within.base;
       day = inr d;
       tanks = v.within.tanks;
       minutes = v.within.minutes;
-      choices = table-each (λ i l c. record { tank-above = c.tank-above; tank-within = c.tank-within; minute-below = o.minutes i l }) v.within.choices;
+      choices = table_each (λ i l c. record { tank_above = c.tank_above; tank_within = c.tank_within; minute_below = o.minutes i l }) v.within.choices;
       masks = v.within.masks;
       coefficients = v.within.coefficients;
       terms = v.within.terms;
-      window-tanks = v.within.window-tanks;
-      window-froms = v.within.window-froms;
-      window-tos = v.within.window-tos;
-      windows = table-each (λ j l w. record { tank-above = w.tank-above; tank-within = w.tank-within; from-below = o.froms j l; to-above = w.to-above; to-within = o.tos j l; ordered = w.ordered }) v.within.windows;
-      row-totals = v.within.row-totals;
-      row-entries = v.within.row-entries;
+      window_tanks = v.within.window_tanks;
+      window_froms = v.within.window_froms;
+      window_tos = v.within.window_tos;
+      windows = table_each (λ j l w. record { tank_above = w.tank_above; tank_within = w.tank_within; from_below = o.froms j l; to_above = w.to_above; to_within = o.tos j l; ordered = w.ordered }) v.within.windows;
+      row_totals = v.within.row_totals;
+      row_entries = v.within.row_entries;
       rows = v.within.rows;
-      may-feed = v.within.may-feed;
+      may_feed = v.within.may_feed;
     };
-    day-length = d;
-    some-choice = v.some-choice;
+    day_length = d;
+    some_choice = v.some_choice;
   }
 
-longest-valid : (reg : Register) → Valid reg → Valid (setLength reg longDay)
-longest-valid reg v = other-valid reg v longDay (inr (inr refl)) (of-longest reg v)
+longest_valid : (reg : Register) → Valid reg → Valid (set_length reg long_day)
+longest_valid reg v = other_valid reg v long_day (inr (inr refl)) (of_longest reg v)
 
-own-valid : (reg : Register) → Valid (setLength reg longDay) → DayLength reg.day_length → OfDay reg.day_length reg → Valid reg
-own-valid reg v d o = other-valid (setLength reg longDay) v reg.day_length d (record { minutes = o.minutes; froms = o.froms; tos = o.tos })
+own_valid : (reg : Register) → Valid (set_length reg long_day) → DayLength reg.day_length → OfDay reg.day_length reg → Valid reg
+own_valid reg v d o = other_valid (set_length reg long_day) v reg.day_length d (record { minutes = o.minutes; froms = o.froms; tos = o.tos })
 
 -- without rows, by the conditions that were
-before-lengths : (reg : Register) → Valid (withoutRows reg) → reg.day_length ≡ usualDay → ValidBeforeLengths reg
-before-lengths reg v day = record {
+before_lengths : (reg : Register) → Valid (without_rows reg) → reg.day_length ≡ usual_day → ValidBeforeLengths reg
+before_lengths reg v day = record {
   base = v.within.base;
   tanks = v.within.tanks;
   minutes = v.within.minutes;
-  choices = table-each (λ i l c. record { tank-above = c.tank-above; tank-within = c.tank-within; minute-within = omega (arith, c.minute-below) }) v.within.choices;
+  choices = table_each (λ i l c. record { tank_above = c.tank_above; tank_within = c.tank_within; minute_within = omega (arith, c.minute_below) }) v.within.choices;
   masks = v.within.masks;
   coefficients = v.within.coefficients;
   terms = v.within.terms;
-  window-tanks = v.within.window-tanks;
-  window-froms = v.within.window-froms;
-  window-tos = v.within.window-tos;
-  windows = table-each (λ j l w. record { tank-above = w.tank-above; tank-within = w.tank-within; from-within = omega (arith, w.from-below); to-above = w.to-above; to-within = omega (arith, w.to-within); ordered = w.ordered }) v.within.windows;
-  may-feed = v.within.may-feed;
-  some-choice = v.some-choice;
+  window_tanks = v.within.window_tanks;
+  window_froms = v.within.window_froms;
+  window_tos = v.within.window_tos;
+  windows = table_each (λ j l w. record { tank_above = w.tank_above; tank_within = w.tank_within; from_within = omega (arith, w.from_below); to_above = w.to_above; to_within = omega (arith, w.to_within); ordered = w.ordered }) v.within.windows;
+  may_feed = v.within.may_feed;
+  some_choice = v.some_choice;
 }
 
 -- and by those that are now
-now-valid : (reg : Register) → ValidBeforeLengths reg → reg.day_length ≡ usualDay → Valid (withoutRows reg)
-now-valid reg b day = let k = rows-none reg in record {
+now_valid : (reg : Register) → ValidBeforeLengths reg → reg.day_length ≡ usual_day → Valid (without_rows reg)
+now_valid reg b day = let k = rows_none reg in record {
   within = record {
     base = b.base;
     day = inr (inr (inl day));
     tanks = b.tanks;
     minutes = b.minutes;
-    choices = table-each (λ i l c. record { tank-above = c.tank-above; tank-within = c.tank-within; minute-below = omega (arith, c.minute-within) }) b.choices;
+    choices = table_each (λ i l c. record { tank_above = c.tank_above; tank_within = c.tank_within; minute_below = omega (arith, c.minute_within) }) b.choices;
     masks = b.masks;
     coefficients = b.coefficients;
     terms = b.terms;
-    window-tanks = b.window-tanks;
-    window-froms = b.window-froms;
-    window-tos = b.window-tos;
-    windows = table-each (λ j l w. record { tank-above = w.tank-above; tank-within = w.tank-within; from-below = omega (arith, w.from-within); to-above = w.to-above; to-within = omega (arith, w.to-within); ordered = w.ordered }) b.windows;
-    row-totals = k.totals;
-    row-entries = k.entries;
+    window_tanks = b.window_tanks;
+    window_froms = b.window_froms;
+    window_tos = b.window_tos;
+    windows = table_each (λ j l w. record { tank_above = w.tank_above; tank_within = w.tank_within; from_below = omega (arith, w.from_within); to_above = w.to_above; to_within = omega (arith, w.to_within); ordered = w.ordered }) b.windows;
+    row_totals = k.totals;
+    row_entries = k.entries;
     rows = k.rows;
-    may-feed = b.may-feed;
+    may_feed = b.may_feed;
   };
-  day-length = inr (inl day);
-  some-choice = b.some-choice;
+  day_length = inr (inl day);
+  some_choice = b.some_choice;
 }
 
-bytes-before : (reg : Register) → encodeWithoutLength (withoutRows reg) ≡ bytesBeforeLengths reg
-unfolding joinBelow
-bytes-before reg = simp append-nil
+bytes_before : (reg : Register) → encode_without_length (without_rows reg) ≡ bytes_before_lengths reg
+unfolding join_below
+bytes_before reg = simp append-nil
 
 -- ---- an accepted register
 
-register-keeps : (s : List ℕ) → (registerCall s).number ≡ 0 → KeepsLength s (registerCall s).register
-unfolding registerByItself
-register-keeps s z =
-    let o = opened s (registerCall s) refl z in
-    keeps-length (registerCall s).register o.valid s (length-said s (byItself-accepted s (registerInJob s) _ _ o.reads).0)
+register_keeps : (s : List ℕ) → (register_call s).number ≡ 0 → KeepsLength s (register_call s).register
+unfolding register_by_itself
+register_keeps s z =
+    let o = opened s (register_call s) refl z in
+    keeps_length (register_call s).register o.valid s (length_said s (by_itself_accepted s (register_in_job s) _ _ o.reads).0)
 
 -- ---- part 1 at the front of a job
 
 module _ (s : List ℕ) (Q : Register → Type 0) where
   -- a refusal of part 1 is that of its reading, and the register of an accepted job has Q
   abbrev pub First : Outcome Parts → Type 0
-  First (refuses n part at) = part ≡ 1 → registerInJob s ≡ refused n at
+  First (refuses n part at) = part ≡ 1 → register_in_job s ≡ refused n at
   First (accepts p) = Q p.register
 
   follows : {A : Type 0} (part from : ℕ) (add : A → Parts) (x : Reading (Progress A)) (ks : List JobPart) → 1 < part →
-      ((read : Progress A) (end : ℕ) → First (rest s ks (add read.parsed) (from + end))) → First (and_then (next part (startingAt from (addedBy add x)) (in_turn ks s)) (ended 4 s))
-  follows part from add x ks l h = next-at (λ o. First (and_then o (ended 4 s))) part from add x (in_turn ks s) (λ n at e z. absurd (omega arith)) (λ read end e. h read end)
+      ((read : Progress A) (end : ℕ) → First (rest s ks (add read.parsed) (from + end))) → First (and_then (next part (starting_at from (added_by add x)) (in_turn ks s)) (ended 4 s))
+  follows part from add x ks l h = next_at (λ o. First (and_then o (ended 4 s))) part from add x (in_turn ks s) (λ n at e z. absurd (omega arith)) (λ read end e. h read end)
 
-  from-scheme : (reg : Register) (from : ℕ) → Q reg → First (fromScheme s reg from)
-  from-scheme reg from said =
-      follows 2 from (withScheme (ofRegister reg)) (schemeInJob reg (drop from s)) (partThree ∷ partFour ∷ []) (omega arith) λ two end.
+  from_scheme_lem : (reg : Register) (from : ℕ) → Q reg → First (from_scheme s reg from)
+  from_scheme_lem reg from said =
+      follows 2 from (with_scheme (of_register reg)) (scheme_in_job reg (drop from s)) (part_three ∷ part_four ∷ []) (omega arith) λ two end.
       let sch = two.parsed in
-      follows 3 (from + end) (withCertificate (withScheme (ofRegister reg) sch)) (certificateInJob (coefficient reg) reg sch (drop (from + end) s)) (partFour ∷ []) (omega arith) λ three later.
-      follows 4 (from + end + later) (withPlan (withCertificate (withScheme (ofRegister reg) sch) three.parsed)) (planInJob reg (drop (from + end + later) s)) [] (omega arith) λ four last.
+      follows 3 (from + end) (with_certificate (with_scheme (of_register reg) sch)) (certificate_in_job (coefficient reg) reg sch (drop (from + end) s)) (part_four ∷ []) (omega arith) λ three later.
+      follows 4 (from + end + later) (with_plan (with_certificate (with_scheme (of_register reg) sch) three.parsed)) (plan_in_job reg (drop (from + end + later) s)) [] (omega arith) λ four last.
       past (ltb (from + end + later + last) (length s)) (from + end + later + last) _ said
     where
       past : (t : Bool) (at : ℕ) (p : Parts) → Q p.register → First (cond t (refuses 12 4 at) (accepts p))
@@ -180,130 +180,130 @@ module _ (s : List ℕ) (Q : Register → Type 0) where
       past false at p e = e
 
   -- where each register that is read at its front does
-  pub first : ((p : Progress Register) (end : ℕ) → registerInJob s ≡ accepted p end → Q p.parsed) → First (outcome s)
+  pub first : ((p : Progress Register) (end : ℕ) → register_in_job s ≡ accepted p end → Q p.parsed) → First (outcome s)
   unfolding outcome
-  first h = next-by First 1 (registerInJob s) (λ one end. fromScheme s one.parsed end) (λ n at x _. x) (λ one end x. from-scheme one.parsed end (h one end x))
+  first h = next_by First 1 (register_in_job s) (λ one end. from_scheme s one.parsed end) (λ n at x _. x) (λ one end x. from_scheme_lem one.parsed end (h one end x))
 
 -- it has the length that the job says
 abbrev SaidBy : List ℕ → Register → Type 0
-SaidBy s reg = reg.day_length ≡ lengthIn s
+SaidBy s reg = reg.day_length ≡ length_in s
 
-first-said : (s : List ℕ) → First s (SaidBy s) (outcome s)
-first-said s = first s (SaidBy s) (λ p end. length-said s)
+first_said : (s : List ℕ) → First s (SaidBy s) (outcome s)
+first_said s = first s (SaidBy s) (λ p end. length_said s)
 
-job-of-day : (job : List ℕ) (table : List ℤ) (supplier : ℕ) (tally : Tally) → Accepted jobCall listingCall job table supplier tally → JobOfDay jobCall listingCall job table supplier tally
-job-of-day job table supplier tally z =
-    let j = accepted-job job table supplier tally z in
+job_of_day : (job : List ℕ) (table : List ℤ) (supplier : ℕ) (tally : Tally) → Accepted job_call listing_call job table supplier tally → JobOfDay job_call listing_call job table supplier tally
+job_of_day job table supplier tally z =
+    let j = accepted_job job table supplier tally z in
     let reg = j.parts.register in
     let v = j.conditions.register in
-    let said : reg.day_length ≡ lengthIn job = rw (accepted-leads job table supplier tally z) at (first-said job) in
-    let feeds = feeds-of-day reg v j.parts.plan in
+    let said : reg.day_length ≡ length_in job = rw (accepted_leads job table supplier tally z) at (first_said job) in
+    let feeds = feeds_of_day reg v j.parts.plan in
     record {
       accepted = j;
-      keeps = keeps-length reg v job said;
+      keeps = keeps_length reg v job said;
       feeds = feeds;
-      lines = λ lent buffer h t m l. subst (λ n. m < n) said (feeds t m ((fed-lines job table supplier tally j lent buffer h t m).0 l));
+      lines = λ lent buffer h t m l. subst (λ n. m < n) said (feeds t m ((fed_lines_lem job table supplier tally j lent buffer h t m).0 l));
     }
 
 -- ---- what is refused
 
-register-refused : (s : List ℕ) → (registerCall s).number ≡ 4 → OutOfRange s (registerCall s).position
-unfolding registerByItself
-register-refused s z =
-    let e = opened-refused s (registerCall s) refl (λ n. omega arith) in
-    out_of_range s (registerCall s).position (refused-itself s (registerInJob s) (λ n. omega arith) (e ∙ ap (λ n. refused n (registerCall s).position) z))
+register_refused : (s : List ℕ) → (register_call s).number ≡ 4 → OutOfRange s (register_call s).position
+unfolding register_by_itself
+register_refused s z =
+    let e = opened_refused s (register_call s) refl (λ n. omega arith) in
+    out_of_range s (register_call s).position (refused_itself s (register_in_job s) (λ n. omega arith) (e ∙ ap (λ n. refused n (register_call s).position) z))
 
-job-refused : (job : List ℕ) (table : List ℤ) (supplier : ℕ) (tally : Tally) → (jobAnswer job table supplier tally).number ≡ 4 → (jobAnswer job table supplier tally).part ≡ 1 → OutOfRange job (jobAnswer job table supplier tally).position
-job-refused job table supplier tally =
-    of-three job table supplier tally (λ a. a.number ≡ 4 → a.part ≡ 1 → OutOfRange job a.position)
+job_refused : (job : List ℕ) (table : List ℤ) (supplier : ℕ) (tally : Tally) → (job_answer job table supplier tally).number ≡ 4 → (job_answer job table supplier tally).part ≡ 1 → OutOfRange job (job_answer job table supplier tally).position
+job_refused job table supplier tally =
+    of_three job table supplier tally (λ a. a.number ≡ 4 → a.part ≡ 1 → OutOfRange job a.position)
     (λ l z one. absurd (omega arith)) (λ l m z one. absurd (omega arith)) (λ l m. go (outcome job) refl)
   where
-    go : (x : Outcome Parts) → outcome job ≡ x → let a = afterJob x supplier tally in a.number ≡ 4 → a.part ≡ 1 → OutOfRange job a.position
-    go (refuses n part at) e z one = let f : First job (SaidBy job) (refuses n part at) = rw e at (first-said job) in out_of_range job at (f one ∙ ap (λ n. refused n at) z)
+    go : (x : Outcome Parts) → outcome job ≡ x → let a = after_job x supplier tally in a.number ≡ 4 → a.part ≡ 1 → OutOfRange job a.position
+    go (refuses n part at) e z one = let f : First job (SaidBy job) (refuses n part at) = rw e at (first_said job) in out_of_range job at (f one ∙ ap (λ n. refused n at) z)
     go (accepts p) e z one = absurd (omega arith)
 
 -- ---- each minute of each day
 
-module _ (length t m : ℕ) (day : DayLength length) (above : 1 ≤ t) (below : t ≤ maxTank) (inside : m < length) where
+module _ (length t m : ℕ) (day : DayLength length) (above : 1 ≤ t) (below : t ≤ max_tank) (inside : m < length) where
   abbrev header : Register
-  header = withLength (withBase fresh (pos 0)) length
+  header = with_length (with_base fresh (pos 0)) length
 
   -- a register with one choice
   abbrev one : Register
-  one = withChoice header t m
+  one = with_choice header t m
 
-  header-within : Within header
+  header_within : Within header
   unfolding fresh
-  header-within = length_more (withBase fresh (pos 0)) (base_more fresh fresh-within (pos 0) (omega arith) refl refl) length day refl refl
+  header_within = length_more (with_base fresh (pos 0)) (base_more fresh fresh_within (pos 0) (omega arith) refl refl) length day refl refl
 
-  one-valid : Valid one
+  one_valid : Valid one
   unfolding fresh
-  one-valid = record {
-    within = choice-more header header-within t m refl refl (record { few = omega arith; fits = record { tank-above = above; tank-within = below; minute-below = inside }; rises = inl refl }) (inl λ j l. absurd (omega arith));
-    day-length = day;
-    some-choice = omega arith;
+  one_valid = record {
+    within = choice_more header header_within t m refl refl (record { few = omega arith; fits = record { tank_above = above; tank_within = below; minute_below = inside }; rises = inl refl }) (inl λ j l. absurd (omega arith));
+    day_length = day;
+    some_choice = omega arith;
   }
 
-  one_choice : choiceAt one 0 ≡ (t, m)
+  one_choice : choice_at one 0 ≡ (t, m)
   unfolding fresh
-  one_choice = choice-new header header-within t m (omega arith)
+  one_choice = choice_new header header_within t m (omega arith)
 
   abbrev bytes : List ℕ
-  bytes = encodeBase (pos 0) ++ encodeLength length ++ encodeChoice t m ++ (0x1F ∷ [])
+  bytes = encode_base (pos 0) ++ encode_length length ++ encode_choice t m ++ (0x1F ∷ [])
 
-  one-bytes : encodeWithLength one ≡ bytes
-  unfolding fresh joinBelow
-  one-bytes = simp (append-nil, ap (λ c. c.0) one_choice, ap (λ c. c.1) one_choice)
+  one_bytes : encode_with_length one ≡ bytes
+  unfolding fresh join_below
+  one_bytes = simp (append-nil, ap (λ c. c.0) one_choice, ap (λ c. c.1) one_choice)
 
-  fed : let answer = registerCall bytes in (answer.number ≡ 0) × ((answer.register.choices ≡ 1) × ((tank answer.register 0 ≡ t) × (minute answer.register 0 ≡ m)))
+  fed : let answer = register_call bytes in (answer.number ≡ 0) × ((answer.register.choices ≡ 1) × ((tank answer.register 0 ≡ t) × (minute answer.register 0 ≡ m)))
   unfolding fresh
-  fed = rw (encoding-accepted bytes one one-valid (rw one-bytes at (encodes-with one))) (refl, (refl, (ap (λ c. c.0) one_choice, ap (λ c. c.1) one_choice)))
+  fed = rw (encoding_accepted bytes one one_valid (rw one_bytes at (encodes_with one))) (refl, (refl, (ap (λ c. c.0) one_choice, ap (λ c. c.1) one_choice)))
 
 -- ---- a length that is none of the three
 
-length-refused : (base : ℤ) (length : ℕ) (rest : List ℕ) → nat_abs base ≤ maxBase → length < 2 ^ 16 → (DayLength length → ⊥) → registerCall (encodeBase base ++ encodeLength length ++ rest) ≡ R.refusedAnswer 4 5
-unfolding registerByItself
-length-refused base length rest b l d = ap registerAnswer (itself-refused (encodeBase base ++ encodeLength length ++ rest) (other_length base length rest b l d))
+length_refused : (base : ℤ) (length : ℕ) (rest : List ℕ) → nat_abs base ≤ max_base → length < 2 ^ 16 → (DayLength length → ⊥) → register_call (encode_base base ++ encode_length length ++ rest) ≡ R.refused_answer 4 5
+unfolding register_by_itself
+length_refused base length rest b l d = ap register_answer (itself_refused (encode_base base ++ encode_length length ++ rest) (other_length base length rest b l d))
 
 -- ---- bytes that say no length
 
-usual : (s : List ℕ) → (SaysLength s → ⊥) → UsualDay (registerCall s)
+usual : (s : List ℕ) → (SaysLength s → ⊥) → UsualDay (register_call s)
 unfolding fresh
 usual s none = record {
-  accepted = λ z. usual-day s none (opened s (registerCall s) refl z).reads;
-  refused = λ d. ap (λ x. (registerAnswer x).register.day_length) (opened-refused s (registerCall s) refl d);
+  accepted = λ z. usual_day_lem s none (opened s (register_call s) refl z).reads;
+  refused = λ d. ap (λ x. (register_answer x).register.day_length) (opened_refused s (register_call s) refl d);
 }
 
-pub lengths-kept : LengthsKept registerCall costCall jobCall listingCall
-lengths-kept = record {
-  of-register = register-keeps;
-  of-plan = λ register plan b z. let w = windows-kept.of-plan register plan b z in (w.0, w.1, w.2, feeds-of-day (registerCall register).register (register-valid register w.0) w.1);
-  of-job = job-of-day;
-  nothing-more = λ register reg x.
-      let own = accepted-valid register reg x in
-      let long = accepted-valid (encodeRegister (setLength reg longDay)) (setLength reg longDay) (canonical (setLength reg longDay)) in (
-        (λ e. let v = own.0 e in (long.1 (longest-valid reg v), v.day-length, of-day reg v)),
-        (λ (e, d, o). own.1 (own-valid reg (long.0 e) d o)),
+pub lengths_kept : LengthsKept register_call cost_call job_call listing_call
+lengths_kept = record {
+  of_register = register_keeps;
+  of_plan = λ register plan b z. let w = windows_kept.of_plan register plan b z in (w.0, w.1, w.2, feeds_of_day (register_call register).register (register_valid register w.0) w.1);
+  of_job = job_of_day;
+  nothing_more = λ register reg x.
+      let own = accepted_valid register reg x in
+      let long = accepted_valid (encode_register (set_length reg long_day)) (set_length reg long_day) (canonical (set_length reg long_day)) in (
+        (λ e. let v = own.0 e in (long.1 (longest_valid reg v), v.day_length, of_day reg v)),
+        (λ (e, d, o). own.1 (own_valid reg (long.0 e) d o)),
       );
-  refused-for = register-refused;
-  refused-in-job = job-refused;
-  each-minute = fed;
-  other_length = length-refused;
-  said-or-not = λ reg day.
-      let said = accepted-valid (encodeWithLength reg) reg (encodes-with reg) in
-      let not-said = accepted-valid (encodeWithoutLength reg) reg (encodes-without reg day) in
-      ((λ e. not-said.1 (said.0 e)), λ e. said.1 (not-said.0 e));
+  refused_for = register_refused;
+  refused_in_job = job_refused;
+  each_minute = fed;
+  other_length = length_refused;
+  said_or_not = λ reg day.
+      let said = accepted_valid (encode_with_length reg) reg (encodes_with reg) in
+      let not_said = accepted_valid (encode_without_length reg) reg (encodes_without reg day) in
+      ((λ e. not_said.1 (said.0 e)), λ e. said.1 (not_said.0 e));
   usual = usual;
-  read-as-before = λ register none no-row. ap registerAnswer (as-before-lengths register none no-row);
+  read_as_before = λ register none no_row_lem. ap register_answer (as_before_lengths register none no_row_lem);
 }
 
-pub kept-before-lengths : AsBeforeLengths
-kept-before-lengths = record {
-  in-job = as-before-lengths-in-job;
-  by_itself = as-before-lengths;
-  part-1 = λ register reg none.
-      let one = unsaid (withoutRows reg) register none in (
-        (λ p. let (day, e) = one.0 p.bytes in (before-lengths reg p.conditions day, day, e ∙ bytes-before reg)),
-        (λ (b, day, e). record { conditions = now-valid reg b day; bytes = one.1 (day, e ∙ sym (bytes-before reg)) }),
+pub kept_before_lengths : AsBeforeLengths
+kept_before_lengths = record {
+  in_job = as_before_lengths_in_job;
+  by_itself = as_before_lengths;
+  part_1 = λ register reg none.
+      let one = unsaid (without_rows reg) register none in (
+        (λ p. let (day, e) = one.0 p.bytes in (before_lengths reg p.conditions day, day, e ∙ bytes_before reg)),
+        (λ (b, day, e). record { conditions = now_valid reg b day; bytes = one.1 (day, e ∙ sym (bytes_before reg)) }),
       );
 }

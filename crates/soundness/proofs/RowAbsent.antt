@@ -14,56 +14,56 @@ use mir.Facts.{Fits-of_z}
 use Rattle.integers.proofs.Diff.{diff₁, diffs}
 use Rattle.integers.proofs.Lists.{flag}
 use Rattle.integers.proofs.Parts.{orders}
-use Rattle.integers.proofs.Machine.{ltZ-true, read-signed, fits_signed}
+use Rattle.integers.proofs.Machine.{lt_z-true, read_signed, fits_signed}
 use Rattle.wire.specs.Number.{bytes_of}
-use Rattle.wire.specs.Checks.{refusal, commandChecks}
-use Rattle.wire.specs.Part.{Part, refused, size, checksAt, readPart}
+use Rattle.wire.specs.Checks.{refusal, command_checks}
+use Rattle.wire.specs.Part.{Part, refused, size, checks_at, read_part}
 use Rattle.wire.specs.Rows.{Progress, row_of}
-use Rattle.wire.specs.Encoding.{Command, Fit, Allowed, fields, encodeCommand, encode, afterCommand}
-use Rattle.wire.proofs.Part.{readFrom-refused}
-use Rattle.wire.proofs.Encoding.{commandAt, commandAt-reads, length-command, after_first, reads-through}
-use Rattle.wire.proofs.Outcome.{itself-refused}
-use Rattle.forms.specs.Table.{tableNumbers}
+use Rattle.wire.specs.Encoding.{Command, Fit, Allowed, fields, encode_command, encode, after_command}
+use Rattle.wire.proofs.Part.{read_from_refused}
+use Rattle.wire.proofs.Encoding.{command_at, command_at_reads, length_command, after_first, reads_through}
+use Rattle.wire.proofs.Outcome.{itself_refused}
+use Rattle.forms.specs.Table.{table_numbers}
 use Rattle.register.specs.declared.Register.{Register}
 use Rattle.register.specs.Register.{coefficient}
 use Rattle.scheme.specs.declared.Scheme.{Scheme}
-use Rattle.scheme.proofs.Opened.{opened-encodings}
-use Rattle.certificate.specs.Limits.{maxRowMultiplier}
+use Rattle.scheme.proofs.Opened.{opened_encodings}
+use Rattle.certificate.specs.Limits.{max_row_multiplier}
 use Rattle.certificate.specs.Certificate.{Certificate}
-use Rattle.certificate.specs.Rules.{byKey, arity, ruleOf}
-use Rattle.certificate.specs.Format.{multiplierChecks, certificatePart, commandsInJob}
-use Rattle.certificate.specs.Encoding.{encodeScale, encodeMultiplier}
-use Rattle.certificate.proofs.Entries.{scaleCommand}
-use Rattle.certificate.proofs.Passes.{scale-iff}
-use Rattle.bound.specs.Format.{dominanceChecked, certificateInJob, certificateByItself}
-use Rattle.bound.specs.Check.{checkAnswer}
-use Rattle.bound.proofs.Answers.{afterCertificate, parts-accepted}
+use Rattle.certificate.specs.Rules.{by_key, arity, rule_of}
+use Rattle.certificate.specs.Format.{multiplier_checks, certificate_part, commands_in_job}
+use Rattle.certificate.specs.Encoding.{encode_scale, encode_multiplier}
+use Rattle.certificate.proofs.Entries.{scale_command}
+use Rattle.certificate.proofs.Passes.{scale_iff}
+use Rattle.bound.specs.Format.{dominance_checked, certificate_in_job, certificate_by_itself}
+use Rattle.bound.specs.Check.{check_answer}
+use Rattle.bound.proofs.Answers.{after_certificate, parts_accepted}
 use Rattle.soundness.specs.Parts.{Part1, Part2}
-use Rattle.soundness.specs.Rows.{RowAbsent, rowMultiplier, rowAbsent}
+use Rattle.soundness.specs.Rows.{RowAbsent, row_multiplier, row_absent}
 
 -- a command that stands at a position and where it may is refused by its own checks
-stands-refused : {S : Type 0} (P : Part S) (s : List ℕ) (read : S) (at : ℕ) (c : Command) → commandAt P s at ≡ c → P.here read c.byte ≡ true → size P c.byte ≤ length s - at →
-    refusal (checksAt P s read at) ≡ refusal (P.checks read c.byte c.operands)
-unfolding checksAt commandChecks refusal
-stands-refused P s read at c e =
-    subst (λ (c : Command). P.here read c.byte ≡ true → size P c.byte ≤ length s - at → refusal (checksAt P s read at) ≡ refusal (P.checks read c.byte c.operands)) e
+stands_refused : {S : Type 0} (P : Part S) (s : List ℕ) (read : S) (at : ℕ) (c : Command) → command_at P s at ≡ c → P.here read c.byte ≡ true → size P c.byte ≤ length s - at →
+    refusal (checks_at P s read at) ≡ refusal (P.checks read c.byte c.operands)
+unfolding checks_at command_checks refusal
+stands_refused P s read at c e =
+    subst (λ (c : Command). P.here read c.byte ≡ true → size P c.byte ≤ length s - at → refusal (checks_at P s read at) ≡ refusal (P.checks read c.byte c.operands)) e
     (λ h l. rw (h, le-ltb _ _ l))
 
-not-less : (a b : ℤ) → b ≤ℤ a → lt_z a b ≡ false
-not-less a b h = flag (lt_z a b) (λ t. let x = ltZ-true a b t in absurd (omega (arith, orders))) (λ t. t)
+not_less : (a b : ℤ) → b ≤ℤ a → lt_z a b ≡ false
+not_less a b h = flag (lt_z a b) (λ t. let x = lt_z-true a b t in absurd (omega (arith, orders))) (λ t. t)
 
-from-least : (m : ℤ) → nat_abs m ≤ maxRowMultiplier → neg_ℤ (pos maxRowMultiplier) ≤ℤ m
-from-least = diff₁ _ λ p q. simp diffs (omega arith)
+from_least : (m : ℤ) → nat_abs m ≤ max_row_multiplier → neg_ℤ (pos max_row_multiplier) ≤ℤ m
+from_least = diff₁ _ λ p q. simp diffs (omega arith)
 
-to-most : (m : ℤ) → nat_abs m ≤ maxRowMultiplier → m ≤ℤ pos maxRowMultiplier
-to-most = diff₁ _ λ p q. simp diffs (omega arith)
+to_most : (m : ℤ) → nat_abs m ≤ max_row_multiplier → m ≤ℤ pos max_row_multiplier
+to_most = diff₁ _ λ p q. simp diffs (omega arith)
 
 module _ (reg : Register) (sch : Scheme) (s : List ℕ) (a : RowAbsent reg s) where
   abbrev P : Part (Progress Certificate)
-  P = certificatePart reg sch
+  P = certificate_part reg sch
 
   abbrev first : Command
-  first = scaleCommand a.scale a.target
+  first = scale_command a.scale a.target
 
   abbrev second : Command
   second = record { byte = 0x3B; operands = a.row ∷ a.variable ∷ of_z w64 a.m ∷ [] }
@@ -71,46 +71,46 @@ module _ (reg : Register) (sch : Scheme) (s : List ℕ) (a : RowAbsent reg s) wh
   wide : (z : ℤ) → nat_abs z < 2 ^ 63 → of_z w64 z < 256 ^ 8
   wide z l = (Fits-of_z (fits_signed w64 z l)).fits
 
-  first-fits : Fit (P.widths 0x30) first.operands
+  first_fits : Fit (P.widths 0x30) first.operands
   unfolding row_of
-  first-fits = (omega (arith, a.scale-within), (wide a.target (omega (arith, a.target-within)), tt))
+  first_fits = (omega (arith, a.scale_within), (wide a.target (omega (arith, a.target_within)), tt))
 
-  second-fits : Fit (P.widths 0x3B) second.operands
-  unfolding row_of arity byKey
-  second-fits = (a.row-byte, (a.variable-byte, (wide a.m (omega (arith, a.m-within)), tt)))
+  second_fits : Fit (P.widths 0x3B) second.operands
+  unfolding row_of arity by_key
+  second_fits = (a.row_byte, (a.variable_byte, (wide a.m (omega (arith, a.m_within)), tt)))
 
-  first-allowed : Allowed P P.start first
+  first_allowed : Allowed P P.start first
   unfolding row_of
-  first-allowed = record {
+  first_allowed = record {
     byte = omega arith;
     here = refl;
-    operands = first-fits;
+    operands = first_fits;
     passes =
-        rw (read-signed w64 a.target (omega (arith, a.target-within)))
-        ((scale-iff a.scale a.target).1 (record { scale-above = a.scale-above; scale-within = a.scale-within; target-within = a.target-within }));
+        rw (read_signed w64 a.target (omega (arith, a.target_within)))
+        ((scale_iff a.scale a.target).1 (record { scale_above = a.scale_above; scale_within = a.scale_within; target_within = a.target_within }));
   }
 
-  first-bytes : encode P (first ∷ []) ≡ encodeScale a.scale a.target
-  unfolding encode flat_map encodeCommand encodeScale row_of fields
-  first-bytes = rw (append-nil, append-nil)
+  first_bytes : encode P (first ∷ []) ≡ encode_scale a.scale a.target
+  unfolding encode flat_map encode_command encode_scale row_of fields
+  first_bytes = rw (append-nil, append-nil)
 
-  second-bytes : encodeCommand P second ≡ encodeMultiplier (rowMultiplier a.row a.variable a.m)
-  unfolding flat_map encodeCommand encodeMultiplier row_of fields arity byKey
-  second-bytes = simp (append-nil, append_assoc)
+  second_bytes : encode_command P second ≡ encode_multiplier (row_multiplier a.row a.variable a.m)
+  unfolding flat_map encode_command encode_multiplier row_of fields arity by_key
+  second_bytes = simp (append-nil, append_assoc)
 
   -- what has been read before it
   abbrev read : Progress Certificate
-  read = afterCommand P P.start first
+  read = after_command P P.start first
 
   abbrev rest : List ℕ
-  rest = encodeCommand P second ++ a.rest
+  rest = encode_command P second ++ a.rest
 
   whole : s ≡ encode P (first ∷ []) ++ rest
-  whole = a.bytes ∙ rw (first-bytes, second-bytes)
+  whole = a.bytes ∙ rw (first_bytes, second_bytes)
 
   long : length (encode P (first ∷ [])) ≡ 13
-  unfolding encodeScale bytes_of
-  long = ap length first-bytes
+  unfolding encode_scale bytes_of
+  long = ap length first_bytes
 
   there : drop 13 s ≡ rest
   there = after_first s 0 13 (encode P (first ∷ [])) rest long whole
@@ -119,29 +119,29 @@ module _ (reg : Register) (sch : Scheme) (s : List ℕ) (a : RowAbsent reg s) wh
   unfolding row_of
   room =
       let l : length s ≡ 13 + length rest = ap length whole ∙ length-append (encode P (first ∷ [])) rest ∙ ap (λ n. n + length rest) long in
-      omega (arith, l, length-append (encodeCommand P second) a.rest, length-command P second second-fits)
+      omega (arith, l, length-append (encode_command P second) a.rest, length_command P second second_fits)
 
-  own-5 : refusal (P.checks read 0x3B second.operands) ≡ 5
-  unfolding row_of multiplierChecks refusal ruleOf byKey arity
-  own-5 =
+  own_5 : refusal (P.checks read 0x3B second.operands) ≡ 5
+  unfolding row_of multiplier_checks refusal rule_of by_key arity
+  own_5 =
       rw (
-        read-signed w64 a.m (omega (arith, a.m-within)),
-        not-less a.m (neg_ℤ (pos maxRowMultiplier)) (from-least a.m a.m-within),
-        not-less (pos maxRowMultiplier) a.m (to-most a.m a.m-within),
+        read_signed w64 a.m (omega (arith, a.m_within)),
+        not_less a.m (neg_ℤ (pos max_row_multiplier)) (from_least a.m a.m_within),
+        not_less (pos max_row_multiplier) a.m (to_most a.m a.m_within),
         le-ltb a.row reg.rows a.absent,
       )
 
-  commands-5 : commandsInJob reg sch s ≡ refused 5 13
-  unfolding commandsInJob readPart row_of
-  commands-5 =
-      reads-through P (first ∷ []) s P.start 0 read rest (first-allowed, (refl, refl)) whole
-      ∙ rw long (readFrom-refused P s read 13 5 (omega (arith, room)) (stands-refused P s read 13 second (commandAt-reads P s 13 second a.rest second-fits there) refl room ∙ own-5) (λ z. omega arith))
+  commands_5 : commands_in_job reg sch s ≡ refused 5 13
+  unfolding commands_in_job read_part row_of
+  commands_5 =
+      reads_through P (first ∷ []) s P.start 0 read rest (first_allowed, (refl, refl)) whole
+      ∙ rw long (read_from_refused P s read 13 5 (omega (arith, room)) (stands_refused P s read 13 second (command_at_reads P s 13 second a.rest second_fits there) refl room ∙ own_5) (λ z. omega arith))
 
-  part-5 : (c : ℕ → ℤ) → certificateByItself c reg sch s ≡ refused 5 13
-  unfolding certificateByItself certificateInJob dominanceChecked
-  part-5 c = itself-refused s (rw commands-5)
+  part_5 : (c : ℕ → ℤ) → certificate_by_itself c reg sch s ≡ refused 5 13
+  unfolding certificate_by_itself certificate_in_job dominance_checked
+  part_5 c = itself_refused s (rw commands_5)
 
-pub row-absent : (t s k : List ℕ) (reg : Register) (sch : Scheme) (table : List ℤ) → tableNumbers ≤ length table → Part1 t reg → Part2 reg s sch → RowAbsent reg k → checkAnswer t s k table ≡ rowAbsent
-row-absent t s k reg sch table l p q a =
-    let o = opened-encodings t s reg sch p.conditions p.bytes q.conditions q.bytes in
-    sym (parts-accepted t s k table l reg sch o).answers ∙ ap afterCertificate (part-5 reg sch k a (coefficient reg))
+pub row_absent_lem : (t s k : List ℕ) (reg : Register) (sch : Scheme) (table : List ℤ) → table_numbers ≤ length table → Part1 t reg → Part2 reg s sch → RowAbsent reg k → check_answer t s k table ≡ row_absent
+row_absent_lem t s k reg sch table l p q a =
+    let o = opened_encodings t s reg sch p.conditions p.bytes q.conditions q.bytes in
+    sym (parts_accepted t s k table l reg sch o).answers ∙ ap after_certificate (part_5 reg sch k a (coefficient reg))

@@ -4,33 +4,33 @@ use mathlib.Core.Path.{◌≡◌, refl, sym, ◌∙◌, ap}
 use mathlib.Core.Logic.{inl, inr, ⊎_elim}
 use mathlib.Core.List.{List, ◌++◌, append-nil}
 use lib.IntN.{ℤ}
-use Rattle.integers.specs.Lists.{joinBelow}
+use Rattle.integers.specs.Lists.{join_below}
 use Rattle.wire.specs.Part.{Reading, refused, accepted}
 use Rattle.wire.specs.Rows.{Progress}
 use Rattle.register.specs.declared.Register.{Register}
-use Rattle.register.specs.Register.{fresh, setRows}
-use Rattle.register.specs.Format.{registerByItself}
-use Rattle.register.specs.Answer.{registerAnswer}
+use Rattle.register.specs.Register.{fresh, set_rows}
+use Rattle.register.specs.Format.{register_by_itself}
+use Rattle.register.specs.Answer.{register_answer}
 use Rattle.register.specs.Valid.{Valid}
-use Rattle.register.specs.Encoding.{encodeBase, encodeLength, encodeWithLength, encodeWithoutLength, encodeRegister, SaysRow}
+use Rattle.register.specs.Encoding.{encode_base, encode_length, encode_with_length, encode_without_length, encode_register, SaysRow}
 use Rattle.register.proofs.Canonical.{canonical}
-use Rattle.register.proofs.BeforeRows.{as-before-rows-in-job, as-before-rows, no-rows}
-use Rattle.plan.proofs.Fits.{every-fits}
-use Rattle.soundness.specs.Calls.{registerCall, costCall, checkCall, jobCall, listingCall}
-use Rattle.soundness.specs.Windows.{withoutRows}
-use Rattle.soundness.specs.Rows.{RowsRight, ValidBeforeRows, afterBeforeRows, RowsKept, AsBeforeRows}
+use Rattle.register.proofs.BeforeRows.{as_before_rows_in_job, as_before_rows, no_rows}
+use Rattle.plan.proofs.Fits.{every_fits}
+use Rattle.soundness.specs.Calls.{register_call, cost_call, check_call, job_call, listing_call}
+use Rattle.soundness.specs.Windows.{without_rows}
+use Rattle.soundness.specs.Rows.{RowsRight, ValidBeforeRows, after_before_rows, RowsKept, AsBeforeRows}
 use Rattle.soundness.proofs.Written.{forms}
-use Rattle.soundness.proofs.Windows.{register-valid, accepted-valid, rows-none, windows-kept}
-use Rattle.soundness.proofs.RowForms.{rows-named}
-use Rattle.soundness.proofs.Misfit.{misfit, names-first, misfit-in-job, only-misfit, only-misfit-in-job}
-use Rattle.soundness.proofs.RowAbsent.{row-absent}
-use Rattle.soundness.proofs.Feedings.{job-fits}
+use Rattle.soundness.proofs.Windows.{register_valid, accepted_valid, rows_none, windows_kept}
+use Rattle.soundness.proofs.RowForms.{rows_named}
+use Rattle.soundness.proofs.Misfit.{misfit, names_first, misfit_in_job, only_misfit, only_misfit_in_job}
+use Rattle.soundness.proofs.RowAbsent.{row_absent_lem}
+use Rattle.soundness.proofs.Feedings.{job_fits}
 
 -- ---- the same register with other rows
 
 module _ (r : Register) (v : Valid r) (k : ℕ) (totals entries : List ℤ) where
-  with-rows : RowsRight (setRows r k totals entries) → Valid (setRows r k totals entries)
-  with-rows w = record {
+  with_rows : RowsRight (set_rows r k totals entries) → Valid (set_rows r k totals entries)
+  with_rows w = record {
     within = record {
       base = v.within.base;
       day = v.within.day;
@@ -40,35 +40,35 @@ module _ (r : Register) (v : Valid r) (k : ℕ) (totals entries : List ℤ) wher
       masks = v.within.masks;
       coefficients = v.within.coefficients;
       terms = v.within.terms;
-      window-tanks = v.within.window-tanks;
-      window-froms = v.within.window-froms;
-      window-tos = v.within.window-tos;
+      window_tanks = v.within.window_tanks;
+      window_froms = v.within.window_froms;
+      window_tos = v.within.window_tos;
       windows = v.within.windows;
-      row-totals = w.totals;
-      row-entries = w.entries;
+      row_totals = w.totals;
+      row_entries = w.entries;
       rows = w.rows;
-      may-feed = v.within.may-feed;
+      may_feed = v.within.may_feed;
     };
-    day-length = v.day-length;
-    some-choice = v.some-choice;
+    day_length = v.day_length;
+    some_choice = v.some_choice;
   }
 
 module _ (r : Register) where
   right : Valid r → RowsRight r
-  right v = record { totals = v.within.row-totals; entries = v.within.row-entries; rows = v.within.rows }
+  right v = record { totals = v.within.row_totals; entries = v.within.row_entries; rows = v.within.rows }
 
   -- without its rows, and with them again
 
-  none-valid : Valid r → Valid (withoutRows r)
-  none-valid v = with-rows r v 0 _ _ (rows-none r)
+  none_valid : Valid r → Valid (without_rows r)
+  none_valid v = with_rows r v 0 _ _ (rows_none r)
 
-  own-valid : Valid (withoutRows r) → RowsRight r → Valid r
-  own-valid v = with-rows (withoutRows r) v r.rows r.row_totals r.row_entries
+  own_valid : Valid (without_rows r) → RowsRight r → Valid r
+  own_valid v = with_rows (without_rows r) v r.rows r.row_totals r.row_entries
 
   -- the conditions before there were rows
 
-  before-none : Valid (withoutRows r) → ValidBeforeRows r
-  before-none v = record {
+  before_none : Valid (without_rows r) → ValidBeforeRows r
+  before_none v = record {
     base = v.within.base;
     tanks = v.within.tanks;
     minutes = v.within.minutes;
@@ -76,92 +76,92 @@ module _ (r : Register) where
     masks = v.within.masks;
     coefficients = v.within.coefficients;
     terms = v.within.terms;
-    window-tanks = v.within.window-tanks;
-    window-froms = v.within.window-froms;
-    window-tos = v.within.window-tos;
+    window_tanks = v.within.window_tanks;
+    window_froms = v.within.window_froms;
+    window_tos = v.within.window_tos;
     windows = v.within.windows;
-    may-feed = v.within.may-feed;
-    day-length = v.day-length;
-    some-choice = v.some-choice;
+    may_feed = v.within.may_feed;
+    day_length = v.day_length;
+    some_choice = v.some_choice;
   }
 
-  with_none : ValidBeforeRows r → Valid (withoutRows r)
-  with_none b = let k = rows-none r in record {
+  with_none : ValidBeforeRows r → Valid (without_rows r)
+  with_none b = let k = rows_none r in record {
     within = record {
       base = b.base;
-      day = inr b.day-length;
+      day = inr b.day_length;
       tanks = b.tanks;
       minutes = b.minutes;
       choices = b.choices;
       masks = b.masks;
       coefficients = b.coefficients;
       terms = b.terms;
-      window-tanks = b.window-tanks;
-      window-froms = b.window-froms;
-      window-tos = b.window-tos;
+      window_tanks = b.window_tanks;
+      window_froms = b.window_froms;
+      window_tos = b.window_tos;
       windows = b.windows;
-      row-totals = k.totals;
-      row-entries = k.entries;
+      row_totals = k.totals;
+      row_entries = k.entries;
       rows = k.rows;
-      may-feed = b.may-feed;
+      may_feed = b.may_feed;
     };
-    day-length = b.day-length;
-    some-choice = b.some-choice;
+    day_length = b.day_length;
+    some_choice = b.some_choice;
   }
 
   -- and the bytes
 
-  with-length : encodeWithLength (withoutRows r) ≡ afterBeforeRows (encodeBase r.base ++ encodeLength r.day_length) r
-  unfolding joinBelow
-  with-length = simp append-nil
+  with_length : encode_with_length (without_rows r) ≡ after_before_rows (encode_base r.base ++ encode_length r.day_length) r
+  unfolding join_below
+  with_length = simp append-nil
 
-  without-length : encodeWithoutLength (withoutRows r) ≡ afterBeforeRows (encodeBase r.base) r
-  unfolding joinBelow
-  without-length = simp append-nil
+  without_length : encode_without_length (without_rows r) ≡ after_before_rows (encode_base r.base) r
+  unfolding join_below
+  without_length = simp append-nil
 
 -- ---- bytes that say no row
 
 module _ (s : List ℕ) (none : SaysRow s → ⊥) where
-  answered-without : withoutRows (registerCall s).register ≡ (registerCall s).register
+  answered_without : without_rows (register_call s).register ≡ (register_call s).register
   unfolding fresh
-  answered-without = go (registerByItself s) refl
+  answered_without = go (register_by_itself s) refl
     where
-      go : (x : Reading (Progress Register)) → registerByItself s ≡ x → withoutRows (registerAnswer x).register ≡ (registerAnswer x).register
+      go : (x : Reading (Progress Register)) → register_by_itself s ≡ x → without_rows (register_answer x).register ≡ (register_answer x).register
       go (refused n at) e = refl
-      go (accepted p end) e = ap (λ w. setRows p.parsed w.0 w.1 w.2) (sym (no-rows s none e))
+      go (accepted p end) e = ap (λ w. set_rows p.parsed w.0 w.1 w.2) (sym (no_rows s none e))
 
 -- ---- the promises
 
-pub rows-kept : RowsKept registerCall costCall checkCall jobCall listingCall
-rows-kept = record {
-  of-register = λ register z. right (registerCall register).register (register-valid register z);
-  nothing-more = λ register reg x.
-      let own = accepted-valid register reg x in
-      let none = accepted-valid (encodeRegister (withoutRows reg)) (withoutRows reg) (canonical (withoutRows reg)) in (
-        (λ e. let v = own.0 e in (none.1 (none-valid reg v), right reg v)),
-        (λ (e, w). own.1 (own-valid reg (none.0 e) w)),
+pub rows_kept : RowsKept register_call cost_call check_call job_call listing_call
+rows_kept = record {
+  of_register = λ register z. right (register_call register).register (register_valid register z);
+  nothing_more = λ register reg x.
+      let own = accepted_valid register reg x in
+      let none = accepted_valid (encode_register (without_rows reg)) (without_rows reg) (canonical (without_rows reg)) in (
+        (λ e. let v = own.0 e in (none.1 (none_valid reg v), right reg v)),
+        (λ (e, w). own.1 (own_valid reg (none.0 e) w)),
       );
-  of-plan = λ register plan b z. let w = windows-kept.of-plan register plan b z in (w.0, w.1, w.2, w.2.conditions.fits);
-  of-job = job-fits;
+  of_plan = λ register plan b z. let w = windows_kept.of_plan register plan b z in (w.0, w.1, w.2, w.2.conditions.fits);
+  of_job = job_fits;
   misfit = misfit;
-  misfit-in-job = misfit-in-job;
-  only-misfit = only-misfit;
-  only-misfit-in-job = only-misfit-in-job;
-  names-first = names-first;
-  row-absent = row-absent;
-  rows-named = rows-named;
-  every-plan = every-fits;
-  none-said = λ register none. sym (ap (λ r. r.rows) (answered-without register none));
-  read-as-before = λ register none. (ap registerAnswer (as-before-rows register none), answered-without register none);
+  misfit_in_job = misfit_in_job;
+  only_misfit = only_misfit;
+  only_misfit_in_job = only_misfit_in_job;
+  names_first = names_first;
+  row_absent = row_absent_lem;
+  rows_named = rows_named;
+  every_plan = every_fits;
+  none_said = λ register none. sym (ap (λ r. r.rows) (answered_without register none));
+  read_as_before = λ register none. (ap register_answer (as_before_rows register none), answered_without register none);
 }
 
-pub kept-before-rows : AsBeforeRows
-kept-before-rows = record {
-  in-job = as-before-rows-in-job;
-  by_itself = as-before-rows;
-  part-1 = λ register reg.
-      let (to, from) = forms (withoutRows reg) register in (
-        (λ p. (before-none reg p.conditions, ⊎_elim (λ e. inl (e ∙ with-length reg)) (λ (day, e). inr (day, e ∙ without-length reg)) (to p.bytes))),
-        (λ (b, e). record { conditions = with_none reg b; bytes = from (⊎_elim (λ e. inl (e ∙ sym (with-length reg))) (λ (day, e). inr (day, e ∙ sym (without-length reg))) e) }),
+pub kept_before_rows : AsBeforeRows
+kept_before_rows = record {
+  in_job = as_before_rows_in_job;
+  by_itself = as_before_rows;
+  part_1 = λ register reg.
+      let (to, from) = forms (without_rows reg) register in (
+        (λ p. (before_none reg p.conditions, ⊎_elim (λ e. inl (e ∙ with_length reg)) (λ (day, e). inr (day, e ∙ without_length reg)) (to p.bytes))),
+        (λ (b, e). record { conditions = with_none reg b; bytes = from (⊎_elim (λ e. inl (e ∙ sym (with_length reg))) (λ (day, e). inr (day, e ∙ sym (without_length reg))) e) }),
       );
 }

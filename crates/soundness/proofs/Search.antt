@@ -14,56 +14,56 @@ use Rattle.wire.specs.Part.{accepted}
 use Rattle.wire.proofs.Accepting.{reached}
 use Rattle.register.specs.declared.Register.{Register}
 use Rattle.register.specs.Register.{coefficient}
-use Rattle.register.specs.Format.{registerByItself}
-use Rattle.register.specs.Answer.{registerAnswer}
-use Rattle.register.proofs.Accept.{encoding-accepted, accepted-iff}
+use Rattle.register.specs.Format.{register_by_itself}
+use Rattle.register.specs.Answer.{register_answer}
+use Rattle.register.proofs.Accept.{encoding_accepted, accepted_iff}
 use Rattle.register.proofs.Opened.{Opened}
 use Rattle.plan.specs.Plan as P
 use Rattle.plan.specs.Fits.{Fits, fits}
 use Rattle.plan.specs.Valid.{Valid}
 use Rattle.plan.specs.Encoding.{Encodes}
-use Rattle.plan.specs.Answer.{acceptedCost, costAnswer}
-use Rattle.plan.proofs.Accept.{whole-accepted}
-use Rattle.plan.proofs.Answers.{costed, costed-valid}
-use Rattle.plan.proofs.Fits.{register-fits, every-fits}
+use Rattle.plan.specs.Answer.{accepted_cost, cost_answer}
+use Rattle.plan.proofs.Accept.{whole_accepted}
+use Rattle.plan.proofs.Answers.{costed, costed_valid}
+use Rattle.plan.proofs.Fits.{register_fits, every_fits}
 use Rattle.bound.specs.Bound.{bound}
-use Rattle.bound.specs.Check.{checkAnswer}
-use Rattle.bound.proofs.Accept.{whole-valid}
+use Rattle.bound.specs.Check.{check_answer}
+use Rattle.bound.proofs.Accept.{whole_valid}
 use Rattle.bound.proofs.Answers.{checked}
-use Rattle.bound.proofs.Bound.{plan-bound}
+use Rattle.bound.proofs.Bound.{plan_bound}
 use Rattle.search.specs.Walk.{Best}
-use Rattle.search.specs.Answer.{search, searchAnswer}
-use Rattle.search.proofs.Bound.{sum-full}
-use Rattle.search.proofs.Under.{under-sum}
-use Rattle.search.proofs.Members.{term-fed, term-undecided, term-unfed}
+use Rattle.search.specs.Answer.{search, search_answer}
+use Rattle.search.proofs.Bound.{sum_full}
+use Rattle.search.proofs.Under.{under_sum}
+use Rattle.search.proofs.Members.{term_fed, term_undecided, term_unfed}
 use Rattle.search.proofs.Least.{Least, NoneFits}
-use Rattle.search.proofs.Cheapest.{found-least, found-met, found-none, none-visits, found-visits}
-use Rattle.search.proofs.Searched.{Searched, searched, within-limit, limit-iff, none-iff}
+use Rattle.search.proofs.Cheapest.{found_least, found_met, found_none, none_visits, found_visits}
+use Rattle.search.proofs.Searched.{Searched, searched, within_limit, limit_iff, none_iff}
 use Rattle.search.proofs.Searched as Rule
-use Rattle.soundness.specs.Calls.{searchCall, costCall, checkCall}
+use Rattle.soundness.specs.Calls.{search_call, cost_call, check_call}
 use Rattle.soundness.specs.Parts.{Part1, NoneFit}
-use Rattle.soundness.specs.Demand3.{registerOf}
+use Rattle.soundness.specs.Demand3.{register_of}
 use Rattle.soundness.proofs.Windows.{keeps}
-use Rattle.soundness.proofs.DayLengths.{feeds-of-day}
-use Rattle.soundness.specs.Search.{visitsOf, limitPassed, noneFits, Cheapest, CheapestEvery, SearchSound, SumSound}
+use Rattle.soundness.proofs.DayLengths.{feeds_of_day}
+use Rattle.soundness.specs.Search.{visits_of, limit_passed, none_fits, Cheapest, CheapestEvery, SearchSound, SumSound}
 
 -- the register that is read is the one answered
-read_is : (t : List ℕ) (reg : Register) → registerByItself t ≡ accepted (reached 0x1F reg) (length t) → registerOf t ≡ reg
-read_is t reg e = ap (λ x. (registerAnswer x).register) e
+read_is : (t : List ℕ) (reg : Register) → register_by_itself t ≡ accepted (reached 0x1F reg) (length t) → register_of t ≡ reg
+read_is t reg e = ap (λ x. (register_answer x).register) e
 
 -- the cost call, of a register that is read and a plan of its choices
-cost-read : (t bytes : List ℕ) (reg : Register) (plan : ℕ) → Opened t reg → Valid reg plan → Encodes reg plan bytes →
-    costAnswer t bytes ≡ acceptedCost (P.cost (coefficient reg) reg plan)
-unfolding costAnswer
-cost-read t bytes reg plan o l e = rw (o.reads, whole-accepted reg o.valid.within.choices.few plan bytes l e)
+cost_read : (t bytes : List ℕ) (reg : Register) (plan : ℕ) → Opened t reg → Valid reg plan → Encodes reg plan bytes →
+    cost_answer t bytes ≡ accepted_cost (P.cost (coefficient reg) reg plan)
+unfolding cost_answer
+cost_read t bytes reg plan o l e = rw (o.reads, whole_accepted reg o.valid.within.choices.few plan bytes l e)
 
 -- ---- an answer that is no refusal
 
-module _ (t : List ℕ) (limit : ℕ) (z : (searchAnswer t limit).number ≡ 0) where
+module _ (t : List ℕ) (limit : ℕ) (z : (search_answer t limit).number ≡ 0) where
   -- what the rule comes to
 
   abbrev reg : Register
-  reg = registerOf t
+  reg = register_of t
 
   abbrev w : Best
   w = search (coefficient reg) reg
@@ -72,111 +72,111 @@ module _ (t : List ℕ) (limit : ℕ) (z : (searchAnswer t limit).number ≡ 0) 
   found = searched t limit z
 
   best : Least (fits reg) (P.cost (coefficient reg) reg) (2 ^ reg.choices) w
-  best = found-least (coefficient reg) reg found.met
+  best = found_least (coefficient reg) reg found.met
 
-  best-valid : Valid reg w.plan
-  best-valid = record { inside = best.plan-below; fits = (register-fits reg w.plan).0 best.plan-fits }
+  best_valid : Valid reg w.plan
+  best_valid = record { inside = best.plan_below; fits = (register_fits reg w.plan).0 best.plan_fits }
 
   least : (plan : ℕ) → Valid reg plan → w.cost ≤ℤ P.cost (coefficient reg) reg plan
-  least plan v = best.least plan v.inside ((register-fits reg plan).1 v.fits)
+  least plan v = best.least plan v.inside ((register_fits reg plan).1 v.fits)
 
   -- no less is answered for any plan, by whichever call reads the register
-  least-read : (r : Register) → reg ≡ r → (plan : ℕ) → Valid r plan → w.cost ≤ℤ P.cost (coefficient r) r plan
-  least-read r e plan = subst (λ r. Valid r plan → w.cost ≤ℤ P.cost (coefficient r) r plan) e (least plan)
+  least_read : (r : Register) → reg ≡ r → (plan : ℕ) → Valid r plan → w.cost ≤ℤ P.cost (coefficient r) r plan
+  least_read r e plan = subst (λ r. Valid r plan → w.cost ≤ℤ P.cost (coefficient r) r plan) e (least plan)
 
-  cost-least : (bytes : List ℕ) → (costAnswer t bytes).number ≡ 0 → w.cost ≤ℤ (costAnswer t bytes).cost
-  cost-least bytes n =
+  cost_least : (bytes : List ℕ) → (cost_answer t bytes).number ≡ 0 → w.cost ≤ℤ (cost_answer t bytes).cost
+  cost_least bytes n =
       let c = costed t bytes n in
-      rw c.answers (least-read c.reg (read_is t c.reg c.first.reads) c.read.parsed (costed-valid t bytes c))
+      rw c.answers (least_read c.reg (read_is t c.reg c.first.reads) c.read.parsed (costed_valid t bytes c))
 
-  cheapest : Cheapest costCall t limit (searchAnswer t limit)
+  cheapest : Cheapest cost_call t limit (search_answer t limit)
   cheapest =
-      let v = found-visits (coefficient reg) reg in
+      let v = found_visits (coefficient reg) reg in
       rw found.answers (record {
-        part-1 = λ b. record { conditions = found.first.valid; bytes = ((accepted-iff t reg b).0 found.first.reads).1 };
-        plan = record { fed = w.plan; inside = best.plan-below };
-        plan-is = refl;
-        fits = best-valid.fits;
-        cost-is = sym best.cost-is;
+        part_1 = λ b. record { conditions = found.first.valid; bytes = ((accepted_iff t reg b).0 found.first.reads).1 };
+        plan = record { fed = w.plan; inside = best.plan_below };
+        plan_is = refl;
+        fits = best_valid.fits;
+        cost_is = sym best.cost_is;
         least = λ other f. least other.fed (record { inside = other.inside; fits = f });
-        smallest = λ other f. best.smallest other.fed other.inside ((register-fits reg other.fed).1 f);
+        smallest = λ other f. best.smallest other.fed other.inside ((register_fits reg other.fed).1 f);
         keeps = keeps reg w.plan found.first.valid;
-        of-day = feeds-of-day reg found.first.valid w.plan;
-        costed = λ bytes e. cost-read t bytes reg w.plan found.first best-valid e ∙ ap acceptedCost (sym best.cost-is);
-        costed-least = cost-least;
-        visits-are = refl;
-        visits-some = v.0;
-        visits-few = v.1;
-        visits-within = found.within;
+        of_day = feeds_of_day reg found.first.valid w.plan;
+        costed = λ bytes e. cost_read t bytes reg w.plan found.first best_valid e ∙ ap accepted_cost (sym best.cost_is);
+        costed_least = cost_least;
+        visits_are = refl;
+        visits_some = v.0;
+        visits_few = v.1;
+        visits_within = found.within;
       })
 
   -- without rows each plan fits
-  cheapest-every : reg.rows ≡ 0 → CheapestEvery costCall t limit (searchAnswer t limit)
-  cheapest-every none =
+  cheapest_every : reg.rows ≡ 0 → CheapestEvery cost_call t limit (search_answer t limit)
+  cheapest_every none =
       let c = cheapest in
-      let all : (plan : ℕ) → Fits reg plan = every-fits reg none in
+      let all : (plan : ℕ) → Fits reg plan = every_fits reg none in
       record { cheapest = c; least = λ other. c.least other (all other.fed); smallest = λ other. c.smallest other (all other.fed) }
 
   -- every plan that fits costs at least the bound, and so does the one found
-  bound-below : (s k : List ℕ) (table : List ℤ) → (checkAnswer t s k table).number ≡ 0 → (checkAnswer t s k table).bound ≤ℤ (searchAnswer t limit).cost
-  bound-below s k table n =
+  bound_below : (s k : List ℕ) (table : List ℤ) → (check_answer t s k table).number ≡ 0 → (check_answer t s k table).bound ≤ℤ (search_answer t limit).cost
+  bound_below s k table n =
       let c = checked t s k table n in
-      let valid = whole-valid c.reg c.sch _ k c.read c.end c.reads in
-      let e = read_is t c.reg c.parts.register-reads in
-      let least = plan-bound (coefficient c.reg) c.reg c.sch c.read.parsed c.parts.scheme-valid valid w.plan (subst (λ r. Fits r w.plan) e best-valid.fits) in
-      rw (c.answers, found.answers, best.cost-is) (subst (λ r. bound c.read.parsed ≤ℤ P.cost (coefficient r) r w.plan) (sym e) least)
+      let valid = whole_valid c.reg c.sch _ k c.read c.end c.reads in
+      let e = read_is t c.reg c.parts.register_reads in
+      let least = plan_bound (coefficient c.reg) c.reg c.sch c.read.parsed c.parts.scheme_valid valid w.plan (subst (λ r. Fits r w.plan) e best_valid.fits) in
+      rw (c.answers, found.answers, best.cost_is) (subst (λ r. bound c.read.parsed ≤ℤ P.cost (coefficient r) r w.plan) (sym e) least)
 
 -- ---- a register that is right
 
 -- no plan fits, by the test and as it is said
-none-fit : (r : Register) → NoneFit r ↔ NoneFits (fits r) (2 ^ r.choices)
-none-fit r = (
-  (λ none plan l. flag (fits r plan) (λ e. absurd (none plan l ((register-fits r plan).0 e))) (λ e. e)),
-  (λ none plan l f. true≢false (sym ((register-fits r plan).1 f) ∙ none plan l)),
+none_fit : (r : Register) → NoneFit r ↔ NoneFits (fits r) (2 ^ r.choices)
+none_fit r = (
+  (λ none plan l. flag (fits r plan) (λ e. absurd (none plan l ((register_fits r plan).0 e))) (λ e. e)),
+  (λ none plan l f. true≢false (sym ((register_fits r plan).1 f) ∙ none plan l)),
 )
 
-most-visits : (r : Register) → NoneFit r → suc (visitsOf r) ≡ 2 ^ suc r.choices
-most-visits r none = none-visits (coefficient r) r ((found-none (coefficient r) r).1 ((none-fit r).0 none))
+most_visits : (r : Register) → NoneFit r → suc (visits_of r) ≡ 2 ^ suc r.choices
+most_visits r none = none_visits (coefficient r) r ((found_none (coefficient r) r).1 ((none_fit r).0 none))
 
 module _ (t : List ℕ) (r : Register) (limit : ℕ) (p : Part1 t r) where
-  reads : registerByItself t ≡ accepted (reached 0x1F r) (length t)
-  reads = encoding-accepted t r p.conditions p.bytes
+  reads : register_by_itself t ≡ accepted (reached 0x1F r) (length t)
+  reads = encoding_accepted t r p.conditions p.bytes
 
-  past-limit : (searchAnswer t limit ≡ limitPassed) ↔ (limit < visitsOf r)
-  past-limit = limit-iff t r reads limit
+  past_limit : (search_answer t limit ≡ limit_passed) ↔ (limit < visits_of r)
+  past_limit = limit_iff t r reads limit
 
-  none : (searchAnswer t limit ≡ noneFits) ↔ (NoneFit r × (visitsOf r ≤ limit))
+  none : (search_answer t limit ≡ none_fits) ↔ (NoneFit r × (visits_of r ≤ limit))
   none =
-      let (to, from) = none-iff t r reads limit in
-      let (said, tested) = none-fit r in
+      let (to, from) = none_iff t r reads limit in
+      let (said, tested) = none_fit r in
       ((λ e. let (n, l) = to e in (tested n, l)), (λ (n, l). from (said n, l)))
 
-  none-32 : r.choices ≡ 32 → NoneFit r → limit < 2 ^ 32 → searchAnswer t limit ≡ limitPassed
-  none-32 e n l =
-      let most : suc (visitsOf r) ≡ 2 ^ 33 = most-visits r n ∙ ap (λ k. 2 ^ suc k) e in
-      past-limit.1 (omega (arith, most, l))
+  none_32 : r.choices ≡ 32 → NoneFit r → limit < 2 ^ 32 → search_answer t limit ≡ limit_passed
+  none_32 e n l =
+      let most : suc (visits_of r) ≡ 2 ^ 33 = most_visits r n ∙ ap (λ k. 2 ^ suc k) e in
+      past_limit.1 (omega (arith, most, l))
 
-  enough : (plan : ℕ) → plan < 2 ^ r.choices → Fits r plan → 2 ^ suc r.choices ≤ suc limit → (searchAnswer t limit).number ≡ 0
+  enough : (plan : ℕ) → plan < 2 ^ r.choices → Fits r plan → 2 ^ suc r.choices ≤ suc limit → (search_answer t limit).number ≡ 0
   enough plan i f l =
-      ap (λ a. a.number) (within-limit t r reads limit (omega (arith, l, found-visits (coefficient r) r)) (found-met (coefficient r) r plan i ((register-fits r plan).1 f)))
+      ap (λ a. a.number) (within_limit t r reads limit (omega (arith, l, found_visits (coefficient r) r)) (found_met (coefficient r) r plan i ((register_fits r plan).1 f)))
 
-pub search-sound : SearchSound searchCall costCall checkCall
-search-sound = record {
+pub search_sound : SearchSound search_call cost_call check_call
+search_sound = record {
   cheapest = cheapest;
-  past-limit = past-limit;
-  limit-0 = λ t r p. Rule.past-limit t r (reads t r 0 p) 0 (found-visits (coefficient r) r).0;
+  past_limit = past_limit;
+  limit_0 = λ t r p. Rule.past_limit t r (reads t r 0 p) 0 (found_visits (coefficient r) r).0;
   enough = λ t r limit p some f. enough t r limit p some.fed some.inside f;
   none = none;
-  none-visits = most-visits;
-  none-32 = none-32;
-  cheapest-every = λ t limit rows z. cheapest-every t limit z rows;
-  enough-every = λ t r limit p rows. enough t r limit p 0 (pow_pos r.choices) (every-fits r rows 0);
-  bounds = λ t s k table limit n z. bound-below t limit z s k table n;
+  none_visits = most_visits;
+  none_32 = none_32;
+  cheapest_every = λ t limit rows z. cheapest_every t limit z rows;
+  enough_every = λ t r limit p rows. enough t r limit p 0 (pow_pos r.choices) (every_fits r rows 0);
+  bounds = λ t s k table limit n z. bound_below t limit z s k table n;
 }
 
-pub sum-sound : SumSound
-sum-sound = record {
-  said = λ d fed none c m. record { wholly-fed = term-fed d fed none c m; undecided = term-undecided d fed none c m; unfed = term-unfed d fed none c m };
-  under = λ c r d fed plan u. under-sum c r d fed plan u.undecided u.decided;
-  full = sum-full;
+pub sum_sound : SumSound
+sum_sound = record {
+  said = λ d fed none c m. record { wholly_fed = term_fed d fed none c m; undecided = term_undecided d fed none c m; unfed = term_unfed d fed none c m };
+  under = λ c r d fed plan u. under_sum c r d fed plan u.undecided u.decided;
+  full = sum_full;
 }

@@ -9,114 +9,114 @@ use lib.Dec.{eqb}
 use lib.IntN.{ℤ, pos}
 use lib.ListN.{get_or}
 use borrow.Author.Tests.{eqb-true, eq-eqb}
-use Rattle.integers.specs.Lists.{anyBelow, joinBelow}
+use Rattle.integers.specs.Lists.{any_below, join_below}
 use Rattle.integers.proofs.Lists.{flag}
-use Rattle.integers.proofs.Entries.{column-none, table_none}
+use Rattle.integers.proofs.Entries.{column_none, table_none}
 use Rattle.integers.proofs.Any.{any_found, any_at}
 use Rattle.wire.specs.Number.{Bytes}
 use Rattle.wire.specs.Part.{Reading, refused, accepted}
 use Rattle.wire.specs.Rows.{Progress}
 use Rattle.register.specs.declared.Register.{Register}
-use Rattle.register.specs.Limits.{maxWindows, maxRows, rowEntries, usualDay}
-use Rattle.register.specs.Register.{tank, minute, windowTank, fresh, setWindows}
-use Rattle.register.specs.Format.{registerByItself}
-use Rattle.register.specs.Answer.{registerAnswer}
-use Rattle.register.specs.Valid.{Valid, MayFeed, windowAt}
-use Rattle.register.specs.Encoding.{Encodes, encodeRegister, encodeWithoutLength, SaysLength, SaysRow}
-use Rattle.register.proofs.Accept.{encoding-accepted}
+use Rattle.register.specs.Limits.{max_windows, max_rows, row_entries, usual_day}
+use Rattle.register.specs.Register.{tank, minute, window_tank, fresh, set_windows}
+use Rattle.register.specs.Format.{register_by_itself}
+use Rattle.register.specs.Answer.{register_answer}
+use Rattle.register.specs.Valid.{Valid, MayFeed, window_at}
+use Rattle.register.specs.Encoding.{Encodes, encode_register, encode_without_length, SaysLength, SaysRow}
+use Rattle.register.proofs.Accept.{encoding_accepted}
 use Rattle.register.proofs.Canonical.{canonical}
-use Rattle.register.proofs.BeforeWindows.{as-before-windows-in-job, as-before-windows, no-windows}
+use Rattle.register.proofs.BeforeWindows.{as_before_windows_in_job, as_before_windows, no_windows}
 use Rattle.register.proofs.Opened.{opened}
-use Rattle.plan.proofs.Answers.{costed, costed-valid, costed-plan}
+use Rattle.plan.proofs.Answers.{costed, costed_valid, costed_plan}
 use Rattle.job.specs.declared.Tally.{Tally}
 use Rattle.text.specs.Text.{HasLine}
-use Rattle.listing.specs.Listing.{fedLine}
-use Rattle.listing.proofs.Lines.{fed-shown, shown-fed}
-use Rattle.soundness.specs.Calls.{registerCall, costCall, jobCall, listingCall}
+use Rattle.listing.specs.Listing.{fed_line}
+use Rattle.listing.proofs.Lines.{fed_shown, shown_fed}
+use Rattle.soundness.specs.Calls.{register_call, cost_call, job_call, listing_call}
 use Rattle.soundness.specs.Parts.{Part4}
-use Rattle.soundness.specs.Acceptance.{registerAccepted}
+use Rattle.soundness.specs.Acceptance.{register_accepted}
 use Rattle.soundness.specs.Jobs.{Accepted, Listed, shown, AcceptedJob}
-use Rattle.soundness.specs.Windows.{InWindow, ChoicesInside, Feeding, KeepsWindows, JobInside, WindowsRight, withoutWindows, withoutRows, ValidBeforeWindows, bytesBeforeWindows, WindowsKept, AsBeforeWindows}
+use Rattle.soundness.specs.Windows.{InWindow, ChoicesInside, Feeding, KeepsWindows, JobInside, WindowsRight, without_windows, without_rows, ValidBeforeWindows, bytes_before_windows, WindowsKept, AsBeforeWindows}
 use Rattle.soundness.specs.Rows.{RowsRight}
 use Rattle.soundness.proofs.Written.{unsaid}
-use Rattle.soundness.proofs.Jobs.{accepted-job}
+use Rattle.soundness.proofs.Jobs.{accepted_job}
 
 -- ---- where a tank may be fed
 
 module _ (reg : Register) (t m : ℕ) where
-  in_window : MayFeed reg.windows (windowAt reg) t m → InWindow reg t m
+  in_window : MayFeed reg.windows (window_at reg) t m → InWindow reg t m
   in_window (inl none) w = absurd (none w.window w.there w.own)
   in_window (inr inside) w = inside
 
-  may-feed : InWindow reg t m → MayFeed reg.windows (windowAt reg) t m
-  may-feed h =
-      flag (anyBelow reg.windows own)
-      (λ e. let w = any_found reg.windows own e in inr (h (record { window = w.index; there = w.below; own = eqb-true (windowTank reg w.index) t w.passes })))
-      (λ e. inl λ j l o. false≢true (sym e ∙ any_at reg.windows own j l (eq-eqb (windowTank reg j) t o)))
+  may_feed_lem : InWindow reg t m → MayFeed reg.windows (window_at reg) t m
+  may_feed_lem h =
+      flag (any_below reg.windows own)
+      (λ e. let w = any_found reg.windows own e in inr (h (record { window = w.index; there = w.below; own = eqb-true (window_tank reg w.index) t w.passes })))
+      (λ e. inl λ j l o. false≢true (sym e ∙ any_at reg.windows own j l (eq-eqb (window_tank reg j) t o)))
     where
       own : ℕ → Bool
-      own j = eqb (windowTank reg j) t
+      own j = eqb (window_tank reg j) t
 
 -- ---- what a valid register has and a plan of it feeds
 
 inside : (reg : Register) → Valid reg → ChoicesInside reg
-inside reg v i l = in_window reg (tank reg i) (minute reg i) (v.within.may-feed i l)
+inside reg v i l = in_window reg (tank reg i) (minute reg i) (v.within.may_feed i l)
 
 pub keeps : (reg : Register) (plan : ℕ) → Valid reg → KeepsWindows reg plan
-keeps reg plan v t m f = subst (λ x. InWindow reg x m) f.tank-is (subst (InWindow reg (tank reg f.choice)) f.minute-is (inside reg v f.choice f.there))
+keeps reg plan v t m f = subst (λ x. InWindow reg x m) f.tank_is (subst (InWindow reg (tank reg f.choice)) f.minute_is (inside reg v f.choice f.there))
 
-pub register-valid : (register : List ℕ) → (registerCall register).number ≡ 0 → Valid (registerCall register).register
-register-valid register z = (opened register (registerCall register) refl z).valid
+pub register_valid : (register : List ℕ) → (register_call register).number ≡ 0 → Valid (register_call register).register
+register_valid register z = (opened register (register_call register) refl z).valid
 
-plan-keeps : (register plan : List ℕ) → Bytes plan → (costCall register plan).number ≡ 0 →
-    ((registerCall register).number ≡ 0) × (fed : ℕ) × Part4 (registerCall register).register plan fed × KeepsWindows (registerCall register).register fed
-plan-keeps register plan b z =
+plan_keeps : (register plan : List ℕ) → Bytes plan → (cost_call register plan).number ≡ 0 →
+    ((register_call register).number ≡ 0) × (fed : ℕ) × Part4 (register_call register).register plan fed × KeepsWindows (register_call register).register fed
+plan_keeps register plan b z =
     let c = costed register plan z in
     let fed = c.read.parsed in
-    let e = ap registerAnswer c.first.reads in
+    let e = ap register_answer c.first.reads in
     let n = ap (λ a. a.number) e in (
       n,
       fed,
-      subst (λ reg. Part4 reg plan fed) (sym (ap (λ a. a.register) e)) (record { conditions = costed-valid register plan c; bytes = costed-plan register plan c b }),
-      keeps (registerCall register).register fed (register-valid register n),
+      subst (λ reg. Part4 reg plan fed) (sym (ap (λ a. a.register) e)) (record { conditions = costed_valid register plan c; bytes = costed_plan register plan c b }),
+      keeps (register_call register).register fed (register_valid register n),
     )
 
 -- ---- the `F` lines of an accepted job
 
-module _ (job : List ℕ) (table : List ℤ) (supplier : ℕ) (tally : Tally) (j : AcceptedJob jobCall listingCall job table supplier tally)
-    (lent : List ℤ) (buffer : List ℕ) (h : Listed jobCall listingCall job lent buffer) (t m : ℕ) where
+module _ (job : List ℕ) (table : List ℤ) (supplier : ℕ) (tally : Tally) (j : AcceptedJob job_call listing_call job table supplier tally)
+    (lent : List ℤ) (buffer : List ℕ) (h : Listed job_call listing_call job lent buffer) (t m : ℕ) where
   abbrev Fed : ℕ → ℕ → Type 0
   Fed = Feeding j.parts.register j.parts.plan
 
   abbrev Shows : List ℕ → Type 0
-  Shows line = HasLine line (shown jobCall listingCall job lent buffer)
+  Shows line = HasLine line (shown job_call listing_call job lent buffer)
 
-  pub fed-lines : Shows (fedLine t m) ↔ Fed t m
-  fed-lines = (to, from)
+  pub fed_lines_lem : Shows (fed_line t m) ↔ Fed t m
+  fed_lines_lem = (to, from)
     where
-      to : Shows (fedLine t m) → Fed t m
+      to : Shows (fed_line t m) → Fed t m
       to l =
-          fed-shown Fed j.parts.register j.parts.plan (λ i k f. record { choice = i; there = k; fed = f; tank-is = refl; minute-is = refl }) _ t m
-          (subst (HasLine (fedLine t m)) (j.lines lent buffer h) l)
+          fed_shown Fed j.parts.register j.parts.plan (λ i k f. record { choice = i; there = k; fed = f; tank_is = refl; minute_is = refl }) _ t m
+          (subst (HasLine (fed_line t m)) (j.lines lent buffer h) l)
 
-      from : Fed t m → Shows (fedLine t m)
+      from : Fed t m → Shows (fed_line t m)
       from f =
-          let s = shown-fed j.parts.register j.parts.plan f.choice f.there f.fed _ in
-          subst Shows (ap₂ fedLine f.tank-is f.minute-is) (subst (HasLine _) (sym (j.lines lent buffer h)) s)
+          let s = shown_fed j.parts.register j.parts.plan f.choice f.there f.fed _ in
+          subst Shows (ap₂ fed_line f.tank_is f.minute_is) (subst (HasLine _) (sym (j.lines lent buffer h)) s)
 
-job-inside : (job : List ℕ) (table : List ℤ) (supplier : ℕ) (tally : Tally) → Accepted jobCall listingCall job table supplier tally → JobInside jobCall listingCall job table supplier tally
-job-inside job table supplier tally z =
-    let j = accepted-job job table supplier tally z in
-    record { accepted = j; keeps = keeps j.parts.register j.parts.plan j.conditions.register; lines = fed-lines job table supplier tally j }
+job_inside : (job : List ℕ) (table : List ℤ) (supplier : ℕ) (tally : Tally) → Accepted job_call listing_call job table supplier tally → JobInside job_call listing_call job table supplier tally
+job_inside job table supplier tally z =
+    let j = accepted_job job table supplier tally z in
+    record { accepted = j; keeps = keeps j.parts.register j.parts.plan j.conditions.register; lines = fed_lines_lem job table supplier tally j }
 
 -- ---- the same register with other windows
 
 module _ (r : Register) (v : Valid r) (k : ℕ) (tanks froms tos : List ℕ) where
   abbrev other : Register
-  other = setWindows r k tanks froms tos
+  other = set_windows r k tanks froms tos
 
-  with-windows : WindowsRight other → ChoicesInside other → Valid other
-  with-windows w h = record {
+  with_windows : WindowsRight other → ChoicesInside other → Valid other
+  with_windows w h = record {
     within = record {
       base = v.within.base;
       day = v.within.day;
@@ -126,51 +126,51 @@ module _ (r : Register) (v : Valid r) (k : ℕ) (tanks froms tos : List ℕ) whe
       masks = v.within.masks;
       coefficients = v.within.coefficients;
       terms = v.within.terms;
-      window-tanks = w.tanks;
-      window-froms = w.froms;
-      window-tos = w.tos;
+      window_tanks = w.tanks;
+      window_froms = w.froms;
+      window_tos = w.tos;
       windows = w.windows;
-      row-totals = v.within.row-totals;
-      row-entries = v.within.row-entries;
+      row_totals = v.within.row_totals;
+      row_entries = v.within.row_entries;
       rows = v.within.rows;
-      may-feed = λ i l. may-feed other (tank r i) (minute r i) (h i l);
+      may_feed = λ i l. may_feed_lem other (tank r i) (minute r i) (h i l);
     };
-    day-length = v.day-length;
-    some-choice = v.some-choice;
+    day_length = v.day_length;
+    some_choice = v.some_choice;
   }
 
 -- without rows those that there are are right
-pub rows-none : (r : Register) → RowsRight (withoutRows r)
-rows-none r = record {
-  totals = column-none {A = ℤ} maxRows (pos 0);
-  entries = column-none {A = ℤ} (maxRows * rowEntries) (pos 0);
+pub rows_none : (r : Register) → RowsRight (without_rows r)
+rows_none r = record {
+  totals = column_none {A = ℤ} max_rows (pos 0);
+  entries = column_none {A = ℤ} (max_rows * row_entries) (pos 0);
   rows = record { few = omega arith; each = λ i l. absurd (omega arith) };
 }
 
 module _ (r : Register) where
   right : Valid r → WindowsRight r
-  right v = record { tanks = v.within.window-tanks; froms = v.within.window-froms; tos = v.within.window-tos; windows = v.within.windows }
+  right v = record { tanks = v.within.window_tanks; froms = v.within.window_froms; tos = v.within.window_tos; windows = v.within.windows }
 
-  right-none : WindowsRight (withoutWindows r)
-  right-none =
-      let column = column-none {A = ℕ} maxWindows 0 in
-      record { tanks = column; froms = column; tos = column; windows = table_none maxWindows _ _ _ }
+  right_none : WindowsRight (without_windows r)
+  right_none =
+      let column = column_none {A = ℕ} max_windows 0 in
+      record { tanks = column; froms = column; tos = column; windows = table_none max_windows _ _ _ }
 
-  inside-none : ChoicesInside (withoutWindows r)
-  inside-none i l w = absurd (omega (arith, w.there))
+  inside_none : ChoicesInside (without_windows r)
+  inside_none i l w = absurd (omega (arith, w.there))
 
   -- without its windows, and with them again
 
-  none-valid : Valid r → Valid (withoutWindows r)
-  none-valid v = with-windows r v 0 _ _ _ right-none inside-none
+  none_valid : Valid r → Valid (without_windows r)
+  none_valid v = with_windows r v 0 _ _ _ right_none inside_none
 
-  own-valid : Valid (withoutWindows r) → WindowsRight r → ChoicesInside r → Valid r
-  own-valid v = with-windows (withoutWindows r) v r.windows r.window_tanks r.window_froms r.window_tos
+  own_valid : Valid (without_windows r) → WindowsRight r → ChoicesInside r → Valid r
+  own_valid v = with_windows (without_windows r) v r.windows r.window_tanks r.window_froms r.window_tos
 
   -- the conditions before there were windows, on a day of the usual length and without rows
 
-  before-none : r.day_length ≡ usualDay → Valid (withoutWindows (withoutRows r)) → ValidBeforeWindows r
-  before-none day v = record {
+  before_none : r.day_length ≡ usual_day → Valid (without_windows (without_rows r)) → ValidBeforeWindows r
+  before_none day v = record {
     base = v.within.base;
     day = day;
     tanks = v.within.tanks;
@@ -179,11 +179,11 @@ module _ (r : Register) where
     masks = v.within.masks;
     coefficients = v.within.coefficients;
     terms = v.within.terms;
-    some-choice = v.some-choice;
+    some_choice = v.some_choice;
   }
 
-  with_none : ValidBeforeWindows r → Valid (withoutWindows (withoutRows r))
-  with_none b = let w = right-none in let k = rows-none r in record {
+  with_none : ValidBeforeWindows r → Valid (without_windows (without_rows r))
+  with_none b = let w = right_none in let k = rows_none r in record {
     within = record {
       base = b.base;
       day = inr (inr (inl b.day));
@@ -193,65 +193,65 @@ module _ (r : Register) where
       masks = b.masks;
       coefficients = b.coefficients;
       terms = b.terms;
-      window-tanks = w.tanks;
-      window-froms = w.froms;
-      window-tos = w.tos;
+      window_tanks = w.tanks;
+      window_froms = w.froms;
+      window_tos = w.tos;
       windows = w.windows;
-      row-totals = k.totals;
-      row-entries = k.entries;
+      row_totals = k.totals;
+      row_entries = k.entries;
       rows = k.rows;
-      may-feed = λ i l. may-feed (withoutWindows r) (tank r i) (minute r i) (inside-none i l);
+      may_feed = λ i l. may_feed_lem (without_windows r) (tank r i) (minute r i) (inside_none i l);
     };
-    day-length = inr (inl b.day);
-    some-choice = b.some-choice;
+    day_length = inr (inl b.day);
+    some_choice = b.some_choice;
   }
 
-  bytes-none : encodeWithoutLength (withoutWindows (withoutRows r)) ≡ bytesBeforeWindows r
-  unfolding joinBelow
-  bytes-none = simp append-nil
+  bytes_none : encode_without_length (without_windows (without_rows r)) ≡ bytes_before_windows r
+  unfolding join_below
+  bytes_none = simp append-nil
 
 -- ---- bytes without a window that say no length and no row
 
-module _ (s : List ℕ) (none : get_or s 5 0 ≡ 0x13 → ⊥) (no_length : SaysLength s → ⊥) (no-row : SaysRow s → ⊥) where
-  answered-without : withoutWindows (registerCall s).register ≡ (registerCall s).register
+module _ (s : List ℕ) (none : get_or s 5 0 ≡ 0x13 → ⊥) (no_length : SaysLength s → ⊥) (no_row_lem : SaysRow s → ⊥) where
+  answered_without : without_windows (register_call s).register ≡ (register_call s).register
   unfolding fresh
-  answered-without = go (registerByItself s) refl
+  answered_without = go (register_by_itself s) refl
     where
-      go : (x : Reading (Progress Register)) → registerByItself s ≡ x → withoutWindows (registerAnswer x).register ≡ (registerAnswer x).register
+      go : (x : Reading (Progress Register)) → register_by_itself s ≡ x → without_windows (register_answer x).register ≡ (register_answer x).register
       go (refused n at) e = refl
-      go (accepted p end) e = ap (λ w. setWindows p.parsed w.0 w.1 w.2 w.3) (sym (no-windows s none no_length no-row e))
+      go (accepted p end) e = ap (λ w. set_windows p.parsed w.0 w.1 w.2 w.3) (sym (no_windows s none no_length no_row_lem e))
 
 -- ---- acceptance
 
 -- of bytes that are an encoding
-pub accepted-valid : (register : List ℕ) (reg : Register) → Encodes reg register → (registerCall register ≡ registerAccepted reg) ↔ Valid reg
-accepted-valid register reg x = (
-  (λ e. subst Valid (ap (λ a. a.register) e) (register-valid register (ap (λ a. a.number) e))),
-  λ v. ap registerAnswer (encoding-accepted register reg v x),
+pub accepted_valid : (register : List ℕ) (reg : Register) → Encodes reg register → (register_call register ≡ register_accepted reg) ↔ Valid reg
+accepted_valid register reg x = (
+  (λ e. subst Valid (ap (λ a. a.register) e) (register_valid register (ap (λ a. a.number) e))),
+  λ v. ap register_answer (encoding_accepted register reg v x),
 )
 
-pub windows-kept : WindowsKept registerCall costCall jobCall listingCall
-windows-kept = record {
-  of-register = λ register z. inside (registerCall register).register (register-valid register z);
-  of-plan = plan-keeps;
-  of-job = job-inside;
-  nothing-more = λ register reg x.
-      let own = accepted-valid register reg x in
-      let none = accepted-valid (encodeRegister (withoutWindows reg)) (withoutWindows reg) (canonical (withoutWindows reg)) in (
-        (λ e. let v = own.0 e in (none.1 (none-valid reg v), right reg v, inside reg v)),
-        (λ (e, w, h). own.1 (own-valid reg (none.0 e) w h)),
+pub windows_kept : WindowsKept register_call cost_call job_call listing_call
+windows_kept = record {
+  of_register = λ register z. inside (register_call register).register (register_valid register z);
+  of_plan = plan_keeps;
+  of_job = job_inside;
+  nothing_more = λ register reg x.
+      let own = accepted_valid register reg x in
+      let none = accepted_valid (encode_register (without_windows reg)) (without_windows reg) (canonical (without_windows reg)) in (
+        (λ e. let v = own.0 e in (none.1 (none_valid reg v), right reg v, inside reg v)),
+        (λ (e, w, h). own.1 (own_valid reg (none.0 e) w h)),
       );
-  read-as-before = λ register none no_length no-row.
-      (ap registerAnswer (as-before-windows register none no_length no-row), answered-without register none no_length no-row);
+  read_as_before = λ register none no_length no_row_lem.
+      (ap register_answer (as_before_windows register none no_length no_row_lem), answered_without register none no_length no_row_lem);
 }
 
-pub kept-before-windows : AsBeforeWindows
-kept-before-windows = record {
-  in-job = as-before-windows-in-job;
-  by_itself = as-before-windows;
-  part-1 = λ register reg no_length.
-      let one = unsaid (withoutWindows (withoutRows reg)) register no_length in (
-        (λ p. let (day, e) = one.0 p.bytes in (before-none reg day p.conditions, e ∙ bytes-none reg)),
-        (λ (b, e). record { conditions = with_none reg b; bytes = one.1 (b.day, e ∙ sym (bytes-none reg)) }),
+pub kept_before_windows : AsBeforeWindows
+kept_before_windows = record {
+  in_job = as_before_windows_in_job;
+  by_itself = as_before_windows;
+  part_1 = λ register reg no_length.
+      let one = unsaid (without_windows (without_rows reg)) register no_length in (
+        (λ p. let (day, e) = one.0 p.bytes in (before_none reg day p.conditions, e ∙ bytes_none reg)),
+        (λ (b, e). record { conditions = with_none reg b; bytes = one.1 (b.day, e ∙ sym (bytes_none reg)) }),
       );
 }

@@ -2,25 +2,25 @@
 use Rattle.std.specs.Prelude.{ℕ, List, ℤ, take}
 use Rattle.wire.specs.declared.WriterAnswer.{WriterAnswer}
 use Rattle.register.specs.declared.RegisterAnswer.{RegisterAnswer}
-use Rattle.register.specs.Format.{registerByItself}
-use Rattle.register.specs.Answer.{registerAnswer}
+use Rattle.register.specs.Format.{register_by_itself}
+use Rattle.register.specs.Answer.{register_answer}
 use Rattle.scheme.specs.declared.SchemeAnswer.{SchemeAnswer}
-use Rattle.scheme.specs.Answer.{schemeAnswer}
-use Rattle.builder.specs.Answer.{buildAnswer, buildBuffer}
+use Rattle.scheme.specs.Answer.{scheme_answer}
+use Rattle.builder.specs.Answer.{build_answer, build_buffer}
 use Rattle.plan.specs.declared.CostAnswer.{CostAnswer}
-use Rattle.plan.specs.Answer.{costAnswer}
+use Rattle.plan.specs.Answer.{cost_answer}
 use Rattle.penalty.specs.declared.PenaltyAnswer.{PenaltyAnswer}
-use Rattle.penalty.specs.Answer.{penaltyAnswer, penaltyTable}
+use Rattle.penalty.specs.Answer.{penalty_answer, penalty_table}
 use Rattle.bound.specs.declared.CheckAnswer.{CheckAnswer}
-use Rattle.bound.specs.Check.{checkAnswer, checkTable}
-use Rattle.plain.specs.Answer.{plainAnswer, plainBuffer}
+use Rattle.bound.specs.Check.{check_answer, check_table}
+use Rattle.plain.specs.Answer.{plain_answer, plain_buffer}
 use Rattle.job.specs.declared.Tally.{Tally}
 use Rattle.job.specs.declared.JobAnswer.{JobAnswer}
-use Rattle.job.specs.Answer.{jobAnswer, jobTable}
-use Rattle.listing.specs.Listing.{PlanLines, planLines, supplierLines}
-use Rattle.listing.specs.Answer.{answerWith, listingTable, bufferWith}
+use Rattle.job.specs.Answer.{job_answer, job_table}
+use Rattle.listing.specs.Listing.{PlanLines, plan_lines, supplier_lines}
+use Rattle.listing.specs.Answer.{answer_with, listing_table, buffer_with}
 use Rattle.search.specs.declared.SearchAnswer.{SearchAnswer}
-use Rattle.search.specs.Answer.{searchAnswer}
+use Rattle.search.specs.Answer.{search_answer}
 
 -- part 1
 abbrev pub RegisterCall : Type 0
@@ -68,40 +68,40 @@ front (answer, buffer) = take answer.count buffer
 
 -- ours: what the exported functions `feedcheck_register` to `feedcheck_search` answer and hand back, by the contracts in `src/lib.rt`
 
-abbrev pub registerCall : RegisterCall
-registerCall register = registerAnswer (registerByItself register)
+abbrev pub register_call : RegisterCall
+register_call register = register_answer (register_by_itself register)
 
-abbrev pub schemeCall : SchemeCall
-schemeCall register scheme = schemeAnswer register scheme
+abbrev pub scheme_call : SchemeCall
+scheme_call register scheme = scheme_answer register scheme
 
-abbrev pub costCall : CostCall
-costCall register plan = costAnswer register plan
+abbrev pub cost_call : CostCall
+cost_call register plan = cost_answer register plan
 
-abbrev pub penaltyCall : PenaltyCall
-penaltyCall register scheme lent = (penaltyAnswer register scheme lent, penaltyTable register scheme lent)
+abbrev pub penalty_call : PenaltyCall
+penalty_call register scheme lent = (penalty_answer register scheme lent, penalty_table register scheme lent)
 
-abbrev pub checkCall : CheckCall
-checkCall register scheme certificate lent = (checkAnswer register scheme certificate lent, checkTable register scheme certificate lent)
+abbrev pub check_call : CheckCall
+check_call register scheme certificate lent = (check_answer register scheme certificate lent, check_table register scheme certificate lent)
 
-abbrev pub plainCall : PlainCall
-plainCall register scheme lent = (plainAnswer register scheme lent, plainBuffer register scheme lent)
+abbrev pub plain_call : PlainCall
+plain_call register scheme lent = (plain_answer register scheme lent, plain_buffer register scheme lent)
 
-abbrev pub buildCall : BuildCall
-buildCall register lent = (buildAnswer register lent, buildBuffer register lent)
+abbrev pub build_call : BuildCall
+build_call register lent = (build_answer register lent, build_buffer register lent)
 
-abbrev pub jobCall : JobCall
-jobCall job lent supplier tally = (jobAnswer job lent supplier tally, jobTable job lent supplier)
+abbrev pub job_call : JobCall
+job_call job lent supplier tally = (job_answer job lent supplier tally, job_table job lent supplier)
 
 -- the two listing calls, by the lines that each writes of a register and a plan
 
-abbrev pub listingWith : PlanLines → ListingCall
-listingWith lines job table buffer = (answerWith lines job table buffer, (listingTable job table, bufferWith lines job table buffer))
+abbrev pub listing_with : PlanLines → ListingCall
+listing_with lines job table buffer = (answer_with lines job table buffer, (listing_table job table, buffer_with lines job table buffer))
 
-abbrev pub listingCall : ListingCall
-listingCall = listingWith planLines
+abbrev pub listing_call : ListingCall
+listing_call = listing_with plan_lines
 
-abbrev pub supplierListingCall : ListingCall
-supplierListingCall = listingWith supplierLines
+abbrev pub supplier_listing_call : ListingCall
+supplier_listing_call = listing_with supplier_lines
 
-abbrev pub searchCall : SearchCall
-searchCall register limit = searchAnswer register limit
+abbrev pub search_call : SearchCall
+search_call register limit = search_answer register limit

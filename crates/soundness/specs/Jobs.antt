@@ -2,7 +2,7 @@
 -- any two such calls. Each may be lent a table of its own.
 use Rattle.std.specs.Prelude.{ℕ, ◌<◌, ◌≤◌, ◌≡◌, ◌↔◌, cond, List, [], ◌∷◌, ◌++◌, eqb, ℤ, pos, ◌-ℤ◌, length, take, ◌≤ℤ◌}
 use Rattle.wire.specs.Number.{Bytes}
-use Rattle.forms.specs.Table.{tableNumbers}
+use Rattle.forms.specs.Table.{table_numbers}
 use Rattle.register.specs.declared.Register.{Register}
 use Rattle.register.specs.Register.{coefficient}
 use Rattle.plan.specs.Plan as P
@@ -12,25 +12,25 @@ use Rattle.job.specs.declared.JobAnswer.{JobAnswer}
 use Rattle.job.specs.Tally.{suppliers}
 use Rattle.job.specs.Outcome.{Parts}
 use Rattle.job.specs.Valid.{Valid, Encodes}
-use Rattle.listing.specs.Listing.{planLines, boundLine, refusalLine}
-use Rattle.listing.specs.Answer.{listingRoom}
+use Rattle.listing.specs.Listing.{plan_lines, bound_line, refusal_line}
+use Rattle.listing.specs.Answer.{listing_room}
 use Rattle.listing.specs.Same.{SamePlan}
 use Rattle.soundness.specs.Calls.{JobCall, ListingCall}
 
 -- the cost of a plan, by a register
-abbrev pub planCost : Register → ℕ → ℤ
-planCost reg plan = P.cost (coefficient reg) reg plan
+abbrev pub plan_cost : Register → ℕ → ℤ
+plan_cost reg plan = P.cost (coefficient reg) reg plan
 
 -- the bytes before the first that is a given one, all where none is
 unfoldable pub before : ℕ → List ℕ → List ℕ
 before byte [] = []
 before byte (b ∷ bs) = cond (eqb b byte) [] (b ∷ before byte bs)
 
-module _ (jobCall : JobCall) (listingCall : ListingCall) where
+module _ (job_call : JobCall) (listing_call : ListingCall) where
   -- what the job call answers; a job is accepted where this is no refusal
 
   abbrev pub answered : List ℕ → List ℤ → ℕ → Tally → JobAnswer
-  answered job table supplier tally = (jobCall job table supplier tally).0
+  answered job table supplier tally = (job_call job table supplier tally).0
 
   abbrev pub Accepted : List ℕ → List ℤ → ℕ → Tally → Type 0
   Accepted job table supplier tally = (answered job table supplier tally).number ≡ 0
@@ -39,14 +39,14 @@ module _ (jobCall : JobCall) (listingCall : ListingCall) where
   -- as the answer counts
 
   abbrev pub Listed : List ℕ → List ℤ → List ℕ → Type 0
-  Listed job table buffer = (listingCall job table buffer).0.number ≡ 0
+  Listed job table buffer = (listing_call job table buffer).0.number ≡ 0
 
   abbrev pub shown : List ℕ → List ℤ → List ℕ → List ℕ
-  shown job table buffer = take (listingCall job table buffer).0.count (listingCall job table buffer).1.1
+  shown job table buffer = take (listing_call job table buffer).0.count (listing_call job table buffer).1.1
 
   -- those before the `B` line
-  abbrev pub shownPlan : List ℕ → List ℤ → List ℕ → List ℕ
-  shownPlan job table buffer = before 0x42 (shown job table buffer)
+  abbrev pub shown_plan : List ℕ → List ℤ → List ℕ → List ℕ
+  shown_plan job table buffer = before 0x42 (shown job table buffer)
 
   -- of an accepted job
   pub record AcceptedJob (job : List ℕ) (table : List ℤ) (supplier : ℕ) (tally : Tally) : Type 0 where
@@ -58,17 +58,17 @@ module _ (jobCall : JobCall) (listingCall : ListingCall) where
     -- its plan fits the rows of its register
     pub fits : Fits parts.register parts.plan
     -- no plan of its register that fits costs less than the bound, and without rows none at all
-    pub bounds : (plan : P.Plan parts.register.choices) → Fits parts.register plan.fed → (answered job table supplier tally).bound ≤ℤ planCost parts.register plan.fed
-    pub bounds-every : parts.register.rows ≡ 0 → (plan : P.Plan parts.register.choices) → (answered job table supplier tally).bound ≤ℤ planCost parts.register plan.fed
+    pub bounds : (plan : P.Plan parts.register.choices) → Fits parts.register plan.fed → (answered job table supplier tally).bound ≤ℤ plan_cost parts.register plan.fed
+    pub bounds_every : parts.register.rows ≡ 0 → (plan : P.Plan parts.register.choices) → (answered job table supplier tally).bound ≤ℤ plan_cost parts.register plan.fed
     -- the cost is that of its plan
-    pub cost-is : (answered job table supplier tally).cost ≡ planCost parts.register parts.plan
+    pub cost_is : (answered job table supplier tally).cost ≡ plan_cost parts.register parts.plan
     -- the gap says how far the cost is above the bound
     pub gap_is : (answered job table supplier tally).gap ≡ (answered job table supplier tally).cost -ℤ (answered job table supplier tally).bound
-    pub gap-not-negative : pos 0 ≤ℤ (answered job table supplier tally).gap
+    pub gap_not_negative : pos 0 ≤ℤ (answered job table supplier tally).gap
     -- its lines are those of its choices and its plan, and a `B` line of these three numbers
     pub lines : (lent : List ℤ) (buffer : List ℕ) → Listed job lent buffer →
-        shown job lent buffer ≡ planLines parts.register parts.plan
-        ++ boundLine (answered job table supplier tally).bound (answered job table supplier tally).cost (answered job table supplier tally).gap
+        shown job lent buffer ≡ plan_lines parts.register parts.plan
+        ++ bound_line (answered job table supplier tally).bound (answered job table supplier tally).cost (answered job table supplier tally).gap
 
   -- Only what is said of the bytes of the parts asks that those of the job are below 256, as they are in a lent `&[u8]`.
   pub record JobsSound : Type 0 where
@@ -76,10 +76,10 @@ module _ (jobCall : JobCall) (listingCall : ListingCall) where
     -- two accepted jobs show the same bytes before the `B` line just where they have the same choices and feed the same ones
     pub same_lines : (job job' : List ℕ) (table table' : List ℤ) (supplier supplier' : ℕ) (tally tally' : Tally) (j : AcceptedJob job table supplier tally) (j' : AcceptedJob job' table' supplier' tally') →
         (lent lent' : List ℤ) (buffer buffer' : List ℕ) → Listed job lent buffer → Listed job' lent' buffer' →
-        (shownPlan job lent buffer ≡ shownPlan job' lent' buffer') ↔ SamePlan j.parts.register j.parts.plan j'.parts.register j'.parts.plan
+        (shown_plan job lent buffer ≡ shown_plan job' lent' buffer') ↔ SamePlan j.parts.register j.parts.plan j'.parts.register j'.parts.plan
     -- a job that is refused, and not for a short table or its supplier's number, has only the line of that refusal
-    pub refused : (job : List ℕ) (table : List ℤ) (supplier : ℕ) (tally : Tally) → supplier < suppliers → tableNumbers ≤ length table → (Accepted job table supplier tally → ⊥) →
+    pub refused : (job : List ℕ) (table : List ℤ) (supplier : ℕ) (tally : Tally) → supplier < suppliers → table_numbers ≤ length table → (Accepted job table supplier tally → ⊥) →
         (lent : List ℤ) (buffer : List ℕ) → Listed job lent buffer →
-        shown job lent buffer ≡ refusalLine (answered job table supplier tally).number (answered job table supplier tally).position
+        shown job lent buffer ≡ refusal_line (answered job table supplier tally).number (answered job table supplier tally).position
     -- every job is listed, where table and buffer are long enough
-    pub room : (job : List ℕ) (lent : List ℤ) (buffer : List ℕ) → tableNumbers ≤ length lent → listingRoom ≤ length buffer → Listed job lent buffer
+    pub room : (job : List ℕ) (lent : List ℤ) (buffer : List ℕ) → table_numbers ≤ length lent → listing_room ≤ length buffer → Listed job lent buffer

@@ -1,7 +1,7 @@
 -- One part: it meets the paper's conditions with the parts before it, and the bytes are an encoding of it. And the table of the
 -- third.
 use Rattle.std.specs.Prelude.{ℕ, ◌^◌, ◌<◌, List, ℤ}
-use Rattle.forms.specs.Table.{withTable}
+use Rattle.forms.specs.Table.{with_table}
 use Rattle.register.specs.declared.Register.{Register}
 use Rattle.register.specs.Register.{coefficient}
 use Rattle.register.specs.Valid as R
@@ -43,5 +43,5 @@ abbrev pub NoneFit : Register → Type 0
 NoneFit reg = (plan : ℕ) → plan < 2 ^ reg.choices → Fits reg plan → ⊥
 
 -- R of a certificate at the front of a lent table
-abbrev pub withR : Register → Scheme → Certificate → List ℤ → List ℤ
-withR reg sch cert = withTable (side reg.choices sch) (R (coefficient reg) reg sch cert)
+abbrev pub with_r : Register → Scheme → Certificate → List ℤ → List ℤ
+with_r reg sch cert = with_table (side reg.choices sch) (R (coefficient reg) reg sch cert)

@@ -6,7 +6,7 @@
 ghost use Rattle.std.specs.Prelude.{◌≡◌};
 ghost use Rattle.wire.specs.Number.{Bytes};
 ghost use Rattle.job.specs.Counting.{Whole};
-ghost use Rattle.soundness.specs.Calls.{registerCall, schemeCall, costCall, penaltyCall, checkCall, plainCall, buildCall, jobCall, listingCall, supplierListingCall, searchCall};
+ghost use Rattle.soundness.specs.Calls.{register_call, scheme_call, cost_call, penalty_call, check_call, plain_call, build_call, job_call, listing_call, supplier_listing_call, search_call};
 
 use bound::CheckAnswer;
 use bound::check::feedcheck_check;
@@ -42,26 +42,26 @@ fn entered() {}
 // what is handed back of a lent table or buffer, are those of the call. So the statements speak of the code that is exported.
 
 pub fn register_call(register: &[u8]) -> RegisterAnswer
-    ensures { result ≡ registerCall register.now }
+    ensures { result ≡ register_call register.now }
 {
     feedcheck_register(register)
 }
 
 pub fn scheme_call(register: &[u8], scheme: &[u8]) -> SchemeAnswer
-    ensures { result ≡ schemeCall register.now scheme.now }
+    ensures { result ≡ scheme_call register.now scheme.now }
 {
     feedcheck_scheme(register, scheme)
 }
 
 pub fn cost_call(register: &[u8], plan: &[u8]) -> CostAnswer
-    ensures { result ≡ costCall register.now plan.now }
+    ensures { result ≡ cost_call register.now plan.now }
 {
     feedcheck_cost(register, plan)
 }
 
 pub fn penalty_call(register: &[u8], scheme: &[u8], table: &mut [i64]) -> PenaltyAnswer
-    ensures value { result ≡ (penaltyCall register.now scheme.now table.old).0 }
-    ensures table_after { table.new ≡ (penaltyCall register.now scheme.now table.old).1 }
+    ensures value { result ≡ (penalty_call register.now scheme.now table.old).0 }
+    ensures table_after { table.new ≡ (penalty_call register.now scheme.now table.old).1 }
 {
     feedcheck_penalty(register, scheme, table)
 }
@@ -72,51 +72,51 @@ pub fn check_call(
     certificate: &[u8],
     table: &mut [i64],
 ) -> CheckAnswer
-    ensures value { result ≡ (checkCall register.now scheme.now certificate.now table.old).0 }
-    ensures table_after { table.new ≡ (checkCall register.now scheme.now certificate.now table.old).1 }
+    ensures value { result ≡ (check_call register.now scheme.now certificate.now table.old).0 }
+    ensures table_after { table.new ≡ (check_call register.now scheme.now certificate.now table.old).1 }
 {
     feedcheck_check(register, scheme, certificate, table)
 }
 
 pub fn plain_call(register: &[u8], scheme: &[u8], buffer: &mut [u8]) -> WriterAnswer
-    ensures value { result ≡ (plainCall register.now scheme.now buffer.old).0 }
-    ensures buffer_after { buffer.new ≡ (plainCall register.now scheme.now buffer.old).1 }
+    ensures value { result ≡ (plain_call register.now scheme.now buffer.old).0 }
+    ensures buffer_after { buffer.new ≡ (plain_call register.now scheme.now buffer.old).1 }
 {
     feedcheck_plain(register, scheme, buffer)
 }
 
 pub fn build_call(register: &[u8], buffer: &mut [u8]) -> WriterAnswer
-    ensures value { result ≡ (buildCall register.now buffer.old).0 }
-    ensures buffer_after { buffer.new ≡ (buildCall register.now buffer.old).1 }
+    ensures value { result ≡ (build_call register.now buffer.old).0 }
+    ensures buffer_after { buffer.new ≡ (build_call register.now buffer.old).1 }
 {
     feedcheck_build(register, buffer)
 }
 
 pub fn job_call(job: &[u8], table: &mut [i64], supplier: u8, tally: Tally) -> JobAnswer
-    ensures value { result ≡ (jobCall job.now table.old supplier tally).0 }
-    ensures table_after { table.new ≡ (jobCall job.now table.old supplier tally).1 }
+    ensures value { result ≡ (job_call job.now table.old supplier tally).0 }
+    ensures table_after { table.new ≡ (job_call job.now table.old supplier tally).1 }
 {
     feedcheck_job(job, table, supplier, tally)
 }
 
 pub fn listing_call(job: &[u8], table: &mut [i64], buffer: &mut [u8]) -> WriterAnswer
-    ensures value { result ≡ (listingCall job.now table.old buffer.old).0 }
-    ensures table_after { table.new ≡ (listingCall job.now table.old buffer.old).1.0 }
-    ensures buffer_after { buffer.new ≡ (listingCall job.now table.old buffer.old).1.1 }
+    ensures value { result ≡ (listing_call job.now table.old buffer.old).0 }
+    ensures table_after { table.new ≡ (listing_call job.now table.old buffer.old).1.0 }
+    ensures buffer_after { buffer.new ≡ (listing_call job.now table.old buffer.old).1.1 }
 {
     feedcheck_listing(job, table, buffer)
 }
 
 pub fn supplier_listing_call(job: &[u8], table: &mut [i64], buffer: &mut [u8]) -> WriterAnswer
-    ensures value { result ≡ (supplierListingCall job.now table.old buffer.old).0 }
-    ensures table_after { table.new ≡ (supplierListingCall job.now table.old buffer.old).1.0 }
-    ensures buffer_after { buffer.new ≡ (supplierListingCall job.now table.old buffer.old).1.1 }
+    ensures value { result ≡ (supplier_listing_call job.now table.old buffer.old).0 }
+    ensures table_after { table.new ≡ (supplier_listing_call job.now table.old buffer.old).1.0 }
+    ensures buffer_after { buffer.new ≡ (supplier_listing_call job.now table.old buffer.old).1.1 }
 {
     feedcheck_supplier_listing(job, table, buffer)
 }
 
 pub fn search_call(register: &[u8], limit: u32) -> SearchAnswer
-    ensures { result ≡ searchCall register.now limit }
+    ensures { result ≡ search_call register.now limit }
 {
     feedcheck_search(register, limit)
 }

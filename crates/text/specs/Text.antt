@@ -3,12 +3,12 @@ use Rattle.std.specs.Prelude.{ℕ, zero, suc, ◌+◌, ◌/◌, ◌%◌, ◌≡�
 use mathlib.Core.List.{List, [], ◌∷◌, ◌++◌, flat_map}
 
 -- the decimal digits of a number, the highest first; the first number bounds how many, and one more than the number is enough
-unfoldable pub digitsTo : ℕ → ℕ → List ℕ
-digitsTo zero n = []
-digitsTo (suc k) n = elim (ltb n 10) [ true ↦ (48 + n) ∷ [] | false ↦ digitsTo k (n / 10) ++ ((48 + n % 10) ∷ []) ]
+unfoldable pub digits_to : ℕ → ℕ → List ℕ
+digits_to zero n = []
+digits_to (suc k) n = elim (ltb n 10) [ true ↦ (48 + n) ∷ [] | false ↦ digits_to k (n / 10) ++ ((48 + n % 10) ∷ []) ]
 
 unfoldable pub digits : ℕ → List ℕ
-digits n = digitsTo (suc n) n
+digits n = digits_to (suc n) n
 
 -- a leading `-` when negative, no leading zeros, 0 is `0`
 unfoldable pub decimal : ℤ → List ℕ

@@ -8,17 +8,17 @@ use lib.ListN.{length, take}
 use lib.Seq.{take_all}
 use borrow.Author.Tests.{le-ltb}
 use Rattle.wire.specs.Number.{Bytes}
-use Rattle.wire.specs.Part.{Part, accepted, readPart, byItself}
+use Rattle.wire.specs.Part.{Part, accepted, read_part, by_itself}
 use Rattle.wire.specs.Rows.{Progress, Row, part_of}
 use Rattle.wire.specs.Encoding.{Command, Accepts}
 use Rattle.wire.specs.Grammar.{Encodes}
-use Rattle.wire.proofs.Encoding.{byItself-end}
-use Rattle.wire.proofs.Grammar.{lastFrom}
-use Rattle.wire.proofs.Accepting.{reached, Laws, read-ended, read-encoded, done-accepts, encoded-read}
+use Rattle.wire.proofs.Encoding.{by_itself_end}
+use Rattle.wire.proofs.Grammar.{last_from}
+use Rattle.wire.proofs.Accepting.{reached, Laws, read_ended, read_encoded, done_accepts, encoded_read}
 
 -- what Done says: the record is valid, the commands say it, and the last of them has the byte `last`
 pub record Means {R : Type 0} (Done : Type 0 → R → List Command → Type 0) (Valid : R → Type 0) (Says : R → List Command → Type 0) (last : ℕ) : Type 1 where
-  pub valid : (B : Type 0) (r : R) (cs : List Command) → Done B r cs → Valid r × (lastFrom 0 cs ≡ last)
+  pub valid : (B : Type 0) (r : R) (cs : List Command) → Done B r cs → Valid r × (last_from 0 cs ≡ last)
   pub said : (B : Type 0) (r : R) (cs : List Command) → B → Done B r cs → Says r cs
   pub done : (r : R) (cs : List Command) → Valid r → Says r cs → Done (Unit {0}) r cs
 
@@ -29,53 +29,53 @@ module _ {R : Type 0} (fresh : R) (rows : List (Row R)) {Good Done : Type 0 → 
 
   -- ---- at the front of a run of bytes, as in a job
 
-  module _ (s : List ℕ) (p : Progress R) (end : ℕ) (e : readPart part s ≡ accepted p end) where
+  module _ (s : List ℕ) (p : Progress R) (end : ℕ) (e : read_part part s ≡ accepted p end) where
     -- validity asks nothing of the run
-    pub front-valid : Valid p.parsed × (p.previous ≡ last)
-    front-valid =
-        let r = read-ended fresh rows laws s p end e in
+    pub front_valid : Valid p.parsed × (p.previous ≡ last)
+    front_valid =
+        let r = read_ended fresh rows laws s p end e in
         let (v, l) = means.valid _ _ _ r.holds in
         (v, r.previous ∙ l)
 
-    pub front-encodes : Bytes s → Encodes part Says p.parsed (take end s) × (end ≤ length s)
-    front-encodes b =
-        let (r, l) = read-encoded fresh rows laws s p end b e in
+    pub front_encodes : Bytes s → Encodes part Says p.parsed (take end s) × (end ≤ length s)
+    front_encodes b =
+        let (r, l) = read_encoded fresh rows laws s p end b e in
         (record { commands = r.commands; are = means.said _ _ _ b r.holds; bytes = r.bytes }, l)
 
   -- commands that say a valid record are accepted
-  pub said-accepts : (r : R) (cs : List Command) → Valid r → Says r cs → Accepts part part.start cs (reached (lastFrom 0 cs) r)
-  said-accepts r cs v e = done-accepts fresh rows laws r cs (means.done r cs v e)
+  pub said_accepts : (r : R) (cs : List Command) → Valid r → Says r cs → Accepts part part.start cs (reached (last_from 0 cs) r)
+  said_accepts r cs v e = done_accepts fresh rows laws r cs (means.done r cs v e)
 
   -- every encoding of a valid record is accepted, whatever stands after it
-  pub front-accepted : (r : R) (x rest : List ℕ) → Valid r → Encodes part Says r x → readPart part (x ++ rest) ≡ accepted (reached last r) (length x)
-  front-accepted r x rest v e =
+  pub front_accepted : (r : R) (x rest : List ℕ) → Valid r → Encodes part Says r x → read_part part (x ++ rest) ≡ accepted (reached last r) (length x)
+  front_accepted r x rest v e =
       let d = means.done r e.commands v e.are in
-      encoded-read fresh rows laws (reached last r) x rest (record { commands = e.commands; holds = d; previous = sym (means.valid _ _ _ d).1; bytes = e.bytes })
+      encoded_read fresh rows laws (reached last r) x rest (record { commands = e.commands; holds = d; previous = sym (means.valid _ _ _ d).1; bytes = e.bytes })
 
   -- two valid records with one encoding are one
   pub determines : (r r' : R) (x : List ℕ) → Valid r → Valid r' → Encodes part Says r x → Encodes part Says r' x → r ≡ r'
   determines r r' x v v' e e' =
-      let a = front-accepted r x [] v e in
-      let b = front-accepted r' x [] v' e' in
+      let a = front_accepted r x [] v e in
+      let b = front_accepted r' x [] v' e' in
       let c : reached last r ≡ reached last r' = cc in
       ap (λ p. p.parsed) c
 
   -- ---- by itself
 
-  pub whole-accepted : (r : R) (s : List ℕ) → Valid r → Encodes part Says r s → byItself s (readPart part s) ≡ accepted (reached last r) (length s)
-  unfolding byItself
-  whole-accepted r s v e =
-      let q : readPart part s ≡ accepted (reached last r) (length s) = ap (readPart part) (sym (append-nil s)) ∙ front-accepted r s [] v e in
+  pub whole_accepted : (r : R) (s : List ℕ) → Valid r → Encodes part Says r s → by_itself s (read_part part s) ≡ accepted (reached last r) (length s)
+  unfolding by_itself
+  whole_accepted r s v e =
+      let q : read_part part s ≡ accepted (reached last r) (length s) = ap (read_part part) (sym (append-nil s)) ∙ front_accepted r s [] v e in
       rw (q, le-ltb (length s) (length s) (omega arith))
 
-  module _ (s : List ℕ) (p : Progress R) (end : ℕ) (e : byItself s (readPart part s) ≡ accepted p end) where
-    pub whole-valid : Valid p.parsed × (p.previous ≡ last)
-    whole-valid = front-valid s p end (byItself-end part s p end e).0
+  module _ (s : List ℕ) (p : Progress R) (end : ℕ) (e : by_itself s (read_part part s) ≡ accepted p end) where
+    pub whole_valid : Valid p.parsed × (p.previous ≡ last)
+    whole_valid = front_valid s p end (by_itself_end part s p end e).0
 
-    pub whole-encodes : Bytes s → Encodes part Says p.parsed s
-    whole-encodes b =
-        let (q, l) = byItself-end part s p end e in
-        rw (take_all end s (omega (arith, l))) at (front-encodes s p end q b).0
+    pub whole_encodes : Bytes s → Encodes part Says p.parsed s
+    whole_encodes b =
+        let (q, l) = by_itself_end part s p end e in
+        rw (take_all end s (omega (arith, l))) at (front_encodes s p end q b).0
 
-  pub whole-iff : (s : List ℕ) (r : R) → Bytes s → (byItself s (readPart part s) ≡ accepted (reached last r) (length s)) ↔ (Valid r × Encodes part Says r s)
-  whole-iff s r b = ((λ e. ((whole-valid s _ _ e).0, whole-encodes s _ _ e b)), λ h. whole-accepted r s h.0 h.1)
+  pub whole_iff : (s : List ℕ) (r : R) → Bytes s → (by_itself s (read_part part s) ≡ accepted (reached last r) (length s)) ↔ (Valid r × Encodes part Says r s)
+  whole_iff s r b = ((λ e. ((whole_valid s _ _ e).0, whole_encodes s _ _ e b)), λ h. whole_accepted r s h.0 h.1)

@@ -8,11 +8,11 @@ use mathlib.Core.List.{List}
 use lib.Dec.{eqb}
 use lib.ListN.{length, get_or}
 use borrow.Author.Tests.{lt-ltb, eq-eqb}
-use Rattle.integers.proofs.Lists.{flag, or-none}
-use Rattle.wire.specs.Checks.{refusal, commandChecks}
-use Rattle.wire.specs.Part.{Part, Reading, refused, accepted, operandsAt, size, checksAt, after_at, step, readFrom, readPart}
-use Rattle.wire.specs.Walk.{passing, comesFrom, comesTo}
-use Rattle.wire.proofs.Part.{Passes, Ways, by-ways, passed-checksAt, step-goes, readFrom-missing, readFrom-refused, readFrom-goes, readFrom-ends}
+use Rattle.integers.proofs.Lists.{flag, or_none}
+use Rattle.wire.specs.Checks.{refusal, command_checks}
+use Rattle.wire.specs.Part.{Part, Reading, refused, accepted, operands_at, size, checks_at, after_at, step, read_from, read_part}
+use Rattle.wire.specs.Walk.{passing, comes_from, comes_to}
+use Rattle.wire.proofs.Part.{Passes, Ways, by_ways, passed_checks_at, step_goes, read_from_missing, read_from_refused, read_from_goes, read_from_ends}
 
 -- Reach holds of what was read and the position past it, where the part is accepted
 abbrev pub Ended : {S : Type 0} → (S → ℕ → Type 0) → Reading S → Type 0
@@ -38,49 +38,49 @@ module _ {S : Type 0} (P Q : Part S) (Reach : S → ℕ → Type 0) where
 
   -- at a position where they agree, both check alike and go on alike
   module _ (s : List ℕ) (read : S) (at : ℕ) (a : Alike read at (get_or s at 0)) where
-    checks-alike : refusal (checksAt P s read at) ≡ refusal (checksAt Q s read at)
-    unfolding checksAt commandChecks refusal
-    checks-alike = rw (← a.here) (flag (P.here read (get_or s at 0)) (λ t. rw (t, (a.same t).widths, (a.same t).checks) refl) (λ t. rw t))
+    checks_alike : refusal (checks_at P s read at) ≡ refusal (checks_at Q s read at)
+    unfolding checks_at command_checks refusal
+    checks_alike = rw (← a.here) (flag (P.here read (get_or s at 0)) (λ t. rw (t, (a.same t).widths, (a.same t).checks) refl) (λ t. rw t))
 
-    refused-alike : (n : ℕ) → at < length s → refusal (checksAt P s read at) ≡ n → (n ≡ 0 → ⊥) → refused n at ≡ readFrom Q s read at
-    refused-alike n l e d = sym (readFrom-refused Q s read at n l (sym checks-alike ∙ e) d)
+    refused_alike : (n : ℕ) → at < length s → refusal (checks_at P s read at) ≡ n → (n ≡ 0 → ⊥) → refused n at ≡ read_from Q s read at
+    refused_alike n l e d = sym (read_from_refused Q s read at n l (sym checks_alike ∙ e) d)
 
     module _ (p : Passes P s read at) where
-      at-same : Same read at (get_or s at 0)
-      at-same = a.same p.here
+      at_same : Same read at (get_or s at 0)
+      at_same = a.same p.here
 
-      passes : refusal (checksAt Q s read at) ≡ 0
-      passes = sym checks-alike ∙ passed-checksAt P s read at p
+      passes : refusal (checks_at Q s read at) ≡ 0
+      passes = sym checks_alike ∙ passed_checks_at P s read at p
 
-      after-alike : after_at Q s read at ≡ after_at P s read at
+      after_alike : after_at Q s read at ≡ after_at P s read at
       unfolding after_at
-      after-alike = sym (at-same.after _ ∙ ap (λ ws. Q.after read (get_or s at 0) (operandsAt ws s (at + 1))) at-same.widths)
+      after_alike = sym (at_same.after _ ∙ ap (λ ws. Q.after read (get_or s at 0) (operands_at ws s (at + 1))) at_same.widths)
 
-      goes-alike : (x : Reading S) → P.last (get_or s at 0) ≡ false → x ≡ readFrom Q s (after_at P s read at) (at + size P (get_or s at 0)) → x ≡ readFrom Q s read at
-      goes-alike x l k = k ∙ sym (readFrom-goes Q s read at p.inside passes (sym at-same.last ∙ l) ∙ rw (after-alike, at-same.widths))
+      goes_alike : (x : Reading S) → P.last (get_or s at 0) ≡ false → x ≡ read_from Q s (after_at P s read at) (at + size P (get_or s at 0)) → x ≡ read_from Q s read at
+      goes_alike x l k = k ∙ sym (read_from_goes Q s read at p.inside passes (sym at_same.last ∙ l) ∙ rw (after_alike, at_same.widths))
 
-      ends-alike : P.last (get_or s at 0) ≡ true → accepted (after_at P s read at) (at + size P (get_or s at 0)) ≡ readFrom Q s read at
-      ends-alike l = sym (readFrom-ends Q s read at p.inside passes (sym at-same.last ∙ l) ∙ rw (after-alike, at-same.widths))
+      ends_alike : P.last (get_or s at 0) ≡ true → accepted (after_at P s read at) (at + size P (get_or s at 0)) ≡ read_from Q s read at
+      ends_alike l = sym (read_from_ends Q s read at p.inside passes (sym at_same.last ∙ l) ∙ rw (after_alike, at_same.widths))
 
   module _ (s : List ℕ) (alike : (read : S) (at : ℕ) → Reach read at → Alike read at (get_or s at 0)) where
-    pub read_alike : P.start ≡ Q.start → Reach P.start 0 → (readPart P s ≡ readPart Q s) × Ended Reach (readPart P s)
-    unfolding readPart after_at
-    read_alike e r = let (k, h) = by-ways P s M ways P.start 0 r in (k ∙ ap (λ start. readFrom Q s start 0) e, h)
+    pub read_alike : P.start ≡ Q.start → Reach P.start 0 → (read_part P s ≡ read_part Q s) × Ended Reach (read_part P s)
+    unfolding read_part after_at
+    read_alike e r = let (k, h) = by_ways P s M ways P.start 0 r in (k ∙ ap (λ start. read_from Q s start 0) e, h)
       where
         M : S → ℕ → Reading S → Type 0
-        M read at x = Reach read at → (x ≡ readFrom Q s read at) × Ended Reach x
+        M read at x = Reach read at → (x ≡ read_from Q s read at) × Ended Reach x
 
         ways : Ways P s M
         ways = record {
-          missing = λ read at l r. (sym (readFrom-missing Q s read at l), tt);
-          refuses = λ read at n l e d r. (refused-alike s read at (alike read at r) n l e d, tt);
+          missing = λ read at l r. (sym (read_from_missing Q s read at l), tt);
+          refuses = λ read at n l e d r. (refused_alike s read at (alike read at r) n l e d, tt);
           goes = λ read at x p l rest r.
               let a = alike read at r in
-              let (k, h) = rest ((at-same s read at a p).moves _ p.allowed) in
-              (goes-alike s read at a p x l k, h);
+              let (k, h) = rest ((at_same s read at a p).moves _ p.allowed) in
+              (goes_alike s read at a p x l k, h);
           ends = λ read at p l r.
               let a = alike read at r in
-              (ends-alike s read at a p l, (at-same s read at a p).moves _ p.allowed);
+              (ends_alike s read at a p l, (at_same s read at a p).moves _ p.allowed);
         }
 
 -- ---- parts that agree at every byte but one, and at that one where it may not stand
@@ -89,56 +89,56 @@ module _ {S : Type 0} (P Q : Part S) (Reach : S → ℕ → Type 0) where
 pub record Avoids {S : Type 0} (Q : Part S) (may : S → Bool) (b : ℕ) (s : List ℕ) (read : S) (at : ℕ) : Type 0 where
   pub steps : ℕ
   pub enough : length s ≤ at + steps
-  pub none : comesFrom Q may b s steps read at ≡ false
+  pub none : comes_from Q may b s steps read at ≡ false
 
 -- so it may not stand at the first command; nor does reading come to it from the next one on
 module _ {S : Type 0} (Q : Part S) (may : S → Bool) (b : ℕ) (s : List ℕ) (read : S) (at : ℕ) (l : at < length s) where
-  avoids-here : Avoids Q may b s read at → (get_or s at 0 ≡ b → may read ≡ false) × (refusal (checksAt Q s read at) ≡ 0 → Q.last (get_or s at 0) ≡ false → Avoids Q may b s (after_at Q s read at) (at + size Q (get_or s at 0)))
-  unfolding comesFrom passing
-  avoids-here a = go a.steps a.enough a.none
+  avoids_here : Avoids Q may b s read at → (get_or s at 0 ≡ b → may read ≡ false) × (refusal (checks_at Q s read at) ≡ 0 → Q.last (get_or s at 0) ≡ false → Avoids Q may b s (after_at Q s read at) (at + size Q (get_or s at 0)))
+  unfolding comes_from passing
+  avoids_here a = go a.steps a.enough a.none
     where
       c : ℕ
       c = get_or s at 0
 
-      go : (k : ℕ) → length s ≤ at + k → comesFrom Q may b s k read at ≡ false → (c ≡ b → may read ≡ false) × (refusal (checksAt Q s read at) ≡ 0 → Q.last c ≡ false → Avoids Q may b s (after_at Q s read at) (at + size Q c))
+      go : (k : ℕ) → length s ≤ at + k → comes_from Q may b s k read at ≡ false → (c ≡ b → may read ≡ false) × (refusal (checks_at Q s read at) ≡ 0 → Q.last c ≡ false → Avoids Q may b s (after_at Q s read at) (at + size Q c))
       go zero h e = absurd (omega arith)
       go (suc k) h e =
-          let past = passing (step Q s read at) (comesFrom Q may b s k) in
+          let past = passing (step Q s read at) (comes_from Q may b s k) in
           let f : ((eqb c b && may read) || past) ≡ false = rw (lt-ltb at (length s) l) at e in
-          let (d, n) : ((eqb c b && may read) ≡ false) × (past ≡ false) = or-none (eqb c b && may read) past f in
-          (λ q. rw (eq-eqb c b q) at d, λ z t. record { steps = k; enough = omega arith; none = rw (step-goes Q s read at l z t) at n })
+          let (d, n) : ((eqb c b && may read) ≡ false) × (past ≡ false) = or_none (eqb c b && may read) past f in
+          (λ q. rw (eq-eqb c b q) at d, λ z t. record { steps = k; enough = omega arith; none = rw (step_goes Q s read at l z t) at n })
 
 -- so where reading from the front does not, both parts read alike
 module _ {S : Type 0} (P Q : Part S) (Reach : S → ℕ → Type 0) (may : S → Bool) (b : ℕ) (agree : (read : S) (at c : ℕ) → Reach read at → (c ≡ b → may read ≡ false) → Alike P Q Reach read at c) where
-  pub read-without : (s : List ℕ) → (comesTo Q may b s ≡ true → ⊥) → P.start ≡ Q.start → Reach P.start 0 → (readPart P s ≡ readPart Q s) × Ended Reach (readPart P s)
-  unfolding readPart comesTo after_at
-  read-without s none e r =
-      let comes : S → Bool = λ start. comesFrom Q may b s (length s) start 0 in
+  pub read_without : (s : List ℕ) → (comes_to Q may b s ≡ true → ⊥) → P.start ≡ Q.start → Reach P.start 0 → (read_part P s ≡ read_part Q s) × Ended Reach (read_part P s)
+  unfolding read_part comes_to after_at
+  read_without s none e r =
+      let comes : S → Bool = λ start. comes_from Q may b s (length s) start 0 in
       let avoids : Avoids Q may b s P.start 0 = record { steps = length s; enough = omega arith; none = flag (comes P.start) (λ t. absurd (none (ap comes (sym e) ∙ t))) (λ t. t) } in
-      let (k, h) = by-ways P s M ways P.start 0 r avoids in
-      (k ∙ ap (λ start. readFrom Q s start 0) e, h)
+      let (k, h) = by_ways P s M ways P.start 0 r avoids in
+      (k ∙ ap (λ start. read_from Q s start 0) e, h)
     where
       M : S → ℕ → Reading S → Type 0
-      M read at x = Reach read at → Avoids Q may b s read at → (x ≡ readFrom Q s read at) × Ended Reach x
+      M read at x = Reach read at → Avoids Q may b s read at → (x ≡ read_from Q s read at) × Ended Reach x
 
       here : (read : S) (at : ℕ) → at < length s → Reach read at → Avoids Q may b s read at → Alike P Q Reach read at (get_or s at 0)
-      here read at l r a = agree read at (get_or s at 0) r (avoids-here Q may b s read at l a).0
+      here read at l r a = agree read at (get_or s at 0) r (avoids_here Q may b s read at l a).0
 
       onward : (read : S) (at : ℕ) → Alike P Q Reach read at (get_or s at 0) → Passes P s read at → P.last (get_or s at 0) ≡ false → Avoids Q may b s read at → Avoids Q may b s (after_at P s read at) (at + size P (get_or s at 0))
       onward read at h p l a =
-          let same = at-same P Q Reach s read at h p in
-          let next : Avoids Q may b s (after_at Q s read at) (at + size Q (get_or s at 0)) = (avoids-here Q may b s read at p.inside a).1 (passes P Q Reach s read at h p) (sym same.last ∙ l) in
-          rw (after-alike P Q Reach s read at h p, ← same.widths) at next
+          let same = at_same P Q Reach s read at h p in
+          let next : Avoids Q may b s (after_at Q s read at) (at + size Q (get_or s at 0)) = (avoids_here Q may b s read at p.inside a).1 (passes P Q Reach s read at h p) (sym same.last ∙ l) in
+          rw (after_alike P Q Reach s read at h p, ← same.widths) at next
 
       ways : Ways P s M
       ways = record {
-        missing = λ read at l r a. (sym (readFrom-missing Q s read at l), tt);
-        refuses = λ read at n l e d r a. (refused-alike P Q Reach s read at (here read at l r a) n l e d, tt);
+        missing = λ read at l r a. (sym (read_from_missing Q s read at l), tt);
+        refuses = λ read at n l e d r a. (refused_alike P Q Reach s read at (here read at l r a) n l e d, tt);
         goes = λ read at x p l rest r a.
             let h = here read at p.inside r a in
-            let (k, g) = rest ((at-same P Q Reach s read at h p).moves _ p.allowed) (onward read at h p l a) in
-            (goes-alike P Q Reach s read at h p x l k, g);
+            let (k, g) = rest ((at_same P Q Reach s read at h p).moves _ p.allowed) (onward read at h p l a) in
+            (goes_alike P Q Reach s read at h p x l k, g);
         ends = λ read at p l r a.
             let h = here read at p.inside r a in
-            (ends-alike P Q Reach s read at h p l, (at-same P Q Reach s read at h p).moves _ p.allowed);
+            (ends_alike P Q Reach s read at h p l, (at_same P Q Reach s read at h p).moves _ p.allowed);
       }

@@ -7,17 +7,17 @@ use mathlib.Core.List.{List, [], ◌∷◌, ◌++◌}
 use borrow.Author.Tests.{ne_eqb, eq-eqb}
 use Rattle.integers.specs.Lists.{All}
 use Rattle.wire.specs.Part.{total}
-use Rattle.wire.specs.Rows.{Row, no_row, isAmong, row_of}
+use Rattle.wire.specs.Rows.{Row, no_row, is_among, row_of}
 
 module _ {R : Type 0} where
   -- the byte is that of none of the rows
   abbrev pub NoneOf : List (Row R) → ℕ → Type 0
   NoneOf rows b = All (λ row. b ≡ row.byte → ⊥) rows
 
-  pub no-row : (rows : List (Row R)) (b : ℕ) → NoneOf rows b → row_of rows b ≡ no_row
+  pub no_row_lem : (rows : List (Row R)) (b : ℕ) → NoneOf rows b → row_of rows b ≡ no_row
   unfolding row_of
-  no-row [] b h = refl
-  no-row (row ∷ rows) b h = rw (ne_eqb b row.byte h.0) (no-row rows b h.1)
+  no_row_lem [] b h = refl
+  no_row_lem (row ∷ rows) b h = rw (ne_eqb b row.byte h.0) (no_row_lem rows b h.1)
 
   -- what holds of the byte of each row, and where the byte has no row, holds of any byte
   pub by_bytes : (Q : ℕ → Type 0) (rows : List (Row R)) (b : ℕ) → (NoneOf rows b → Q b) → All (λ row. Q row.byte) rows → Q b
@@ -44,10 +44,10 @@ module _ {R : Type 0} where
         go (no d) = rw (ne_eqb b end.byte d) none
 
     -- only the last row may stand anywhere
-    pub only-last : (rows : List (Row R)) → NoneOf rows b → (previous : ℕ) → isAmong previous (row_of (rows ++ (end ∷ [])) b).follows ≡ true → b ≡ end.byte
-    only-last rows h previous e = by_last (λ row. isAmong previous row.follows ≡ true → b ≡ end.byte) (λ f. absurd (false≢true f)) (λ e f. e) (rw (last_row rows h) at e)
+    pub only_last : (rows : List (Row R)) → NoneOf rows b → (previous : ℕ) → is_among previous (row_of (rows ++ (end ∷ [])) b).follows ≡ true → b ≡ end.byte
+    only_last rows h previous e = by_last (λ row. is_among previous row.follows ≡ true → b ≡ end.byte) (λ f. absurd (false≢true f)) (λ e f. e) (rw (last_row rows h) at e)
 
     -- without operands it takes one byte, as a byte that has no row does
-    pub total-last : (rows : List (Row R)) → NoneOf rows b → end.widths ≡ [] → total (row_of (rows ++ (end ∷ [])) b).widths ≡ 0
+    pub total_last : (rows : List (Row R)) → NoneOf rows b → end.widths ≡ [] → total (row_of (rows ++ (end ∷ [])) b).widths ≡ 0
     unfolding total
-    total-last rows h e = rw (last_row rows h) (by_last (λ row. total row.widths ≡ 0) refl (λ _. rw e))
+    total_last rows h e = rw (last_row rows h) (by_last (λ row. total row.widths ≡ 0) refl (λ _. rw e))

@@ -8,14 +8,14 @@ use mathlib.Core.Logic.{⊎_elim}
 use mathlib.Core.List.{List, [], ◌∷◌, ◌++◌, append_assoc}
 use lib.ListN.{length, drop, length-append}
 use lib.Seq.{sets-eq, length-sets}
-use Rattle.integers.specs.Lists.{joinBelow}
-use Rattle.integers.proofs.Entries.{below-or-last}
+use Rattle.integers.specs.Lists.{join_below}
+use Rattle.integers.proofs.Entries.{below_or_last}
 use Rattle.wire.specs.Number.{bytes_of, put_at, written}
-use Rattle.wire.proofs.Number.{length-bytesOf, sets-append}
+use Rattle.wire.proofs.Number.{length-bytes_of, sets_append}
 
-pub putAt-written : (s : List ℕ) (at k x : ℕ) → put_at k s at x ≡ written s at (bytes_of k x)
+pub put_at-written : (s : List ℕ) (at k x : ℕ) → put_at k s at x ≡ written s at (bytes_of k x)
 unfolding put_at written
-putAt-written s at k x = refl
+put_at-written s at k x = refl
 
 module _ (s : List ℕ) (at : ℕ) where
   pub written_none : written s at [] ≡ s
@@ -29,29 +29,29 @@ module _ (s : List ℕ) (at : ℕ) where
   -- and others after them
   pub written-append : (a b : List ℕ) → written (written s at a) (at + length a) b ≡ written s at (a ++ b)
   unfolding written
-  written-append a b = sym (sets-append s at a b)
+  written-append a b = sym (sets_append s at a b)
 
   pub written_next : (a : List ℕ) (next : ℕ) (b : List ℕ) → next ≡ at + length a → written (written s at a) next b ≡ written s at (a ++ b)
   written_next a next b e = rw e (written-append a b)
 
   -- and a number after them
-  pub putAt-next : (a : List ℕ) (next k x : ℕ) → next ≡ at + length a → put_at k (written s at a) next x ≡ written s at (a ++ bytes_of k x)
-  putAt-next a next k x e = putAt-written (written s at a) next k x ∙ written_next a next (bytes_of k x) e
+  pub put_at_next : (a : List ℕ) (next k x : ℕ) → next ≡ at + length a → put_at k (written s at a) next x ≡ written s at (a ++ bytes_of k x)
+  put_at_next a next k x e = put_at-written (written s at a) next k x ∙ written_next a next (bytes_of k x) e
 
   -- three numbers
-  pub putAt-three : (j k l x y z second third : ℕ) → second ≡ at + j → third ≡ at + j + k →
+  pub put_at_three : (j k l x y z second third : ℕ) → second ≡ at + j → third ≡ at + j + k →
       put_at l (put_at k (put_at j s at x) second y) third z ≡ written s at (bytes_of j x ++ (bytes_of k y ++ bytes_of l z))
-  putAt-three j k l x y z second third e d =
+  put_at_three j k l x y z second third e d =
       rw (
-        putAt-written s at j x,
-        putAt-next (bytes_of j x) second k y (rw (length-bytesOf j x) e),
-        putAt-next (bytes_of j x ++ bytes_of k y) third l z (rw (length-append (bytes_of j x) (bytes_of k y), length-bytesOf j x, length-bytesOf k y, ← (add_assoc at j k)) d),
+        put_at-written s at j x,
+        put_at_next (bytes_of j x) second k y (rw (length-bytes_of j x) e),
+        put_at_next (bytes_of j x ++ bytes_of k y) third l z (rw (length-append (bytes_of j x) (bytes_of k y), length-bytes_of j x, length-bytes_of k y, ← (add_assoc at j k)) d),
         append_assoc,
       )
 
-pub written-front : (s a : List ℕ) → length a ≤ length s → written s 0 a ≡ a ++ drop (length a) s
+pub written_front : (s a : List ℕ) → length a ≤ length s → written s 0 a ≡ a ++ drop (length a) s
 unfolding written
-written-front s a h = sets-eq a s 0 (rw zero-add h) ∙ rw zero-add
+written_front s a h = sets-eq a s 0 (rw zero-add h) ∙ rw zero-add
 
 -- a number of one byte
 pub one_byte : (x : ℕ) → x < 256 → bytes_of 1 x ≡ x ∷ []
@@ -85,31 +85,31 @@ module _ (f : ℕ → List ℕ) (n start : ℕ) (s : List ℕ) where
   -- after i turns
   pub record Going (i at : ℕ) (out : List ℕ) : Type 0 where
     pub few : i ≤ n
-    pub wrote : Wrote s start (joinBelow i f) at out
+    pub wrote : Wrote s start (join_below i f) at out
 
   pub begins : Going 0 start s
-  unfolding joinBelow
+  unfolding join_below
   begins = record { few = omega arith; wrote = nothing s start }
 
-  longer : (i n : ℕ) → i < n → length (joinBelow i f) + length (f i) ≤ length (joinBelow n f)
-  unfolding joinBelow
+  longer : (i n : ℕ) → i < n → length (join_below i f) + length (f i) ≤ length (join_below n f)
+  unfolding join_below
   longer i zero l = absurd (omega arith)
   longer i (suc n) l =
       ⊎_elim
-      (λ (k : i < n). omega (arith, longer i n k, length-append (joinBelow n f) (f n)))
-      (λ (e : i ≡ n). rw e (omega (arith, length-append (joinBelow n f) (f n))))
-      (below-or-last i n l)
+      (λ (k : i < n). omega (arith, longer i n k, length-append (join_below n f) (f n)))
+      (λ (e : i ≡ n). rw e (omega (arith, length-append (join_below n f) (f n))))
+      (below_or_last i n l)
 
   module _ {i at : ℕ} {out : List ℕ} (going : Going i at out) where
-    pub length-going : length out ≡ length s
-    length-going = ap length going.wrote.1 ∙ length-written s start (joinBelow i f)
+    pub length_going : length out ≡ length s
+    length_going = ap length going.wrote.1 ∙ length-written s start (join_below i f)
 
-    pub room : i < n → start + length (joinBelow n f) ≤ length s → at + length (f i) ≤ length out
-    room l h = omega (arith, going.wrote.0, longer i n l, length-going)
+    pub room : i < n → start + length (join_below n f) ≤ length s → at + length (f i) ≤ length out
+    room l h = omega (arith, going.wrote.0, longer i n l, length_going)
 
     pub turn : i < n → {next : ℕ} {out' : List ℕ} → Wrote out at (f i) next out' → Going (i + 1) next out'
-    unfolding joinBelow
-    turn l {next} {out'} w = rw add-one (record { few = omega arith; wrote = and_then s start (joinBelow i f) (f i) going.wrote w })
+    unfolding join_below
+    turn l {next} {out'} w = rw add-one (record { few = omega arith; wrote = and_then s start (join_below i f) (f i) going.wrote w })
 
-    pub ends : n ≤ i → Wrote s start (joinBelow n f) at out
-    ends l = let e : i ≡ n = omega (arith, going.few) in same s start (ap (λ k. joinBelow k f) e) going.wrote
+    pub ends : n ≤ i → Wrote s start (join_below n f) at out
+    ends l = let e : i ≡ n = omega (arith, going.few) in same s start (ap (λ k. join_below k f) e) going.wrote

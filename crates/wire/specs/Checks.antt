@@ -16,8 +16,8 @@ refusal [] = 0
 refusal (c ∷ cs) = cond c.fails c.number (refusal cs)
 
 -- the checks of a command: the byte is not a command here (1), the bytes left are fewer than its own (2), and its own checks
-unfoldable pub commandChecks : Bool → ℕ → ℕ → List Check → List Check
-commandChecks here left size own = check 1 (not here) ∷ check 2 (ltb left size) ∷ own
+unfoldable pub command_checks : Bool → ℕ → ℕ → List Check → List Check
+command_checks here left size own = check 1 (not here) ∷ check 2 (ltb left size) ∷ own
 
 -- a check with this number fails
 abbrev pub Fails : ℕ → List Check → Type 0

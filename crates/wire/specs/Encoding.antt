@@ -24,12 +24,12 @@ Fit (w ∷ ws) [] = ⊥
 Fit (w ∷ ws) (x ∷ xs) = (x < 256 ^ w) × Fit ws xs
 
 module _ {S : Type 0} (P : Part S) where
-  unfoldable pub encodeCommand : Command → List ℕ
-  encodeCommand c = c.byte ∷ fields (P.widths c.byte) c.operands
+  unfoldable pub encode_command : Command → List ℕ
+  encode_command c = c.byte ∷ fields (P.widths c.byte) c.operands
 
   -- commands one after the other
   unfoldable pub encode : List Command → List ℕ
-  encode cs = flat_map encodeCommand cs
+  encode cs = flat_map encode_command cs
 
   -- a command that is not refused
   pub record Allowed (read : S) (c : Command) : Type 0 where
@@ -38,12 +38,12 @@ module _ {S : Type 0} (P : Part S) where
     pub operands : Fit (P.widths c.byte) c.operands
     pub passes : refusal (P.checks read c.byte c.operands) ≡ 0
 
-  abbrev pub afterCommand : S → Command → S
-  afterCommand read c = P.after read c.byte c.operands
+  abbrev pub after_command : S → Command → S
+  after_command read c = P.after read c.byte c.operands
 
   -- the commands are allowed one after the other, the last of them and no other ends the part, and lead from what has been
   -- read to what is read in the end
   abbrev pub Accepts : S → List Command → S → Type 0
   Accepts read [] end = ⊥
   Accepts read (c ∷ cs) end =
-      Allowed read c × cond (P.last c.byte) ((cs ≡ []) × (afterCommand read c ≡ end)) (Accepts (afterCommand read c) cs end)
+      Allowed read c × cond (P.last c.byte) ((cs ≡ []) × (after_command read c ≡ end)) (Accepts (after_command read c) cs end)

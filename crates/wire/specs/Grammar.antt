@@ -18,8 +18,8 @@ Optional D F cs = (D × (cs ≡ [])) ⊎ Only F cs
 pub record Then (X Y : List Command → Type 0) (cs : List Command) : Type 0 where
   pub first : List Command
   pub second : List Command
-  pub is-first : X first
-  pub is-second : Y second
+  pub is_first : X first
+  pub is_second : Y second
   pub whole : cs ≡ first ++ second
 
 -- a command for each i below n: F i c, that c is a form of entry i

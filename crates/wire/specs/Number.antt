@@ -15,12 +15,12 @@ little [] = 0
 little (b ∷ bs) = b + 256 * little bs
 
 -- the number in the k bytes at a position
-unfoldable pub natAt : ℕ → List ℕ → ℕ → ℕ
-natAt k s at = little (take k (drop at s))
+unfoldable pub nat_at : ℕ → List ℕ → ℕ → ℕ
+nat_at k s at = little (take k (drop at s))
 
 -- the signed number in the bytes of a width at a position, in two's complement
-unfoldable pub intAt : Width → List ℕ → ℕ → ℤ
-intAt w s at = to_z w (natAt (bits w / 8) s at)
+unfoldable pub int_at : Width → List ℕ → ℕ → ℤ
+int_at w s at = to_z w (nat_at (bits w / 8) s at)
 
 -- the k bytes of a number, the least first
 unfoldable pub bytes_of : ℕ → ℕ → List ℕ

@@ -23,16 +23,16 @@ and_then (refuses number part at) rest = refuses number part at
 and_then (accepts a) rest = rest a
 
 -- what is answered: of a refusal, and of what the parts gave
-abbrev pub answerBy : {A B : Type 0} → (ℕ → ℕ → ℕ → B) → (A → B) → Outcome A → B
-answerBy refusal answer (refuses number part at) = refusal number part at
-answerBy refusal answer (accepts a) = answer a
+abbrev pub answer_by : {A B : Type 0} → (ℕ → ℕ → ℕ → B) → (A → B) → Outcome A → B
+answer_by refusal answer (refuses number part at) = refusal number part at
+answer_by refusal answer (accepts a) = answer a
 
 -- a part that starts at a position of a longer run, with positions from the start of that run
-abbrev pub startingAt : {S : Type 0} → ℕ → Reading S → Reading S
-startingAt from (refused number at) = refused number (from + at)
-startingAt from (accepted read end) = accepted read (from + end)
+abbrev pub starting_at : {S : Type 0} → ℕ → Reading S → Reading S
+starting_at from (refused number at) = refused number (from + at)
+starting_at from (accepted read end) = accepted read (from + end)
 
 -- what the commands of a part gave, added to what the parts before it gave
-abbrev pub addedBy : {A B : Type 0} → (A → B) → Reading (Progress A) → Reading B
-addedBy add (refused number at) = refused number at
-addedBy add (accepted p end) = accepted (add p.parsed) end
+abbrev pub added_by : {A B : Type 0} → (A → B) → Reading (Progress A) → Reading B
+added_by add (refused number at) = refused number at
+added_by add (accepted p end) = accepted (add p.parsed) end

@@ -1,7 +1,7 @@
 -- How a part of the job file is read: one command byte, then operands of fixed width; commands first to last.
 use Rattle.std.specs.Prelude.{ℕ, zero, suc, ◌+◌, ◌-◌, Bool, cond, List, [], ◌∷◌, length, get_or, eqb, ltb}
-use Rattle.wire.specs.Number.{natAt}
-use Rattle.wire.specs.Checks.{Check, commandChecks, refusal}
+use Rattle.wire.specs.Number.{nat_at}
+use Rattle.wire.specs.Checks.{Check, command_checks, refusal}
 
 -- the commands of a part, where S is what has been read so far
 pub record Part (S : Type 0) : Type 0 where
@@ -29,9 +29,9 @@ pub data Step (S : Type 0) : Type 0 where
   stops : Reading S → Step S
 
 -- the operands of these widths at a position, one after the other
-unfoldable pub operandsAt : List ℕ → List ℕ → ℕ → List ℕ
-operandsAt [] s at = []
-operandsAt (w ∷ ws) s at = natAt w s at ∷ operandsAt ws s (at + w)
+unfoldable pub operands_at : List ℕ → List ℕ → ℕ → List ℕ
+operands_at [] s at = []
+operands_at (w ∷ ws) s at = nat_at w s at ∷ operands_at ws s (at + w)
 
 -- the bytes that operands of these widths take
 unfoldable pub total : List ℕ → ℕ
@@ -44,20 +44,20 @@ module _ {S : Type 0} (P : Part S) where
   size b = suc (total (P.widths b))
 
   -- all checks of the command at a position
-  unfoldable pub checksAt : List ℕ → S → ℕ → List Check
-  checksAt s read at =
+  unfoldable pub checks_at : List ℕ → S → ℕ → List Check
+  checks_at s read at =
       let b = get_or s at 0 in
-      commandChecks (P.here read b) (length s - at) (size b) (P.checks read b (operandsAt (P.widths b) s (at + 1)))
+      command_checks (P.here read b) (length s - at) (size b) (P.checks read b (operands_at (P.widths b) s (at + 1)))
 
   -- what has been read after the command at a position
   unfoldable pub after_at : List ℕ → S → ℕ → S
-  after_at s read at = let b = get_or s at 0 in P.after read b (operandsAt (P.widths b) s (at + 1))
+  after_at s read at = let b = get_or s at 0 in P.after read b (operands_at (P.widths b) s (at + 1))
 
   -- the command at a position
   unfoldable pub command : List ℕ → S → ℕ → Step S
   command s read at =
       let b = get_or s at 0 in
-      let number = refusal (checksAt s read at) in
+      let number = refusal (checks_at s read at) in
       let next = after_at s read at in
       cond (eqb number 0) (cond (P.last b) (stops (accepted next (at + size b))) (goes next (at + size b))) (stops (refused number at))
 
@@ -75,14 +75,14 @@ module _ {S : Type 0} (P : Part S) where
   run (suc k) s read at = follow (step s read at) (run k s)
 
   -- from a position on: each command takes at least a byte, so the bytes left and one are enough, and `run zero` is not reached
-  unfoldable pub readFrom : List ℕ → S → ℕ → Reading S
-  readFrom s read at = run (suc (length s - at)) s read at
+  unfoldable pub read_from : List ℕ → S → ℕ → Reading S
+  read_from s read at = run (suc (length s - at)) s read at
 
   -- the part at the front of a run of bytes
-  unfoldable pub readPart : List ℕ → Reading S
-  readPart s = readFrom s P.start 0
+  unfoldable pub read_part : List ℕ → Reading S
+  read_part s = read_from s P.start 0
 
 -- a part outside a job has all the bytes: one more than it needs is refused 12, where it stands
-unfoldable pub byItself : {S : Type 0} → List ℕ → Reading S → Reading S
-byItself s (refused number at) = refused number at
-byItself s (accepted read end) = cond (ltb end (length s)) (refused 12 end) (accepted read end)
+unfoldable pub by_itself : {S : Type 0} → List ℕ → Reading S → Reading S
+by_itself s (refused number at) = refused number at
+by_itself s (accepted read end) = cond (ltb end (length s)) (refused 12 end) (accepted read end)

@@ -26,10 +26,10 @@ pub record Row (R : Type 0) : Type 0 where
 abbrev pub size_of : {R : Type 0} → Row R → ℕ
 size_of row = suc (total row.widths)
 
-abbrev pub isAmong : ℕ → List ℕ → Bool
-isAmong b [] = false
-isAmong b (c ∷ []) = eqb b c
-isAmong b (c ∷ (d ∷ cs)) = eqb b c || isAmong b (d ∷ cs)
+abbrev pub is_among : ℕ → List ℕ → Bool
+is_among b [] = false
+is_among b (c ∷ []) = eqb b c
+is_among b (c ∷ (d ∷ cs)) = eqb b c || is_among b (d ∷ cs)
 
 -- a byte that is no command of the part
 abbrev pub no_row : {R : Type 0} → Row R
@@ -43,7 +43,7 @@ row_of (r ∷ rs) b = cond (eqb b r.byte) r (row_of rs b)
 abbrev pub part_of : {R : Type 0} → R → List (Row R) → Part (Progress R)
 part_of fresh rows = record {
   start = record { previous = 0; parsed = fresh };
-  here = λ p b. isAmong p.previous (row_of rows b).follows;
+  here = λ p b. is_among p.previous (row_of rows b).follows;
   widths = λ b. (row_of rows b).widths;
   checks = λ p b. (row_of rows b).checks p.parsed;
   after = λ p b xs. record { previous = b; parsed = (row_of rows b).after p.parsed xs };

@@ -5,9 +5,9 @@
 ghost use Rattle.std.specs.Prelude.{◌≡◌, cond, [], ◌+◌, ◌≤◌, ◌^◌, length, nat_abs};
 ghost use Rattle.std.specs.Int.{Width, w8, w16, w32, w64};
 ghost use mir.Val.{to_z, of_z, bits};
-ghost use Rattle.wire.specs.Number.{natAt, intAt, put_at};
-ghost use Rattle.wire.specs.Checks.{commandChecks, refusal};
-ghost use Rattle.wire.specs.Writer.{refusedAnswer, writtenAnswer};
+ghost use Rattle.wire.specs.Number.{nat_at, int_at, put_at};
+ghost use Rattle.wire.specs.Checks.{command_checks, refusal};
+ghost use Rattle.wire.specs.Writer.{refused_answer, written_answer};
 
 // The answer of a call that writes bytes into a lent buffer: a refusal's number, part and position, or zeros and the count of
 // bytes written.
@@ -22,7 +22,7 @@ pub struct WriterAnswer {
 
 impl WriterAnswer {
     pub fn refused(number: u8, part: u8, position: usize) -> WriterAnswer
-        ensures { result ≡ refusedAnswer number part position }
+        ensures { result ≡ refused_answer number part position }
     {
         WriterAnswer {
             number: number,
@@ -33,7 +33,7 @@ impl WriterAnswer {
     }
 
     pub fn written(count: usize) -> WriterAnswer
-        ensures { result ≡ writtenAnswer count }
+        ensures { result ≡ written_answer count }
     {
         WriterAnswer {
             number: 0,
@@ -46,28 +46,28 @@ impl WriterAnswer {
 
 pub fn u8_at(bytes: &[u8], at: usize) -> u8
     requires { at + 1 ≤ length bytes.now }
-    ensures { result ≡ natAt 1 bytes.now at }
+    ensures { result ≡ nat_at 1 bytes.now at }
 {
     bytes[at]
 }
 
 pub fn u16_at(bytes: &[u8], at: usize) -> u16
     requires { at + 2 ≤ length bytes.now }
-    ensures { result ≡ natAt 2 bytes.now at }
+    ensures { result ≡ nat_at 2 bytes.now at }
 {
     u8_at(bytes, at) as u16 + 256 * (u8_at(bytes, at + 1) as u16)
 }
 
 pub fn u32_at(bytes: &[u8], at: usize) -> u32
     requires { at + 4 ≤ length bytes.now }
-    ensures { result ≡ natAt 4 bytes.now at }
+    ensures { result ≡ nat_at 4 bytes.now at }
 {
     u16_at(bytes, at) as u32 + 65536 * (u16_at(bytes, at + 2) as u32)
 }
 
 pub fn u64_at(bytes: &[u8], at: usize) -> u64
     requires { at + 8 ≤ length bytes.now }
-    ensures { result ≡ natAt 8 bytes.now at }
+    ensures { result ≡ nat_at 8 bytes.now at }
 {
     u32_at(bytes, at) as u64 + 4294967296 * (u32_at(bytes, at + 4) as u64)
 }
@@ -109,28 +109,28 @@ pub fn magnitude(x: i64) -> u64
 
 pub fn i8_at(bytes: &[u8], at: usize) -> i8
     requires { at + 1 ≤ length bytes.now }
-    ensures { result ≡ intAt w8 bytes.now at }
+    ensures { result ≡ int_at w8 bytes.now at }
 {
     signed(u8_at(bytes, at) as u64, 0xff) as i8
 }
 
 pub fn i16_at(bytes: &[u8], at: usize) -> i16
     requires { at + 2 ≤ length bytes.now }
-    ensures { result ≡ intAt w16 bytes.now at }
+    ensures { result ≡ int_at w16 bytes.now at }
 {
     signed(u16_at(bytes, at) as u64, 0xffff) as i16
 }
 
 pub fn i32_at(bytes: &[u8], at: usize) -> i32
     requires { at + 4 ≤ length bytes.now }
-    ensures { result ≡ intAt w32 bytes.now at }
+    ensures { result ≡ int_at w32 bytes.now at }
 {
     signed(u32_at(bytes, at) as u64, 0xffff_ffff) as i32
 }
 
 pub fn i64_at(bytes: &[u8], at: usize) -> i64
     requires { at + 8 ≤ length bytes.now }
-    ensures { result ≡ intAt w64 bytes.now at }
+    ensures { result ≡ int_at w64 bytes.now at }
 {
     signed(u64_at(bytes, at), 0xffff_ffff_ffff_ffff)
 }
@@ -182,7 +182,7 @@ pub fn first_of(test: bool, number: u8, rest: u8) -> u8
 
 // The refusal that the checks of every command lead to, or 0: that it may stand here, and that its bytes are there.
 pub fn command_refusal(here: bool, left: usize, size: usize) -> u8
-    ensures { result ≡ refusal (commandChecks here left size []) }
+    ensures { result ≡ refusal (command_checks here left size []) }
 {
     first_of(!here, 1, first_of(left < size, 2, 0))
 }

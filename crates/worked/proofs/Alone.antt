@@ -1,35 +1,35 @@
 -- The parts 1 and 2 of the worked set, read by the calls for one part.
 use mathlib.Core.Path.{◌≡◌, refl}
-use Rattle.integers.specs.Lists.{all_below, comesBefore}
-use Rattle.wire.specs.Number.{natAt, little}
-use Rattle.wire.specs.Checks.{refusal, commandChecks}
-use Rattle.wire.specs.Part.{operandsAt, total, checksAt, after_at, command, step, run, follow, readFrom, readPart, byItself}
+use Rattle.integers.specs.Lists.{all_below, comes_before}
+use Rattle.wire.specs.Number.{nat_at, little}
+use Rattle.wire.specs.Checks.{refusal, command_checks}
+use Rattle.wire.specs.Part.{operands_at, total, checks_at, after_at, command, step, run, follow, read_from, read_part, by_itself}
 use Rattle.wire.specs.Rows.{row_of}
 use Rattle.register.specs.Register as Reg
-use Rattle.register.specs.Format.{baseChecks, choiceChecks, termChecks, registerInJob, registerByItself}
+use Rattle.register.specs.Format.{base_checks, choice_checks, term_checks, register_in_job, register_by_itself}
 use Rattle.register.specs.Format as RegFormat
-use Rattle.register.specs.Answer.{registerAnswer}
-use Rattle.register.proofs.Example.{registerBytes, exampleRegister}
+use Rattle.register.specs.Answer.{register_answer}
+use Rattle.register.proofs.Example.{register_bytes, example_register}
 use Rattle.scheme.specs.Scheme as Sch
 use Rattle.scheme.specs.Variables.{up_to, upward, E}
-use Rattle.scheme.specs.Format.{isNew, productChecks, splitChecks, schemeInJob, schemeByItself}
+use Rattle.scheme.specs.Format.{is_new, product_checks, split_checks, scheme_in_job, scheme_by_itself}
 use Rattle.scheme.specs.Format as SchFormat
-use Rattle.scheme.specs.Answer.{schemeAnswer}
-use Rattle.scheme.proofs.Example.{builtScheme}
-use Rattle.builder.proofs.Worked.{w3Bytes, five, fiveBytes, fiveScheme, w4Bytes}
+use Rattle.scheme.specs.Answer.{scheme_answer}
+use Rattle.scheme.proofs.Example.{built_scheme}
+use Rattle.builder.proofs.Worked.{w3_bytes, five, five_bytes, five_scheme, w4_bytes}
 
-pub example-register : registerAnswer (registerByItself registerBytes) ≡ record { number = 0; part = 0; position = 0; register = exampleRegister }
-unfolding comesBefore natAt little refusal commandChecks operandsAt total checksAt after_at command step follow run readFrom readPart byItself row_of Reg.fresh baseChecks choiceChecks termChecks RegFormat.endChecks registerInJob registerByItself
-example-register = refl
+pub example_register_read : register_answer (register_by_itself register_bytes) ≡ record { number = 0; part = 0; position = 0; register = example_register }
+unfolding comes_before nat_at little refusal command_checks operands_at total checks_at after_at command step follow run read_from read_part by_itself row_of Reg.fresh base_checks choice_checks term_checks RegFormat.end_checks register_in_job register_by_itself
+example_register_read = refl
 
-pub w4-register : registerAnswer (registerByItself fiveBytes) ≡ record { number = 0; part = 0; position = 0; register = five }
-unfolding comesBefore natAt little refusal commandChecks operandsAt total checksAt after_at command step follow run readFrom readPart byItself row_of Reg.fresh baseChecks choiceChecks termChecks RegFormat.endChecks registerInJob registerByItself
-w4-register = refl
+pub w4_register : register_answer (register_by_itself five_bytes) ≡ record { number = 0; part = 0; position = 0; register = five }
+unfolding comes_before nat_at little refusal command_checks operands_at total checks_at after_at command step follow run read_from read_part by_itself row_of Reg.fresh base_checks choice_checks term_checks RegFormat.end_checks register_in_job register_by_itself
+w4_register = refl
 
-pub w3-scheme : schemeAnswer registerBytes w3Bytes ≡ record { number = 0; part = 0; position = 0; scheme = builtScheme }
-unfolding all_below comesBefore natAt little refusal commandChecks operandsAt total checksAt after_at command step follow run readFrom readPart byItself row_of Reg.fresh baseChecks choiceChecks termChecks RegFormat.endChecks registerInJob registerByItself Sch.fresh up_to upward E isNew productChecks splitChecks SchFormat.endChecks schemeInJob schemeByItself
-w3-scheme = refl
+pub w3_scheme : scheme_answer register_bytes w3_bytes ≡ record { number = 0; part = 0; position = 0; scheme = built_scheme }
+unfolding all_below comes_before nat_at little refusal command_checks operands_at total checks_at after_at command step follow run read_from read_part by_itself row_of Reg.fresh base_checks choice_checks term_checks RegFormat.end_checks register_in_job register_by_itself Sch.fresh up_to upward E is_new product_checks split_checks SchFormat.end_checks scheme_in_job scheme_by_itself
+w3_scheme = refl
 
-pub w4-scheme : schemeAnswer fiveBytes w4Bytes ≡ record { number = 0; part = 0; position = 0; scheme = fiveScheme }
-unfolding all_below comesBefore natAt little refusal commandChecks operandsAt total checksAt after_at command step follow run readFrom readPart byItself row_of Reg.fresh baseChecks choiceChecks termChecks RegFormat.endChecks registerInJob registerByItself Sch.fresh up_to upward E isNew productChecks splitChecks SchFormat.endChecks schemeInJob schemeByItself
-w4-scheme = refl
+pub w4_scheme : scheme_answer five_bytes w4_bytes ≡ record { number = 0; part = 0; position = 0; scheme = five_scheme }
+unfolding all_below comes_before nat_at little refusal command_checks operands_at total checks_at after_at command step follow run read_from read_part by_itself row_of Reg.fresh base_checks choice_checks term_checks RegFormat.end_checks register_in_job register_by_itself Sch.fresh up_to upward E is_new product_checks split_checks SchFormat.end_checks scheme_in_job scheme_by_itself
+w4_scheme = refl

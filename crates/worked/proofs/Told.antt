@@ -10,51 +10,51 @@ use lib.IntN.{ℤ, pos, negsuc}
 use lib.ListN.{length, get_or, replicate, length-replicate}
 use borrow.Author.Tests.{ltb-true}
 use Rattle.integers.proofs.Lists.{and_both}
-use Rattle.forms.specs.Table.{tableNumbers}
+use Rattle.forms.specs.Table.{table_numbers}
 use Rattle.certificate.proofs.Commands.{command}
 use Rattle.integers.specs.Integer.{abs}
-use Rattle.integers.specs.Lists.{joinBelow, all_below, comesBefore}
-use Rattle.integers.specs.Sum.{sumBelow, sumOver, except}
-use Rattle.integers.specs.Quadratic.{offDiagonal}
-use Rattle.integers.specs.CeilDiv.{ceilDiv}
-use Rattle.sets.specs.Sets.{isMember, isSubset, isProperSubset}
+use Rattle.integers.specs.Lists.{join_below, all_below, comes_before}
+use Rattle.integers.specs.Sum.{sum_below, sum_over, except}
+use Rattle.integers.specs.Quadratic.{off_diagonal}
+use Rattle.integers.specs.CeilDiv.{ceil_div}
+use Rattle.sets.specs.Sets.{is_member, is_subset, is_proper_subset}
 use Rattle.forms.specs.Form.{times, entry}
-use Rattle.wire.specs.Number.{Bytes, natAt, little}
-use Rattle.wire.specs.Checks.{refusal, commandChecks}
-use Rattle.wire.specs.Part.{operandsAt, total, checksAt, after_at, step, run, readFrom, readPart}
+use Rattle.wire.specs.Number.{Bytes, nat_at, little}
+use Rattle.wire.specs.Checks.{refusal, command_checks}
+use Rattle.wire.specs.Part.{operands_at, total, checks_at, after_at, step, run, read_from, read_part}
 use Rattle.wire.specs.Part as P
 use Rattle.wire.specs.Rows.{row_of}
 use Rattle.wire.specs.Outcome.{accepts}
-use Rattle.text.specs.Text.{digitsTo, digits, decimal, line}
+use Rattle.text.specs.Text.{digits_to, digits, decimal, line}
 use Rattle.register.specs.declared.Register.{Register}
-use Rattle.register.specs.Register.{setBase, setChoices, setTerms}
+use Rattle.register.specs.Register.{set_base, set_choices, set_terms}
 use Rattle.register.specs.Register as Reg
-use Rattle.register.specs.Format.{baseChecks, choiceChecks, termChecks, registerInJob}
+use Rattle.register.specs.Format.{base_checks, choice_checks, term_checks, register_in_job}
 use Rattle.register.specs.Format as RegFormat
-use Rattle.register.proofs.Example.{exampleRegister}
+use Rattle.register.proofs.Example.{example_register}
 use Rattle.scheme.specs.declared.Scheme.{Scheme}
 use Rattle.scheme.specs.Scheme as Sch
 use Rattle.scheme.specs.Variables.{up_to, upward, E}
 use Rattle.scheme.specs.Function.{term, g}
-use Rattle.scheme.specs.Format.{isNew, productChecks, splitChecks, schemeInJob}
+use Rattle.scheme.specs.Format.{is_new, product_checks, split_checks, scheme_in_job}
 use Rattle.scheme.specs.Format as SchFormat
 use Rattle.plan.specs.Plan.{cost}
-use Rattle.plan.specs.Fits.{fitsRows}
-use Rattle.plan.specs.Format.{planChecks, planInJob}
-use Rattle.certificate.specs.Rules.{byKey, arity, ruleOf}
-use Rattle.residual.specs.Residual.{nullPart, subtractedPart, nullForms, subtractedForms, reformulated, shifted, R}
-use Rattle.bound.specs.Bound.{rowHolds, carries, bound}
-use Rattle.certificate.specs.Format.{scaleChecks, multiplierChecks, squareChecks, commandsInJob}
-use Rattle.bound.specs.Format.{dominanceChecked, certificateInJob}
+use Rattle.plan.specs.Fits.{fits_rows}
+use Rattle.plan.specs.Format.{plan_checks, plan_in_job}
+use Rattle.certificate.specs.Rules.{by_key, arity, rule_of}
+use Rattle.residual.specs.Residual.{null_part, subtracted_part, null_forms, subtracted_forms, reformulated, shifted, R}
+use Rattle.bound.specs.Bound.{row_holds, carries, bound}
+use Rattle.certificate.specs.Format.{scale_checks, multiplier_checks, square_checks, commands_in_job}
+use Rattle.bound.specs.Format.{dominance_checked, certificate_in_job}
 use Rattle.job.specs.Outcome.{Parts, outcome}
-use Rattle.listing.specs.Listing.{planLines, supplierLines, choiceLines, fedLines, acceptedLines, listed, listing, supplierListing}
-use Rattle.listing.specs.Answer.{listingRoom}
-use Rattle.listing.proofs.Outcome.{listing-short}
-use Rattle.listing.proofs.Answers.{enough, handed-back}
-use Rattle.hidden.specs.Hidden.{operandMarks, marksFrom, isHidden, Agree}
-use Rattle.soundness.specs.Calls.{jobCall, listingCall, front}
+use Rattle.listing.specs.Listing.{plan_lines, supplier_lines, choice_lines, fed_lines, accepted_lines, listed, listing, supplier_listing}
+use Rattle.listing.specs.Answer.{listing_room}
+use Rattle.listing.proofs.Outcome.{listing_short}
+use Rattle.listing.proofs.Answers.{enough, handed_back}
+use Rattle.hidden.specs.Hidden.{operand_marks, marks_from, is_hidden, Agree}
+use Rattle.soundness.specs.Calls.{job_call, listing_call, front}
 use Rattle.soundness.specs.SupplierListing.{IsAccepted, Hides}
-use Rattle.soundness.proofs.SupplierListing.{accepted-is}
+use Rattle.soundness.proofs.SupplierListing.{accepted_is}
 
 -- ---- a job of 53 bytes: one choice, one term, the plan that feeds it
 
@@ -69,8 +69,8 @@ job tank coefficient = 0x10 ∷ 0 ∷ 0 ∷ 0 ∷ 0 ∷ 0x11 ∷ tank ∷ 0 ∷ 
 
 -- the example's register with other base cost, choices and terms
 abbrev register : (tank coefficient : ℕ) → Register
-register tank coefficient = setTerms
-    (setChoices (setBase exampleRegister (pos 0)) 1 (tank ∷ replicate 31 0) (replicate 32 0))
+register tank coefficient = set_terms
+    (set_choices (set_base example_register (pos 0)) 1 (tank ∷ replicate 31 0) (replicate 32 0))
     1 (1 ∷ replicate 255 0) (pos coefficient ∷ replicate 255 (pos 0))
 
 abbrev scheme : Scheme
@@ -95,25 +95,25 @@ abbrev Leads : (tank coefficient : ℕ) → Type 0
 Leads tank coefficient = outcome (job tank coefficient) ≡ accepts (parts tank coefficient)
 
 leads : Leads 1 1 × (Leads 2 1 × Leads 1 2)
-unfolding outcome flat_map joinBelow all_below comesBefore abs sumBelow sumOver except offDiagonal isMember isSubset isProperSubset times entry natAt little refusal commandChecks operandsAt total checksAt after_at P.command step P.follow run readFrom readPart row_of Reg.fresh baseChecks choiceChecks termChecks RegFormat.endChecks registerInJob Sch.fresh up_to upward E term g isNew productChecks splitChecks SchFormat.endChecks schemeInJob fitsRows planChecks planInJob byKey arity ruleOf nullPart subtractedPart nullForms subtractedForms reformulated shifted R rowHolds carries scaleChecks multiplierChecks squareChecks commandsInJob dominanceChecked certificateInJob
+unfolding outcome flat_map join_below all_below comes_before abs sum_below sum_over except off_diagonal is_member is_subset is_proper_subset times entry nat_at little refusal command_checks operands_at total checks_at after_at P.command step P.follow run read_from read_part row_of Reg.fresh base_checks choice_checks term_checks RegFormat.end_checks register_in_job Sch.fresh up_to upward E term g is_new product_checks split_checks SchFormat.end_checks scheme_in_job fits_rows plan_checks plan_in_job by_key arity rule_of null_part subtracted_part null_forms subtracted_forms reformulated shifted R row_holds carries scale_checks multiplier_checks square_checks commands_in_job dominance_checked certificate_in_job
 leads = (refl, (refl, refl))
 
-is-accepted : (tank coefficient : ℕ) → Leads tank coefficient → IsAccepted jobCall (job tank coefficient)
-is-accepted tank coefficient = accepted-is (job tank coefficient) (parts tank coefficient)
+is_accepted : (tank coefficient : ℕ) → Leads tank coefficient → IsAccepted job_call (job tank coefficient)
+is_accepted tank coefficient = accepted_is (job tank coefficient) (parts tank coefficient)
 
 -- ---- bytes
 
-isBytes : List ℕ → Bool
-isBytes [] = true
-isBytes (b ∷ s) = ltb b 256 && isBytes s
+is_bytes : List ℕ → Bool
+is_bytes [] = true
+is_bytes (b ∷ s) = ltb b 256 && is_bytes s
 
-bytes-by : (s : List ℕ) → isBytes s ≡ true → Bytes s
-unfolding isBytes
-bytes-by [] e = tt
-bytes-by (b ∷ s) e = let (h, k) = and_both (ltb b 256) (isBytes s) e in (ltb-true b 256 h, bytes-by s k)
+bytes_by : (s : List ℕ) → is_bytes s ≡ true → Bytes s
+unfolding is_bytes
+bytes_by [] e = tt
+bytes_by (b ∷ s) e = let (h, k) = and_both (ltb b 256) (is_bytes s) e in (ltb-true b 256 h, bytes_by s k)
 
-below : (isBytes (job 1 1) ≡ true) × (isBytes (job 2 1) ≡ true)
-unfolding isBytes
+below : (is_bytes (job 1 1) ≡ true) × (is_bytes (job 2 1) ≡ true)
+unfolding is_bytes
 below = (refl, refl)
 
 -- ---- two lists that differ at one place
@@ -136,66 +136,66 @@ each_command =
     ++ (0x11 ∷ 1 ∷ 0 ∷ 0 ∷ 0 ∷ [])
 
 -- the six bytes after `13` and the four after `11` of part 1, and no others
-pub each-hidden : marksFrom (length each_command) each_command ≡ replicate 9 false ++ replicate 6 true ++ (false ∷ []) ++ replicate 4 true ++ replicate 45 false
-unfolding marksFrom operandMarks byKey row_of total
-each-hidden = refl
+pub each_hidden : marks_from (length each_command) each_command ≡ replicate 9 false ++ replicate 6 true ++ (false ∷ []) ++ replicate 4 true ++ replicate 45 false
+unfolding marks_from operand_marks by_key row_of total
+each_hidden = refl
 
 -- ---- another tank
 
-tank-hidden : isHidden (job 1 1) 6 ≡ true
-unfolding isHidden marksFrom operandMarks byKey row_of total
-tank-hidden = refl
+tank_hidden : is_hidden (job 1 1) 6 ≡ true
+unfolding is_hidden marks_from operand_marks by_key row_of total
+tank_hidden = refl
 
-other-tank : Agree (job 1 1) (job 2 1)
-other-tank = record {
+other_tank : Agree (job 1 1) (job 2 1)
+other_tank = record {
   lengths = refl;
   bytes = λ at h k. elsewhere (0x10 ∷ 0 ∷ 0 ∷ 0 ∷ 0 ∷ 0x11 ∷ []) 1 2 (0 ∷ 0 ∷ 0 ∷ 0x12 ∷ 1 ∷ 0 ∷ 0 ∷ 0 ∷ 1 ∷ back) at λ e.
-      true≢false (sym tank-hidden ∙ ap (isHidden (job 1 1)) (sym e) ∙ h);
+      true≢false (sym tank_hidden ∙ ap (is_hidden (job 1 1)) (sym e) ∙ h);
 }
 
 -- byte 4 of a farm's lines, in `T 0 1 0` or `T 0 2 0`
-tank-shown : (get_or (listing (accepts (parts 1 1))) 4 0 ≡ 0x31) × (get_or (listing (accepts (parts 2 1))) 4 0 ≡ 0x32)
-unfolding listed acceptedLines choiceLines fedLines line decimal digits digitsTo flat_map joinBelow isMember isSubset bound ceilDiv cost sumBelow
-tank-shown = (refl, refl)
+tank_shown : (get_or (listing (accepts (parts 1 1))) 4 0 ≡ 0x31) × (get_or (listing (accepts (parts 2 1))) 4 0 ≡ 0x32)
+unfolding listed accepted_lines choice_lines fed_lines line decimal digits digits_to flat_map join_below is_member is_subset bound ceil_div cost sum_below
+tank_shown = (refl, refl)
 
 abbrev zeros : List ℤ
-zeros = replicate tableNumbers (pos 0)
+zeros = replicate table_numbers (pos 0)
 
 abbrev room : List ℕ
-room = replicate listingRoom 0
+room = replicate listing_room 0
 
-shown-whole : (s : List ℕ) → front ((listingCall s zeros room).0, (listingCall s zeros room).1.1) ≡ listing (outcome s)
-shown-whole s =
-    let l : tableNumbers ≤ length zeros = omega (arith, length-replicate tableNumbers (pos 0)) in
-    let m : listingRoom ≤ length room = omega (arith, length-replicate {A = ℕ} listingRoom 0) in
-    (handed-back planLines s zeros room (ap (λ a. a.number) (enough planLines s zeros room l m (listing-short false s)).0)).front
+shown_whole : (s : List ℕ) → front ((listing_call s zeros room).0, (listing_call s zeros room).1.1) ≡ listing (outcome s)
+shown_whole s =
+    let l : table_numbers ≤ length zeros = omega (arith, length-replicate table_numbers (pos 0)) in
+    let m : listing_room ≤ length room = omega (arith, length-replicate {A = ℕ} listing_room 0) in
+    (handed_back plan_lines s zeros room (ap (λ a. a.number) (enough plan_lines s zeros room l m (listing_short false s)).0)).front
 
-pub farm-told : Hides jobCall listingCall → ⊥
-farm-told h =
-    let bytes : Bytes (job 1 1) × Bytes (job 2 1) = (bytes-by (job 1 1) below.0, bytes-by (job 2 1) below.1) in
-    let w = h (job 1 1) (job 2 1) zeros zeros room room bytes.0 bytes.1 (is-accepted 1 1 leads.0) (is-accepted 2 1 leads.1.0) other-tank refl refl in
-    let e = sym (shown-whole (job 1 1)) ∙ w.written ∙ shown-whole (job 2 1) in
+pub farm_told : Hides job_call listing_call → ⊥
+farm_told h =
+    let bytes : Bytes (job 1 1) × Bytes (job 2 1) = (bytes_by (job 1 1) below.0, bytes_by (job 2 1) below.1) in
+    let w = h (job 1 1) (job 2 1) zeros zeros room room bytes.0 bytes.1 (is_accepted 1 1 leads.0) (is_accepted 2 1 leads.1.0) other_tank refl refl in
+    let e = sym (shown_whole (job 1 1)) ∙ w.written ∙ shown_whole (job 2 1) in
     let d : listing (accepts (parts 1 1)) ≡ listing (accepts (parts 2 1)) = sym (ap listing leads.0) ∙ e ∙ ap listing leads.1.0 in
-    absurd (omega (arith, sym tank-shown.0 ∙ ap (λ l. get_or l 4 0) d ∙ tank-shown.1))
+    absurd (omega (arith, sym tank_shown.0 ∙ ap (λ l. get_or l 4 0) d ∙ tank_shown.1))
 
 -- ---- another coefficient
 
 -- byte 12 of a supplier's lines, in `B -10 1 11` or `B -10 2 12`
-cost-shown : (get_or (supplierListing (accepts (parts 1 1))) 12 0 ≡ 0x31) × (get_or (supplierListing (accepts (parts 1 2))) 12 0 ≡ 0x32)
-unfolding listed acceptedLines supplierLines line decimal digits digitsTo flat_map joinBelow isMember isSubset bound ceilDiv cost sumBelow
-cost-shown = (refl, refl)
+cost_shown : (get_or (supplier_listing (accepts (parts 1 1))) 12 0 ≡ 0x31) × (get_or (supplier_listing (accepts (parts 1 2))) 12 0 ≡ 0x32)
+unfolding listed accepted_lines supplier_lines line decimal digits digits_to flat_map join_below is_member is_subset bound ceil_div cost sum_below
+cost_shown = (refl, refl)
 
 -- two accepted jobs of one length, the same byte at each position but 15, in the coefficient; a supplier's lines differ
-pub coefficient-told :
-    (IsAccepted jobCall (job 1 1) × IsAccepted jobCall (job 1 2))
+pub coefficient_told :
+    (IsAccepted job_call (job 1 1) × IsAccepted job_call (job 1 2))
     × (length (job 1 1) ≡ length (job 1 2))
     × ((at : ℕ) → (at ≡ 15 → ⊥) → get_or (job 1 1) at 0 ≡ get_or (job 1 2) at 0)
-    × (supplierListing (outcome (job 1 1)) ≡ supplierListing (outcome (job 1 2)) → ⊥)
-coefficient-told = (
-  (is-accepted 1 1 leads.0, is-accepted 1 2 leads.1.1),
+    × (supplier_listing (outcome (job 1 1)) ≡ supplier_listing (outcome (job 1 2)) → ⊥)
+coefficient_told = (
+  (is_accepted 1 1 leads.0, is_accepted 1 2 leads.1.1),
   refl,
   (λ at d. elsewhere (0x10 ∷ 0 ∷ 0 ∷ 0 ∷ 0 ∷ 0x11 ∷ 1 ∷ 0 ∷ 0 ∷ 0 ∷ 0x12 ∷ 1 ∷ 0 ∷ 0 ∷ 0 ∷ []) 1 2 back at d),
   (λ e.
-      let d : supplierListing (accepts (parts 1 1)) ≡ supplierListing (accepts (parts 1 2)) = sym (ap supplierListing leads.0) ∙ e ∙ ap supplierListing leads.1.1 in
-      absurd (omega (arith, sym cost-shown.0 ∙ ap (λ l. get_or l 12 0) d ∙ cost-shown.1))),
+      let d : supplier_listing (accepts (parts 1 1)) ≡ supplier_listing (accepts (parts 1 2)) = sym (ap supplier_listing leads.0) ∙ e ∙ ap supplier_listing leads.1.1 in
+      absurd (omega (arith, sym cost_shown.0 ∙ ap (λ l. get_or l 12 0) d ∙ cost_shown.1))),
 )

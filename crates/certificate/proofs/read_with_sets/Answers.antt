@@ -6,16 +6,16 @@ use native.Mathlib.Omega.{arith}
 use lib.ListN.{length, get_or}
 use mir.Facts.{to_z-of_z}
 use Rattle.wire.specs.Checks.{refusal}
-use Rattle.wire.specs.Part.{checksAt}
+use Rattle.wire.specs.Part.{checks_at}
 use Rattle.wire.specs.Rows.{Progress}
 use Rattle.wire.proofs.Accepting.{reached}
-use Rattle.wire.proofs.Loop.{going-missing, going-refused}
+use Rattle.wire.proofs.Loop.{going_missing, going_refused}
 use Rattle.certificate.specs.Certificate.{Certificate, fresh}
-use Rattle.certificate.specs.Format.{commandSize, certificatePart, commandsInJob}
-use Rattle.certificate.specs.Answer.{IsMultiplier, commandsRead}
+use Rattle.certificate.specs.Format.{command_size, certificate_part, commands_in_job}
+use Rattle.certificate.specs.Answer.{IsMultiplier, commands_read}
 use Rattle.certificate.proofs.Sizes.{size_above, size_scale}
 use Rattle.certificate.proofs.Laws.{laws}
-use Rattle.certificate.proofs.Going.{room, ends, counted-starts, seen, scale-counted, multiplier-counted, square-counted}
+use Rattle.certificate.proofs.Going.{room, ends, counted_starts, seen, scale_counted, multiplier_counted, square_counted}
 use Rattle.certificate.proofs.read_with_sets.Goals as goal
 use Rattle.certificate.proofs.read_with_sets.Goals.{Else-number-ne0, in-59-1, in_default+else-command-lt48+then-command-lt58, in_default-via-then-command-lt48, in_default-via-else-command-lt48+else-command-lt58}
 
@@ -24,20 +24,20 @@ module _ (c : Else-number-ne0) where
   abbrev p : Progress Certificate
   p = reached c.loop-at.previous c.loop-at.invariant.parsed
 
-  unrefused : refusal (checksAt (certificatePart c.args.register c.args.scheme) c.args.bytes.now p c.loop-at.at) ≡ 0
+  unrefused : refusal (checks_at (certificate_part c.args.register c.args.scheme) c.args.bytes.now p c.loop-at.at) ≡ 0
   unrefused = sym (c.refusal_at-number.ensures c.args.register c.args.scheme p (seen c.args.register c.args.scheme c.loop-at.invariant) c.requires.sets_below) ∙ c.if-number-ne0.false
 
-  within : c.loop-at.at + commandSize (get_or c.args.bytes.now c.loop-at.at 0) ≤ length c.args.bytes.now
+  within : c.loop-at.at + command_size (get_or c.args.bytes.now c.loop-at.at 0) ≤ length c.args.bytes.now
   within = room _ _ c.loop-at.invariant.going c.loop-at-test.true unrefused
 
 pub loop-at-init : goal.loop-at-init
-loop-at-init c = rw c.fresh-certificate.ensures (counted-starts _ _ _)
+loop-at-init c = rw c.fresh-certificate.ensures (counted_starts _ _ _)
 
 pub returns-then-number-ne0 : goal.returns-then-number-ne0
-unfolding commandsInJob
+unfolding commands_in_job
 returns-then-number-ne0 c =
     let number_is = c.refusal_at-number.ensures c.args.register c.args.scheme _ (seen c.args.register c.args.scheme c.loop-at.invariant) c.requires.sets_below in
-    c.refused.ensures ∙ ap commandsRead (sym (going-refused fresh _ (laws _ _) c.loop-at.invariant.going _ c.loop-at-test.true number_is c.if-number-ne0.true))
+    c.refused.ensures ∙ ap commands_read (sym (going_refused fresh _ (laws _ _) c.loop-at.invariant.going _ c.loop-at-test.true number_is c.if-number-ne0.true))
 
 -- scale and target
 
@@ -57,7 +57,7 @@ pub loop-at-preserved-in-48-1 : goal.loop-at-preserved-in-48-1
 loop-at-preserved-in-48-1 c =
     let e = (goal.at.loop-at-preserved-in-48-1 c).Else-number-ne0 in
     rw (c.command_size-size.ensures, to_z-of_z (record { sfits = c.i64_at.type_inv }), c.i64_at.ensures, c.u32_at.ensures)
-    (scale-counted _ _ c.loop-at.invariant c.loop-at-test.true (unrefused e) c.in-48.is)
+    (scale_counted _ _ c.loop-at.invariant c.loop-at-test.true (unrefused e) c.in-48.is)
 
 -- a square
 
@@ -70,7 +70,7 @@ loop-at-smaller-in-58-1 c = omega (arith, size_above (get_or c.args.bytes.now c.
 pub loop-at-preserved-in-58-1 : goal.loop-at-preserved-in-58-1
 loop-at-preserved-in-58-1 c =
     let e = (goal.at.loop-at-preserved-in-58-1 c).Else-number-ne0 in
-    rw c.command_size-size.ensures (square-counted _ _ c.loop-at.invariant c.loop-at-test.true (unrefused e) c.in-58.is)
+    rw c.command_size-size.ensures (square_counted _ _ c.loop-at.invariant c.loop-at-test.true (unrefused e) c.in-58.is)
 
 -- a multiplier command
 
@@ -87,7 +87,7 @@ loop-at-preserved c =
       | in-59-1 w ↦ inr (omega arith)
       | in_default+else-command-lt48+then-command-lt58 w ↦ inl (omega arith, omega arith)
     ] in
-    rw c.command_size-size.ensures (multiplier-counted _ _ c.loop-at.invariant c.loop-at-test.true (unrefused e) kind)
+    rw c.command_size-size.ensures (multiplier_counted _ _ c.loop-at.invariant c.loop-at-test.true (unrefused e) kind)
 
 -- the end
 
@@ -101,8 +101,8 @@ returns-in_default c =
       | in_default-via-then-command-lt48 w ↦ omega arith
       | in_default-via-else-command-lt48+else-command-lt58 w ↦ omega arith
     ] in
-    rw (c.command_size-size.ensures, c.loop-at.invariant.counts-are) (ap commandsRead (sym (ends _ _ c.loop-at.invariant.going c.loop-at-test.true (unrefused e) none)))
+    rw (c.command_size-size.ensures, c.loop-at.invariant.counts_are) (ap commands_read (sym (ends _ _ c.loop-at.invariant.going c.loop-at-test.true (unrefused e) none)))
 
 pub returns : goal.returns
-unfolding commandsInJob
-returns c = c.refused-2.ensures ∙ ap commandsRead (sym (going-missing fresh _ (laws _ _) c.loop-at.invariant.going c.loop-at-test.false))
+unfolding commands_in_job
+returns c = c.refused-2.ensures ∙ ap commands_read (sym (going_missing fresh _ (laws _ _) c.loop-at.invariant.going c.loop-at-test.false))

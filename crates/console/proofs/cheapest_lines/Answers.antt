@@ -8,44 +8,44 @@ use lib.ListN.{length}
 use mir.Syntax.{w8, w32, w64}
 use mir.Val.{Fits, SFits}
 use borrow.Author.Rules.{rules}
-use Rattle.wire.proofs.Written.{written-front}
+use Rattle.wire.proofs.Written.{written_front}
 use Rattle.register.specs.declared.RegisterAnswer.{RegisterAnswer}
-use Rattle.register.specs.Format.{registerByItself}
-use Rattle.register.specs.Answer.{registerAnswer}
+use Rattle.register.specs.Format.{register_by_itself}
+use Rattle.register.specs.Answer.{register_answer}
 use Rattle.register.specs.Valid.{Within}
-use Rattle.register.proofs.Entries.{fresh-within}
-use Rattle.register.proofs.Opened.{opened-refused, opened}
+use Rattle.register.proofs.Entries.{fresh_within}
+use Rattle.register.proofs.Opened.{opened_refused, opened}
 use Rattle.search.specs.declared.SearchAnswer.{SearchAnswer}
-use Rattle.search.specs.Answer.{searchAnswer}
-use Rattle.console.specs.Cheapest.{searchLines, cheapestLines, cheapestRoom}
+use Rattle.search.specs.Answer.{search_answer}
+use Rattle.console.specs.Cheapest.{search_lines, cheapest_lines, cheapest_room}
 use Rattle.console.proofs.Front.{front}
-use Rattle.console.proofs.Lengths.{lines-short, longest-fits}
-use Rattle.console.proofs.Prefix.{answer-position, reach-is}
+use Rattle.console.proofs.Lengths.{lines_short, longest_fits}
+use Rattle.console.proofs.Prefix.{answer_position, reach_is}
 use Rattle.console.proofs.cheapest_lines.Goals as goal
 
 -- the register that is answered is within the limits, also where it is refused
-within : (s : List ℕ) (first : RegisterAnswer) → first ≡ registerAnswer (registerByItself s) → Within first.register
+within : (s : List ℕ) (first : RegisterAnswer) → first ≡ register_answer (register_by_itself s) → Within first.register
 within s first e = by (ℕ_discrete first.number 0)
   where
     by : Dec (first.number ≡ 0) → Within first.register
     by (yes h) = (opened s first e h).valid.within
-    by (no h) = rw (e, opened-refused s first e h) fresh-within
+    by (no h) = rw (e, opened_refused s first e h) fresh_within
 
 -- the lines are those of the two answers
-lines : (s : List ℕ) (limit : ℕ) (first : RegisterAnswer) (answer : SearchAnswer) → first ≡ registerAnswer (registerByItself s) → answer ≡ searchAnswer s limit →
-    searchLines first.register answer ≡ cheapestLines s limit
-unfolding cheapestLines
+lines : (s : List ℕ) (limit : ℕ) (first : RegisterAnswer) (answer : SearchAnswer) → first ≡ register_answer (register_by_itself s) → answer ≡ search_answer s limit →
+    search_lines first.register answer ≡ cheapest_lines s limit
+unfolding cheapest_lines
 lines s limit first answer e d = rw (e, d)
 
 -- a refusal's position
-near : (s : List ℕ) (limit : ℕ) (answer : SearchAnswer) → answer ≡ searchAnswer s limit → answer.position < 2 ^ 32
-near s limit answer d = omega (arith, ap (λ (a : SearchAnswer). a.position) d, answer-position s limit, reach-is)
+near : (s : List ℕ) (limit : ℕ) (answer : SearchAnswer) → answer ≡ search_answer s limit → answer.position < 2 ^ 32
+near s limit answer d = omega (arith, ap (λ (a : SearchAnswer). a.position) d, answer_position s limit, reach_is)
 
 -- the text has room
-room : (s : List ℕ) (limit : ℕ) (first : RegisterAnswer) (answer : SearchAnswer) → first ≡ registerAnswer (registerByItself s) → answer ≡ searchAnswer s limit →
-    Fits w8 answer.number → SFits w64 answer.cost → Fits w32 answer.visits → length (searchLines first.register answer) ≤ cheapestRoom
+room : (s : List ℕ) (limit : ℕ) (first : RegisterAnswer) (answer : SearchAnswer) → first ≡ register_answer (register_by_itself s) → answer ≡ search_answer s limit →
+    Fits w8 answer.number → SFits w64 answer.cost → Fits w32 answer.visits → length (search_lines first.register answer) ≤ cheapest_room
 room s limit first answer e d n cost v =
-    omega (arith, longest-fits, lines-short first.register answer (within s first e) (omega arith) (near s limit answer d) cost (omega arith))
+    omega (arith, longest_fits, lines_short first.register answer (within s first e) (omega arith) (near s limit answer d) cost (omega arith))
 
 pub put_search-requires : goal.put_search-requires
 put_search-requires c =
@@ -71,5 +71,5 @@ returns c =
     let visits : Fits w32 a.result.visits = search rules in
     let few = room _ _ f.result a.result f.ensures a.ensures number cost visits in
     let e = lines _ _ f.result a.result f.ensures a.ensures in
-    let h = rw e at (front (searchLines f.result.register a.result) text _ _ w.value (w.out_after ∙ written-front text _ (omega (arith, few)))) in
+    let h = rw e at (front (search_lines f.result.register a.result) text _ _ w.value (w.out_after ∙ written_front text _ (omega (arith, few)))) in
     record { value = h.0; text_after = h.1.0; within = h.1.1 }

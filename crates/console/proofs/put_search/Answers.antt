@@ -10,34 +10,34 @@ use mir.Syntax.{w64, w32}
 use mir.Val.{SFits, Fits, to_z, of_z}
 use borrow.Author.Rules.{rules}
 use lib.ListN.{length, length-append}
-use Rattle.integers.proofs.Machine.{read-unsigned}
+use Rattle.integers.proofs.Machine.{read_unsigned}
 use Rattle.text.specs.Text.{line}
 use Rattle.wire.specs.Number.{written}
 use Rattle.wire.proofs.Written.{and_then, same}
 use Rattle.register.specs.declared.Register.{Register}
 use Rattle.search.specs.declared.SearchAnswer.{SearchAnswer}
-use Rattle.listing.specs.Listing.{fedLines}
-use Rattle.listing.specs.ByLetter.{linesUnder}
-use Rattle.listing.proofs.Lengths.{fed-lines}
-use Rattle.console.specs.Cheapest.{searchLine, searchLines}
-use Rattle.console.proofs.Lengths.{found-is, refused-is}
+use Rattle.listing.specs.Listing.{fed_lines}
+use Rattle.listing.specs.ByLetter.{lines_under}
+use Rattle.listing.proofs.Lengths.{fed_lines_lem}
+use Rattle.console.specs.Cheapest.{search_line, search_lines}
+use Rattle.console.proofs.Lengths.{found_is, refused_is}
 use Rattle.console.proofs.put_search.Goals as goal
 
 -- the last line, of numbers that were passed as bits
-bits : (cost : ℤ) (visits : ℕ) → SFits w64 cost → Fits w32 visits → line 0x53 (to_z w64 (of_z w64 cost) ∷ to_z w64 visits ∷ []) ≡ searchLine cost visits
-bits cost visits c v = rw (to_z-of_z c, read-unsigned w64 visits (omega arith))
+bits : (cost : ℤ) (visits : ℕ) → SFits w64 cost → Fits w32 visits → line 0x53 (to_z w64 (of_z w64 cost) ∷ to_z w64 visits ∷ []) ≡ search_line cost visits
+bits cost visits c v = rw (to_z-of_z c, read_unsigned w64 visits (omega arith))
 
 -- how many bytes there are
-total : (r : Register) (a : SearchAnswer) → a.number ≡ 0 → length (linesUnder 0x46 r a.plan) + length (searchLine a.cost a.visits) ≡ length (searchLines r a)
-total r a h = rw (fed-lines r a.plan) (sym (length-append (fedLines r a.plan) (searchLine a.cost a.visits)) ∙ ap length (found-is r a h))
+total : (r : Register) (a : SearchAnswer) → a.number ≡ 0 → length (lines_under 0x46 r a.plan) + length (search_line a.cost a.visits) ≡ length (search_lines r a)
+total r a h = rw (fed_lines_lem r a.plan) (sym (length-append (fed_lines r a.plan) (search_line a.cost a.visits)) ∙ ap length (found_is r a h))
 
 pub put_refusal-requires-clause-position_in_bounds : goal.put_refusal-requires-clause-position_in_bounds
 put_refusal-requires-clause-position_in_bounds c =
-    omega (arith, c.requires.answer_in_bounds, ap length (refused-is c.args.register c.args.answer c.if-number-ne0.true))
+    omega (arith, c.requires.answer_in_bounds, ap length (refused_is c.args.register c.args.answer c.if-number-ne0.true))
 
 pub returns-then-number-ne0 : goal.returns-then-number-ne0
 returns-then-number-ne0 c =
-    let e = refused-is c.args.register c.args.answer c.if-number-ne0.true in
+    let e = refused_is c.args.register c.args.answer c.if-number-ne0.true in
     record {
       value = c.put_refusal.ensures.value ∙ ap length e;
       out_after = c.put_refusal.ensures.out_after ∙ ap (written c.args.out.now 0) e;
@@ -63,10 +63,10 @@ returns c =
     let r = c.args.register in
     let a = c.args.answer in
     let o = c.args.out.now in
-    let first = same o 0 (fed-lines r a.plan) (c.put_choices-end.ensures.value, c.put_choices-end.ensures.out_after) in
+    let first = same o 0 (fed_lines_lem r a.plan) (c.put_choices-end.ensures.value, c.put_choices-end.ensures.out_after) in
     let cost : SFits w64 a.cost = search rules in
     let visits : Fits w32 a.visits = search rules in
     let second = same _ _ (bits a.cost a.visits cost visits) (c.put_line.ensures.value, c.put_line.ensures.out_after) in
-    let both = and_then o 0 _ (searchLine a.cost a.visits) first second in
-    let w = same o 0 (found-is r a c.if-number-ne0.false) both in
+    let both = and_then o 0 _ (search_line a.cost a.visits) first second in
+    let w = same o 0 (found_is r a c.if-number-ne0.false) both in
     record { value = w.0 ∙ zero-add _; out_after = w.1 }

@@ -8,9 +8,9 @@ use mir.Facts.{to_z-of_z}
 use borrow.Author.Rules.{rules}
 use Rattle.job.specs.declared.Tally.{Tally}
 use Rattle.job.specs.declared.JobAnswer.{JobAnswer}
-use Rattle.job.specs.Tally.{withPair}
-use Rattle.job.specs.Answer.{refusedAnswer}
-use Rattle.job.proofs.Call.{none, short, call-refused, call-accepted}
+use Rattle.job.specs.Tally.{with_pair}
+use Rattle.job.specs.Answer.{refused_answer}
+use Rattle.job.proofs.Call.{none, short, call_refused, call_accepted}
 use Rattle.job.proofs.feedcheck_job.Goals as goal
 
 abbrev filled : ℤ → ℤ → ℤ → Tally → JobAnswer
@@ -30,7 +30,7 @@ returns-then-index-ge-SUPPLIERS-clause-table_after c = (none c.args.job.now c.ar
 pub returns-then-table-lt-NUMBERS-clause-value : goal.returns-then-table-lt-NUMBERS-clause-value
 returns-then-table-lt-NUMBERS-clause-value c =
     c.refused-then-table-lt-NUMBERS.ensures
-    ∙ ap (refusedAnswer 11 0 0) (c.with_pair-refused.ensures ∙ ap (λ pair. withPair c.args.supplier pair c.args.tally) c.with_refused.ensures)
+    ∙ ap (refused_answer 11 0 0) (c.with_pair-refused.ensures ∙ ap (λ pair. with_pair c.args.supplier pair c.args.tally) c.with_refused.ensures)
     ∙ (short c.args.job.now c.args.table.now c.args.supplier c.args.tally (omega arith) (omega arith)).answers
 
 pub returns-then-table-lt-NUMBERS-clause-table_after : goal.returns-then-table-lt-NUMBERS-clause-table_after
@@ -40,14 +40,14 @@ pub returns-then-number-ne0-clause-value : goal.returns-then-number-ne0-clause-v
 returns-then-number-ne0-clause-value c =
     let k = c.read_job-read in
     c.refused-then-number-ne0.ensures
-    ∙ ap (refusedAnswer k.result.number k.result.part k.result.position)
-    (c.with_pair-refused.ensures ∙ ap (λ pair. withPair c.args.supplier pair c.args.tally) c.with_refused.ensures)
-    ∙ (call-refused c.args.job.now c.args.table.now c.args.supplier c.args.tally (omega arith) _ (omega arith) k.result k.ensures.value k.ensures.table_after c.if-number-ne0.true).answers
+    ∙ ap (refused_answer k.result.number k.result.part k.result.position)
+    (c.with_pair-refused.ensures ∙ ap (λ pair. with_pair c.args.supplier pair c.args.tally) c.with_refused.ensures)
+    ∙ (call_refused c.args.job.now c.args.table.now c.args.supplier c.args.tally (omega arith) _ (omega arith) k.result k.ensures.value k.ensures.table_after c.if-number-ne0.true).answers
 
 pub returns-then-number-ne0-clause-table_after : goal.returns-then-number-ne0-clause-table_after
 returns-then-number-ne0-clause-table_after c =
     let k = c.read_job-read in
-    (call-refused c.args.job.now c.args.table.now c.args.supplier c.args.tally (omega arith) _ (omega arith) k.result k.ensures.value k.ensures.table_after c.if-number-ne0.true).holds
+    (call_refused c.args.job.now c.args.table.now c.args.supplier c.args.tally (omega arith) _ (omega arith) k.result k.ensures.value k.ensures.table_after c.if-number-ne0.true).holds
 
 pub returns-clause-value : goal.returns-clause-value
 returns-clause-value c =
@@ -56,10 +56,10 @@ returns-clause-value c =
     let z : SFits w64 k.result.cost = search rules in
     let g : SFits w64 k.result.gap = search rules in
     read_back k.result.bound k.result.cost k.result.gap c.with_pair-accepted.result b z g
-    ∙ ap (filled k.result.bound k.result.cost k.result.gap) (c.with_pair-accepted.ensures ∙ ap (λ pair. withPair c.args.supplier pair c.args.tally) c.with_accepted.ensures)
-    ∙ (call-accepted c.args.job.now c.args.table.now c.args.supplier c.args.tally (omega arith) _ (omega arith) k.result k.ensures.value k.ensures.table_after c.if-number-ne0.false).answers
+    ∙ ap (filled k.result.bound k.result.cost k.result.gap) (c.with_pair-accepted.ensures ∙ ap (λ pair. with_pair c.args.supplier pair c.args.tally) c.with_accepted.ensures)
+    ∙ (call_accepted c.args.job.now c.args.table.now c.args.supplier c.args.tally (omega arith) _ (omega arith) k.result k.ensures.value k.ensures.table_after c.if-number-ne0.false).answers
 
 pub returns-clause-table_after : goal.returns-clause-table_after
 returns-clause-table_after c =
     let k = c.read_job-read in
-    (call-accepted c.args.job.now c.args.table.now c.args.supplier c.args.tally (omega arith) _ (omega arith) k.result k.ensures.value k.ensures.table_after c.if-number-ne0.false).holds
+    (call_accepted c.args.job.now c.args.table.now c.args.supplier c.args.tally (omega arith) _ (omega arith) k.result k.ensures.value k.ensures.table_after c.if-number-ne0.false).holds

@@ -8,19 +8,19 @@ use mir.Val.{SFits, to_z, of_z}
 use borrow.Author.Tests.{eq-eqb, ne_eqb}
 use Rattle.job.specs.declared.JobRead.{JobRead}
 use Rattle.wire.specs.Number.{written}
-use Rattle.listing.specs.Listing.{acceptedLines, refusalLine}
-use Rattle.listing.specs.ByLetter.{linesFor}
+use Rattle.listing.specs.Listing.{accepted_lines, refusal_line}
+use Rattle.listing.specs.ByLetter.{lines_for}
 use Rattle.listing.specs.Answer.{lines_of}
 use Rattle.listing.proofs.put_lines.Goals as goal
 
 -- the line of a refusal
-refused : (supplier : Bool) (read : JobRead) → (read.number ≡ 0 → ⊥) → refusalLine read.number read.position ≡ lines_of (linesFor supplier) read
+refused : (supplier : Bool) (read : JobRead) → (read.number ≡ 0 → ⊥) → refusal_line read.number read.position ≡ lines_of (lines_for supplier) read
 unfolding lines_of
 refused supplier read h = sym (rw (ne_eqb read.number 0 h))
 
 -- of numbers that were passed as bits
 lines : (supplier : Bool) (read : JobRead) → read.number ≡ 0 → SFits w64 read.bound → SFits w64 read.cost → SFits w64 read.gap →
-    acceptedLines (linesFor supplier) read.register read.plan (to_z w64 (of_z w64 read.bound)) (to_z w64 (of_z w64 read.cost)) (to_z w64 (of_z w64 read.gap)) ≡ lines_of (linesFor supplier) read
+    accepted_lines (lines_for supplier) read.register read.plan (to_z w64 (of_z w64 read.bound)) (to_z w64 (of_z w64 read.cost)) (to_z w64 (of_z w64 read.gap)) ≡ lines_of (lines_for supplier) read
 unfolding lines_of
 lines supplier read h b c g = rw (to_z-of_z b, to_z-of_z c, to_z-of_z g) (sym (rw (eq-eqb read.number 0 h)))
 

@@ -9,22 +9,22 @@ use Rattle.scheme.specs.declared.Scheme.{Scheme}
 use Rattle.scheme.specs.Scheme.{left, right, variables}
 use Rattle.penalty.specs.Weights.{reaches as defined}
 use Rattle.penalty.specs.Operands.{Lent}
-use Rattle.penalty.proofs.Weights.{reaches-choice, reaches-product, reaches-below as no-later}
+use Rattle.penalty.proofs.Weights.{reaches_choice, reaches_product, reaches_below as no-later}
 use Rattle.penalty.proofs.+reaches.Goals as goal
 
 -- a product of a scheme with these operands: it is k, or its operands are followed down
 module _ (n k v : ℕ) (s : Scheme) {ls rs : List ℕ} (lent : Lent n s ls rs) (l : n ≤ v) (m : v < variables n s) where
   found : v ≡ k → true ≡ defined n s k v
-  found e = sym (rw (reaches-product n s lent.products k v l m, eq-eqb v k e))
+  found e = sym (rw (reaches_product n s lent.products k v l m, eq-eqb v k e))
 
   followed : (v ≡ k → ⊥) → (a b : Bool) → a ≡ defined n s k (get_or ls (v - n) 0) → b ≡ defined n s k (get_or rs (v - n) 0) → (a || b) ≡ defined n s k v
-  followed d a b e f = go (e ∙ ap (λ xs. defined n s k (get_or xs (v - n) 0)) (sym lent.lefts-are)) (f ∙ ap (λ xs. defined n s k (get_or xs (v - n) 0)) (sym lent.rights-are))
+  followed d a b e f = go (e ∙ ap (λ xs. defined n s k (get_or xs (v - n) 0)) (sym lent.lefts_are)) (f ∙ ap (λ xs. defined n s k (get_or xs (v - n) 0)) (sym lent.rights_are))
     where
       go : a ≡ defined n s k (left n s v) → b ≡ defined n s k (right n s v) → (a || b) ≡ defined n s k v
-      go x y = sym (rw (reaches-product n s lent.products k v l m, ne_eqb v k d, ← x, ← y))
+      go x y = sym (rw (reaches_product n s lent.products k v l m, ne_eqb v k d, ← x, ← y))
 
 pub returns-then-v-n : goal.returns-then-v-n
-returns-then-v-n t c s lent m = sym (reaches-choice c.args.n s c.args.k c.args.v c.if-v-n.true)
+returns-then-v-n t c s lent m = sym (reaches_choice c.args.n s c.args.k c.args.v c.if-v-n.true)
 
 pub returns-then-v-k : goal.returns-then-v-k
 returns-then-v-k t c s lent m = sym (no-later c.args.n s lent.products c.args.k c.args.v m c.if-v-k.true)

@@ -6,11 +6,11 @@ use native.Mathlib.Numerals.{add-one}
 use lib.IntN.{ℤ, pos}
 use lib.ListN.{get_or}
 use mir.Syntax.{w64}
-use Rattle.integers.specs.Lists.{joinBelow}
-use Rattle.integers.proofs.Machine.{fits_signed, read-unsigned}
+use Rattle.integers.specs.Lists.{join_below}
+use Rattle.integers.proofs.Machine.{fits_signed, read_unsigned}
 use Rattle.forms.specs.Form.{times}
-use Rattle.forms.specs.Store.{addForm, Bounded, maxBeforeForm, maxBeforeForms}
-use Rattle.forms.proofs.Store.{addForm-join, bounded-addForm, bounded-weaken}
+use Rattle.forms.specs.Store.{add_form, Bounded, max_before_form, max_before_forms}
+use Rattle.forms.proofs.Store.{add_form_join, bounded_add_form, bounded_weaken}
 use Rattle.register.specs.declared.Register.{Register}
 use Rattle.register.specs.Register.{coefficient}
 use Rattle.register.specs.Valid.{Within}
@@ -18,18 +18,18 @@ use Rattle.scheme.specs.declared.Scheme.{Scheme}
 use Rattle.scheme.specs.Scheme.{left, side}
 use Rattle.scheme.specs.Valid.{Valid}
 use Rattle.penalty.specs.Weights.{weight}
-use Rattle.penalty.specs.Penalty.{bracket, penaltyOf}
-use Rattle.penalty.proofs.Penalty.{below-penalties}
-use Rattle.penalty.proofs.Bounds.{penalties-norm, weight-read-small}
+use Rattle.penalty.specs.Penalty.{bracket, penalty_of}
+use Rattle.penalty.proofs.Penalty.{below_penalties}
+use Rattle.penalty.proofs.Bounds.{penalties_norm, weight_read_small}
 use Rattle.penalty.proofs.add_penalties.Goals as goal
 
 -- the table after i products has room for one more
-room : (r : Register) (s : Scheme) (n i : ℕ) (t t₀ : List ℤ) → Within r → Valid r s → n ≡ side r.choices s → Bounded n maxBeforeForms t₀ →
-    i ≤ s.products → t ≡ addForm n (joinBelow i (penaltyOf (coefficient r) r s)) t₀ → Bounded n maxBeforeForm t
+room : (r : Register) (s : Scheme) (n i : ℕ) (t t₀ : List ℤ) → Within r → Valid r s → n ≡ side r.choices s → Bounded n max_before_forms t₀ →
+    i ≤ s.products → t ≡ add_form n (join_below i (penalty_of (coefficient r) r s)) t₀ → Bounded n max_before_form t
 room r s n i t t₀ within valid e h l d =
     rw d
-    (bounded-weaken (bounded-addForm (rw e (below-penalties (coefficient r) r s valid i l)) h)
-    (omega (arith, penalties-norm r s within i, valid.within.products-within)))
+    (bounded_weaken (bounded_add_form (rw e (below_penalties (coefficient r) r s valid i l)) h)
+    (omega (arith, penalties_norm r s within i, valid.within.products_within)))
 
 -- the operands of product n + i, as the code reads them
 same : (n i : ℕ) → n + i - n ≡ i
@@ -42,19 +42,19 @@ operands r s i valid l =
     (rw (same r.choices i) at x, rw (same r.choices i) at p.falls)
 
 turn : (r : Register) (s : Scheme) (n i : ℕ) (t t₀ u : List ℤ) (w : ℤ) → w ≡ weight (coefficient r) r s (r.choices + i) →
-    t ≡ addForm n (joinBelow i (penaltyOf (coefficient r) r s)) t₀ →
-    u ≡ addForm n (times w (bracket (r.choices + i) (get_or s.lefts i 0) (get_or s.rights i 0))) t →
-    u ≡ addForm n (joinBelow (i + 1) (penaltyOf (coefficient r) r s)) t₀
+    t ≡ add_form n (join_below i (penalty_of (coefficient r) r s)) t₀ →
+    u ≡ add_form n (times w (bracket (r.choices + i) (get_or s.lefts i 0) (get_or s.rights i 0))) t →
+    u ≡ add_form n (join_below (i + 1) (penalty_of (coefficient r) r s)) t₀
 turn r s n i t t₀ u w e d f =
-    f ∙ rw (e, d, add-one, addForm-join n i (penaltyOf (coefficient r) r s) t₀, same r.choices i)
+    f ∙ rw (e, d, add-one, add_form_join n i (penalty_of (coefficient r) r s) t₀, same r.choices i)
 
 pub loop-i-init : goal.loop-i-init
-unfolding addForm joinBelow
+unfolding add_form join_below
 loop-i-init c = record { within = omega arith; so_far = refl }
 
 pub overflow_cast-w : goal.overflow_cast-w
 overflow_cast-w c =
-    let l = weight-read-small c.args.register c.args.scheme _ _ c.requires.valid_register.within c.weight-w.ensures in
+    let l = weight_read_small c.args.register c.args.scheme _ _ c.requires.valid_register.within c.weight-w.ensures in
     fits_signed w64 (pos c.weight-w.result) (omega (arith, l))
 
 pub add_bracket-requires-clause-bounded : goal.add_bracket-requires-clause-bounded
@@ -68,15 +68,15 @@ add_bracket-requires-clause-k_bound c =
 
 pub add_bracket-requires-clause-w_bound : goal.add_bracket-requires-clause-w_bound
 add_bracket-requires-clause-w_bound c =
-    let w = weight-read-small c.args.register c.args.scheme _ _ c.requires.valid_register.within c.weight-w.ensures in
-    rw (read-unsigned w64 c.weight-w.result (omega (arith, w))) (omega (arith, w))
+    let w = weight_read_small c.args.register c.args.scheme _ _ c.requires.valid_register.within c.weight-w.ensures in
+    rw (read_unsigned w64 c.weight-w.result (omega (arith, w))) (omega (arith, w))
 
 pub loop-i-preserved : goal.loop-i-preserved
 loop-i-preserved c =
-    let w = weight-read-small c.args.register c.args.scheme _ _ c.requires.valid_register.within c.weight-w.ensures in
+    let w = weight_read_small c.args.register c.args.scheme _ _ c.requires.valid_register.within c.weight-w.ensures in
     record {
       within = omega arith;
       so_far =
-          turn c.args.register c.args.scheme _ c.loop-i.i _ _ _ _ (read-unsigned w64 _ (omega (arith, w)) ∙ c.weight-w.ensures)
+          turn c.args.register c.args.scheme _ c.loop-i.i _ _ _ _ (read_unsigned w64 _ (omega (arith, w)) ∙ c.weight-w.ensures)
           c.loop-i.invariant.so_far c.add_bracket.ensures;
     }

@@ -3,18 +3,18 @@ use native.Mathlib.Numerals.{add-one}
 use native.Mathlib.Omega.{arith}
 use mir.Syntax.{w64}
 use borrow.Author.Tests.{eq-eqb, ne_eqb}
-use Rattle.integers.proofs.Machine.{read-signed}
-use Rattle.forms.specs.Store.{addForm}
+use Rattle.integers.proofs.Machine.{read_signed}
+use Rattle.forms.specs.Store.{add_form}
 use Rattle.scheme.specs.Function.{term}
 use Rattle.penalty.proofs.add_term.Goals as goal
 
 pub returns-then-l-r : goal.returns-then-l-r
-unfolding term addForm
+unfolding term add_form
 returns-then-l-r c =
-    rw (eq-eqb c.args.l c.args.r c.if-l-r.true, ← (add-one c.args.l)) (rw (read-signed w64 c.args.c (omega arith)) at c.add_monomial.ensures)
+    rw (eq-eqb c.args.l c.args.r c.if-l-r.true, ← (add-one c.args.l)) (rw (read_signed w64 c.args.c (omega arith)) at c.add_monomial.ensures)
 
 pub returns-else-l-r : goal.returns-else-l-r
-unfolding term addForm
+unfolding term add_form
 returns-else-l-r c =
     rw (ne_eqb c.args.l c.args.r c.if-l-r.false, ← (add-one c.args.l), ← (add-one c.args.r))
-    (rw (read-signed w64 c.args.c (omega arith)) at c.add_monomial-else-l-r.ensures)
+    (rw (read_signed w64 c.args.c (omega arith)) at c.add_monomial-else-l-r.ensures)

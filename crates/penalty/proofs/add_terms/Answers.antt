@@ -4,28 +4,28 @@ use native.Mathlib.Omega.{arith}
 use lib.IntN.{ℤ, nat_abs}
 use mir.Syntax.{w64}
 use mir.Val.{to_z, of_z}
-use Rattle.integers.specs.Lists.{joinBelow}
-use Rattle.integers.proofs.Machine.{read-signed}
-use Rattle.forms.specs.Store.{addForm}
+use Rattle.integers.specs.Lists.{join_below}
+use Rattle.integers.proofs.Machine.{read_signed}
+use Rattle.forms.specs.Store.{add_form}
 use Rattle.register.specs.declared.Register.{Register}
 use Rattle.register.specs.Register.{coefficient}
 use Rattle.register.specs.Valid.{Within}
-use Rattle.penalty.specs.Operands.{maxFactor}
-use Rattle.penalty.proofs.Scaled.{Product, product, terms-room, terms-turn}
+use Rattle.penalty.specs.Operands.{max_factor}
+use Rattle.penalty.proofs.Scaled.{Product, product, terms_room, terms_turn}
 use Rattle.penalty.proofs.add_terms.Goals as goal
 
 -- the scale as the code has it
-small : (z : ℤ) → nat_abs z ≤ maxFactor → nat_abs (to_z w64 (of_z w64 z)) ≤ maxFactor
-small z h = rw (read-signed w64 z (omega arith)) h
+small : (z : ℤ) → nat_abs z ≤ max_factor → nat_abs (to_z w64 (of_z w64 z)) ≤ max_factor
+small z h = rw (read_signed w64 z (omega arith)) h
 
 -- times the coefficient of term t
-scaled : (z : ℤ) (r : Register) (t : ℕ) → nat_abs z ≤ maxFactor → Within r → t < r.terms → Product (to_z w64 (of_z w64 z)) (coefficient r t)
+scaled : (z : ℤ) (r : Register) (t : ℕ) → nat_abs z ≤ max_factor → Within r → t < r.terms → Product (to_z w64 (of_z w64 z)) (coefficient r t)
 scaled z r t h within l =
-    let m = (within.terms.each t l).coefficient-within in
+    let m = (within.terms.each t l).coefficient_within in
     product (to_z w64 (of_z w64 z)) (coefficient r t) (small z h) (omega arith)
 
 pub loop-t-init : goal.loop-t-init
-unfolding addForm joinBelow
+unfolding add_form join_below
 loop-t-init c = record { within = omega arith; so_far = refl }
 
 pub overflow_mul-scale : goal.overflow_mul-scale
@@ -33,7 +33,7 @@ overflow_mul-scale c = (scaled c.args.scale c.args.register c.loop-t.t c.require
 
 pub add_term-requires-clause-bounded : goal.add_term-requires-clause-bounded
 add_term-requires-clause-bounded c =
-    terms-room (to_z w64 (of_z w64 c.args.scale)) c.args.register c.args.scheme _ c.loop-t.t _ _
+    terms_room (to_z w64 (of_z w64 c.args.scale)) c.args.register c.args.scheme _ c.loop-t.t _ _
     c.requires.valid_register.within c.requires.valid c.requires.side_value c.requires.bounded (small c.args.scale c.requires.scale_bound)
     (omega arith) c.loop-t.invariant.so_far
 
@@ -46,7 +46,7 @@ pub loop-t-preserved : goal.loop-t-preserved
 loop-t-preserved c = record {
   within = omega arith;
   so_far =
-      terms-turn (to_z w64 (of_z w64 c.args.scale)) c.args.register c.args.scheme _ c.loop-t.t _ _ _ _
+      terms_turn (to_z w64 (of_z w64 c.args.scale)) c.args.register c.args.scheme _ c.loop-t.t _ _ _ _
       (scaled c.args.scale c.args.register c.loop-t.t c.requires.scale_bound c.requires.valid_register.within (omega arith)).reads
       c.loop-t.invariant.so_far c.add_term.ensures;
 }

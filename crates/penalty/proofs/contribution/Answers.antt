@@ -6,7 +6,7 @@ use native.Mathlib.Omega.{arith}
 use lib.IntN.{pos, nat_abs}
 use mir.Syntax.{w32, w64}
 use Rattle.integers.specs.Integer.{abs}
-use Rattle.integers.proofs.Machine.{fits_signed, cast-read}
+use Rattle.integers.proofs.Machine.{fits_signed, cast_read}
 use Rattle.penalty.specs.Weights.{reaches}
 use Rattle.penalty.proofs.contribution.Goals as goal
 
@@ -24,6 +24,6 @@ returns c s lent h =
       c.reaches-left.ensures s lent (omega arith),
       c.reaches-right.ensures s lent h,
       c.magnitude.ensures,
-      cast-read w32 w64 c.args.c (omega arith) (fits_signed w32 c.args.c (omega arith)),
+      cast_read w32 w64 c.args.c (omega arith) (fits_signed w32 c.args.c (omega arith)),
     )
     (either (reaches c.args.n s c.args.k c.args.l) (reaches c.args.n s c.args.k c.args.r) (nat_abs c.args.c))

@@ -1,15 +1,15 @@
 use mathlib.Core.Path.{◌≡◌}
 use Prim.Native.Nat.{◌+◌, ◌*◌, ◌≤◌, ◌-◌}
 use lib.ListN.{length}
-use Rattle.integers.specs.Lists.{joinBelow}
-use Rattle.plain.specs.InTable.{diagonalIn, linearIn}
+use Rattle.integers.specs.Lists.{join_below}
+use Rattle.plain.specs.InTable.{diagonal_in, linear_in}
 use Rattle.plain.proofs.command_count.Given as goal
 
 abbrev pub invariant-loop-i : goal.invariant-loop-i
 invariant-loop-i l = record {
   within : l.i ≤ l.n;
   few : l.count ≤ 2 * l.i;
-  so_far : l.count ≡ length (joinBelow l.i (diagonalIn l.n l.table)) + length (joinBelow l.i (linearIn l.n l.table));
+  so_far : l.count ≡ length (join_below l.i (diagonal_in l.n l.table)) + length (join_below l.i (linear_in l.n l.table));
 }
 
 abbrev pub decreases-loop-i : goal.decreases-loop-i

@@ -4,16 +4,16 @@ use lib.IntN.{pos, nat_abs}
 use mir.Facts.{to_z-of_z}
 use mir.Syntax.{w64}
 use Rattle.integers.specs.Integer.{abs}
-use Rattle.integers.proofs.Sum.{except-same, except-other}
-use Rattle.plain.specs.InTable.{entryIn}
+use Rattle.integers.proofs.Sum.{except_same, except_other}
+use Rattle.plain.specs.InTable.{entry_in}
 use Rattle.plain.proofs.off_diagonal_term.Goals as goal
 
 pub returns-then-j-i : goal.returns-then-j-i
-returns-then-j-i c = rw c.if-j-i.true (sym (except-same c.args.i _))
+returns-then-j-i c = rw c.if-j-i.true (sym (except_same c.args.i _))
 
 pub returns : goal.returns
 unfolding abs
 returns c =
     let a = c.args in
-    ap pos (c.magnitude.ensures ∙ ap nat_abs (to_z-of_z {w = w64} (record { sfits = c.entry_in.type_inv }) ∙ c.entry_in.ensures) ∙ ap₂ (λ x y. nat_abs (entryIn a.n a.table.now x y)) (add-one a.i) (add-one a.j))
-    ∙ sym (except-other a.i _ a.j c.if-j-i.false)
+    ap pos (c.magnitude.ensures ∙ ap nat_abs (to_z-of_z {w = w64} (record { sfits = c.entry_in.type_inv }) ∙ c.entry_in.ensures) ∙ ap₂ (λ x y. nat_abs (entry_in a.n a.table.now x y)) (add-one a.i) (add-one a.j))
+    ∙ sym (except_other a.i _ a.j c.if-j-i.false)

@@ -6,9 +6,9 @@ use lib.IntN.{ℤ, pos}
 use lib.ListN.{length, replicate, length-replicate}
 use mir.Syntax.{w32, w64}
 use mir.Val.{SFits, to_z, of_z}
-use Rattle.integers.proofs.Machine.{fits_signed, cast_fits, cast-read}
+use Rattle.integers.proofs.Machine.{fits_signed, cast_fits, cast_read}
 use Rattle.forms.specs.Form.{entry}
-use Rattle.forms.specs.Table.{tableNumbers, withTable}
+use Rattle.forms.specs.Table.{table_numbers, with_table}
 use Rattle.register.specs.declared.Register.{Register}
 use Rattle.register.specs.Register.{coefficient}
 use Rattle.register.specs.Valid as R
@@ -16,65 +16,65 @@ use Rattle.scheme.specs.declared.Scheme.{Scheme}
 use Rattle.scheme.specs.Scheme.{variables, side}
 use Rattle.scheme.specs.Function.{g}
 use Rattle.scheme.specs.Valid.{Valid}
-use Rattle.penalty.proofs.Bounds.{side-square}
+use Rattle.penalty.proofs.Bounds.{side_square}
 use Rattle.wire.specs.Number.{written}
-use Rattle.wire.specs.Writer.{writtenAnswer}
-use Rattle.wire.proofs.Writer.{bytes-short, bytes_fit}
-use Rattle.plain.specs.InTable.{Small, commandsIn, encodeIn}
-use Rattle.plain.specs.Answer.{ownBytes, ownRoom}
-use Rattle.plain.proofs.InTable.{table-small, commands-are, encode-is}
-use Rattle.plain.proofs.Encoded.{length-plain, plain-bytes, room_small}
+use Rattle.wire.specs.Writer.{written_answer}
+use Rattle.wire.proofs.Writer.{bytes_short, bytes_fit}
+use Rattle.plain.specs.InTable.{Small, commands_in, encode_in}
+use Rattle.plain.specs.Answer.{own_bytes, own_room}
+use Rattle.plain.proofs.InTable.{table_small, commands_are, encode_is}
+use Rattle.plain.proofs.Encoded.{length-plain, plain_bytes, room_small}
 use Rattle.plain.proofs.plain_certificate.Goals as goal
 
 -- t is the table of g
-module _ (r : Register) (s : Scheme) (register : R.Valid r) (scheme : Valid r s) (t : List ℤ) (e : t ≡ withTable (side r.choices s) (entry (g (coefficient r) r s)) (replicate tableNumbers (pos 0))) where
+module _ (r : Register) (s : Scheme) (register : R.Valid r) (scheme : Valid r s) (t : List ℤ) (e : t ≡ with_table (side r.choices s) (entry (g (coefficient r) r s)) (replicate table_numbers (pos 0))) where
   abbrev N : ℕ
   N = variables r.choices s
 
-  fits : side r.choices s * side r.choices s ≤ length (replicate tableNumbers (pos 0))
-  fits = rw length-replicate (side-square r s register.within scheme)
+  fits : side r.choices s * side r.choices s ≤ length (replicate table_numbers (pos 0))
+  fits = rw length-replicate (side_square r s register.within scheme)
 
   small : Small N t
-  small = table-small (coefficient r) r s t _ e register scheme refl fits
+  small = table_small (coefficient r) r s t _ e register scheme refl fits
 
   -- the count of bytes
-  counted : 14 + 10 * length (commandsIn N t) ≡ length (ownBytes r s)
-  counted = ap (λ l. 14 + 10 * length l) (commands-are (coefficient r) r s t _ e) ∙ sym (length-plain (coefficient r) r s)
+  counted : 14 + 10 * length (commands_in N t) ≡ length (own_bytes r s)
+  counted = ap (λ l. 14 + 10 * length l) (commands_are (coefficient r) r s t _ e) ∙ sym (length-plain (coefficient r) r s)
 
   -- x is how many commands there are
-  module _ (x : ℕ) (f : x ≡ length (commandsIn N t)) where
-    bytes_total : 14 + 10 * x ≡ length (ownBytes r s)
+  module _ (x : ℕ) (f : x ≡ length (commands_in N t)) where
+    bytes_total : 14 + 10 * x ≡ length (own_bytes r s)
     bytes_total = ap (λ y. 14 + 10 * y) f ∙ counted
 
-    total-few : 14 + 10 * x ≤ ownRoom
-    total-few = rw bytes_total (plain-bytes r s register scheme)
+    total_few : 14 + 10 * x ≤ own_room
+    total_few = rw bytes_total (plain_bytes r s register scheme)
 
   -- the base cost as the code passes it
-  base-fits : SFits w64 (to_z w32 (of_z w32 r.base))
-  base-fits = cast_fits w32 w64 r.base (omega arith) (fits_signed w32 r.base (omega (arith, register.within.base)))
+  base_fits : SFits w64 (to_z w32 (of_z w32 r.base))
+  base_fits = cast_fits w32 w64 r.base (omega arith) (fits_signed w32 r.base (omega (arith, register.within.base)))
 
   base_same : to_z w64 (of_z w64 (to_z w32 (of_z w32 r.base))) ≡ r.base
-  base_same = cast-read w32 w64 r.base (omega arith) (fits_signed w32 r.base (omega (arith, register.within.base)))
+  base_same = cast_read w32 w64 r.base (omega arith) (fits_signed w32 r.base (omega (arith, register.within.base)))
 
-  encoded : (b : ℤ) → b ≡ r.base → encodeIn N b t ≡ ownBytes r s
-  encoded b d = ap (λ x. encodeIn N x t) d ∙ encode-is (coefficient r) r s t _ e
+  encoded : (b : ℤ) → b ≡ r.base → encode_in N b t ≡ own_bytes r s
+  encoded b d = ap (λ x. encode_in N x t) d ∙ encode_is (coefficient r) r s t _ e
 
 pub command_count-requires : goal.command_count-requires
 command_count-requires c = small c.args.register c.args.scheme c.requires.valid_register c.requires.valid _ c.function_table-table.ensures
 
 pub overflow_mul-count : goal.overflow_mul-count
 overflow_mul-count c =
-    omega (arith, total-few c.args.register c.args.scheme c.requires.valid_register c.requires.valid _ c.function_table-table.ensures _ c.command_count.ensures, room_small)
+    omega (arith, total_few c.args.register c.args.scheme c.requires.valid_register c.requires.valid _ c.function_table-table.ensures _ c.command_count.ensures, room_small)
 
 pub overflow_add-count : goal.overflow_add-count
 overflow_add-count c =
-    omega (arith, total-few c.args.register c.args.scheme c.requires.valid_register c.requires.valid _ c.function_table-table.ensures _ c.command_count.ensures, room_small)
+    omega (arith, total_few c.args.register c.args.scheme c.requires.valid_register c.requires.valid _ c.function_table-table.ensures _ c.command_count.ensures, room_small)
 
 pub returns-then-out-count : goal.returns-then-out-count
 returns-then-out-count c =
     let a = c.args in
     let e = bytes_total a.register a.scheme c.requires.valid_register c.requires.valid _ c.function_table-table.ensures _ c.command_count.ensures in
-    let y = bytes-short (ownBytes a.register a.scheme) a.out.now (rw (← e) c.if-out-count.true) in
+    let y = bytes_short (own_bytes a.register a.scheme) a.out.now (rw (← e) c.if-out-count.true) in
     record { value = c.refused.ensures ∙ y.0; out_after = y.1 }
 
 pub put_certificate-requires-clause-small : goal.put_certificate-requires-clause-small
@@ -95,8 +95,8 @@ returns c =
     let p = c.requires.valid in
     let f = c.function_table-table.ensures in
     let e = bytes_total a.register a.scheme v p _ f _ c.command_count.ensures in
-    let y = bytes_fit (ownBytes a.register a.scheme) a.out.now (rw (← e) c.if-out-count.false) in
+    let y = bytes_fit (own_bytes a.register a.scheme) a.out.now (rw (← e) c.if-out-count.false) in
     record {
-      value = c.written.ensures ∙ ap writtenAnswer e ∙ y.0;
+      value = c.written.ensures ∙ ap written_answer e ∙ y.0;
       out_after = c.put_certificate.ensures ∙ ap (written a.out.now 0) (encoded a.register a.scheme v p _ f _ (base_same a.register a.scheme v p _ f)) ∙ y.1;
     }

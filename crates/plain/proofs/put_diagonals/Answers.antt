@@ -4,11 +4,11 @@ use Prim.Native.Nat.{ℕ}
 use native.Mathlib.Omega.{arith}
 use lib.IntN.{ℤ}
 use lib.ListN.{length}
-use Rattle.integers.proofs.Join.{flatMap-join}
-use Rattle.certificate.specs.Encoding.{encodeMultiplier}
-use Rattle.plain.specs.Plain.{unlessZero}
-use Rattle.plain.specs.Encoding.{encodeMultipliers}
-use Rattle.plain.specs.InTable.{halfIn, diagonalIn}
+use Rattle.integers.proofs.Join.{flat_map_join}
+use Rattle.certificate.specs.Encoding.{encode_multiplier}
+use Rattle.plain.specs.Plain.{unless_zero}
+use Rattle.plain.specs.Encoding.{encode_multipliers}
+use Rattle.plain.specs.InTable.{half_in, diagonal_in}
 use Rattle.wire.proofs.Written.{begins, room, turn, ends, same}
 use Rattle.plain.proofs.put_diagonals.Goals as goal
 
@@ -16,8 +16,8 @@ pub loop-i-init : goal.loop-i-init
 loop-i-init c = begins _ _ _ _
 
 -- what a turn writes
-turn_writes : (n : ℕ) (t : List ℤ) (i x : ℕ) → x ≡ halfIn n t i → encodeMultipliers (unlessZero 0x31 i x) ≡ encodeMultipliers (diagonalIn n t i)
-turn_writes n t i x e = ap (λ m. encodeMultipliers (unlessZero 0x31 i m)) e
+turn_writes : (n : ℕ) (t : List ℤ) (i x : ℕ) → x ≡ half_in n t i → encode_multipliers (unless_zero 0x31 i x) ≡ encode_multipliers (diagonal_in n t i)
+turn_writes n t i x e = ap (λ m. encode_multipliers (unless_zero 0x31 i m)) e
 
 pub put_unless_zero-at-requires : goal.put_unless_zero-at-requires
 put_unless_zero-at-requires c =
@@ -25,7 +25,7 @@ put_unless_zero-at-requires c =
     omega (
       arith,
       ap length (turn_writes a.n a.table.now c.loop-i.i _ c.half_row_sum-half.ensures),
-      room _ _ _ _ c.loop-i.invariant (omega arith) (rw (← (flatMap-join encodeMultiplier a.n (diagonalIn a.n a.table.now))) c.requires.table_in_bounds),
+      room _ _ _ _ c.loop-i.invariant (omega arith) (rw (← (flat_map_join encode_multiplier a.n (diagonal_in a.n a.table.now))) c.requires.table_in_bounds),
     )
 
 pub loop-i-preserved : goal.loop-i-preserved
@@ -36,5 +36,5 @@ loop-i-preserved c =
 pub returns : goal.returns
 returns c =
     let a = c.args in
-    let w = same _ _ (sym (flatMap-join encodeMultiplier a.n (diagonalIn a.n a.table.now))) (ends _ _ _ _ c.loop-i.invariant (omega arith)) in
+    let w = same _ _ (sym (flat_map_join encode_multiplier a.n (diagonal_in a.n a.table.now))) (ends _ _ _ _ c.loop-i.invariant (omega arith)) in
     record { value = w.0; out_after = w.1 }

@@ -7,24 +7,24 @@ use mathlib.Core.List.{List, [], ◌∷◌}
 use lib.IntN.{pos}
 use lib.ListN.{get_or}
 use Rattle.integers.proofs.Lists.{◌▹◌}
-use Rattle.wire.specs.Number.{natAt, intAt}
+use Rattle.wire.specs.Number.{nat_at, int_at}
 use Rattle.wire.specs.Checks.{refusal}
-use Rattle.wire.specs.Part.{operandsAt, total, checksAt}
+use Rattle.wire.specs.Part.{operands_at, total, checks_at}
 use Rattle.wire.specs.Rows.{Progress, row_of}
-use Rattle.wire.proofs.Rest.{only-last}
+use Rattle.wire.proofs.Rest.{only_last}
 use Rattle.wire.proofs.Accepting.{reached}
-use Rattle.wire.proofs.Loop.{Here, here-at, going-starts, going-missing, going-refused, going_on, going-ends}
+use Rattle.wire.proofs.Loop.{Here, here_at, going_starts, going_missing, going_refused, going_on, going_ends}
 use Rattle.register.specs.declared.Register.{Register}
 use Rattle.register.specs.declared.Seen.{Seen}
-use Rattle.register.specs.Limits.{maxChoices, maxTerms, maxWindows, maxRows}
+use Rattle.register.specs.Limits.{max_choices, max_terms, max_windows, max_rows}
 use Rattle.register.specs.Register.{tank, minute, mask, fresh}
-use Rattle.register.specs.Format.{baseRow, choiceRow, termRow, windowRow, rowRow, entriesOf, lengthRow, endRow, registerRows, registerPart, registerInJob}
-use Rattle.register.specs.Valid.{Within, windowAt}
-use Rattle.register.specs.Answer.{Given, registerRead}
-use Rattle.register.proofs.Passes.{NextChoice, choice-iff, term-iff, window-iff, row-iff}
-use Rattle.register.proofs.RowOperands.{entries-read, entries-at}
-use Rattle.register.proofs.Entries.{termAt, windows-no-fall}
-use Rattle.register.proofs.Passed.{Passed, passed-starts, passed-base, passed_length, passed-choice, passed-term, passed-window, passed-rows}
+use Rattle.register.specs.Format.{base_row, choice_row, term_row, window_row, row_row, entries_of, length_row, end_row, register_rows, register_part, register_in_job}
+use Rattle.register.specs.Valid.{Within, window_at}
+use Rattle.register.specs.Answer.{Given, register_read}
+use Rattle.register.proofs.Passes.{NextChoice, choice_iff, term_iff, window_iff, row_iff}
+use Rattle.register.proofs.RowOperands.{entries_read, entries_at_lem}
+use Rattle.register.proofs.Entries.{term_at, windows_no_fall}
+use Rattle.register.proofs.Passed.{Passed, passed_starts, passed_base, passed_length, passed_choice, passed_term, passed_window, passed_rows}
 use Rattle.register.proofs.Laws.{laws}
 use Rattle.register.proofs.read_register.Goals.{Else-number-ne0}
 use Rattle.register.proofs.read_register.Goals as goal
@@ -34,7 +34,7 @@ abbrev seen : ℕ → Register → (i t : ℕ) → Seen
 seen previous r i t = record { previous = previous; choices = r.choices; terms = r.terms; tank = tank r i; minute = minute r i; mask = mask r t; windows = r.windows; day_length = r.day_length; rows = r.rows }
 
 given_is : (previous : ℕ) (r : Register) {i t k : ℕ} → Within r → Passed r k → i ≡ r.choices - 1 → t ≡ r.terms - 1 → Given (reached previous r) (seen previous r i t) k r.window_tanks r.window_froms r.window_tos
-given_is previous r w p d e = record { seen-is = rw (d, e); tanks-are = refl; froms-are = refl; tos-are = refl; no-fall = windows-no-fall r w; earlier = λ k l. rw d (p.earlier k l) }
+given_is previous r w p d e = record { seen_is = rw (d, e); tanks_are = refl; froms_are = refl; tos_are = refl; no_fall = windows_no_fall r w; earlier = λ k l. rw d (p.earlier k l) }
 
 -- once its command is not refused
 module _ (c : Else-number-ne0) where
@@ -53,52 +53,52 @@ module _ (c : Else-number-ne0) where
   within : Within r
   within = c.loop-at.invariant.going.so_far.holds.within
 
-  judged : refusal (checksAt registerPart bytes p at) ≡ 0
+  judged : refusal (checks_at register_part bytes p at) ≡ 0
   judged = sym (c.refusal_at-number.ensures p (given_is c.loop-at.previous r within c.loop-at.invariant.lower c.last_of-i.ensures c.last_of-t.ensures)) ∙ c.if-number-ne0.false
 
-  here : (b : ℕ) → get_or bytes at 0 ≡ b → Here fresh registerRows bytes p at b
-  here b e = here-at fresh registerRows bytes p at b e c.loop-at-test.true judged
+  here : (b : ℕ) → get_or bytes at 0 ≡ b → Here fresh register_rows bytes p at b
+  here b e = here_at fresh register_rows bytes p at b e c.loop-at-test.true judged
 
-  few : get_or bytes at 0 ≡ 0x11 → r.choices < maxChoices
+  few : get_or bytes at 0 ≡ 0x11 → r.choices < max_choices
   unfolding row_of
-  few e = ((choice-iff _ _ _ _ _ _ _).0 (here 0x11 e).allowed).0.few
+  few e = ((choice_iff _ _ _ _ _ _ _).0 (here 0x11 e).allowed).0.few
 
-  few-terms : get_or bytes at 0 ≡ 0x12 → r.terms < maxTerms
+  few_terms : get_or bytes at 0 ≡ 0x12 → r.terms < max_terms
   unfolding row_of
-  few-terms e = ((term-iff _ _ (termAt r (r.terms - 1)) _ _).0 (here 0x12 e).allowed).few
+  few_terms e = ((term_iff _ _ (term_at r (r.terms - 1)) _ _).0 (here 0x12 e).allowed).few
 
-  few-windows : get_or bytes at 0 ≡ 0x13 → r.windows < maxWindows
+  few_windows : get_or bytes at 0 ≡ 0x13 → r.windows < max_windows
   unfolding row_of
-  few-windows e = ((window-iff _ _ (windowAt r (r.windows - 1)) _ _ _).0 (here 0x13 e).allowed).few
+  few_windows e = ((window_iff _ _ (window_at r (r.windows - 1)) _ _ _).0 (here 0x13 e).allowed).few
 
-  few-rows : get_or bytes at 0 ≡ 0x14 → r.rows < maxRows
+  few_rows : get_or bytes at 0 ≡ 0x14 → r.rows < max_rows
   unfolding row_of
-  few-rows e = ((row-iff r.choices r.rows _ (λ j. get_or (entriesOf (operandsAt rowRow.widths bytes (at + 1))) j (pos 0)) (λ j l. entries-read (operandsAt rowRow.widths bytes (at + 1)) j)).0 (here 0x14 e).allowed).few
+  few_rows e = ((row_iff r.choices r.rows _ (λ j. get_or (entries_of (operands_at row_row.widths bytes (at + 1))) j (pos 0)) (λ j l. entries_read (operands_at row_row.widths bytes (at + 1)) j)).0 (here 0x14 e).allowed).few
 
-  next-choice : get_or bytes at 0 ≡ 0x11 → NextChoice r.day_length r.choices (tank r (r.choices - 1)) (minute r (r.choices - 1)) (natAt 2 bytes (at + 1)) (natAt 2 bytes (at + 1 + 2))
-  unfolding row_of operandsAt
-  next-choice e = ((choice-iff _ _ _ _ _ _ _).0 (here 0x11 e).allowed).0
+  next_choice : get_or bytes at 0 ≡ 0x11 → NextChoice r.day_length r.choices (tank r (r.choices - 1)) (minute r (r.choices - 1)) (nat_at 2 bytes (at + 1)) (nat_at 2 bytes (at + 1 + 2))
+  unfolding row_of operands_at
+  next_choice e = ((choice_iff _ _ _ _ _ _ _).0 (here 0x11 e).allowed).0
 
 pub loop-at-init : goal.loop-at-init
-loop-at-init c = rw c.fresh-register.ensures (record { going = going-starts fresh registerRows laws _; lower = passed-starts })
+loop-at-init c = rw c.fresh-register.ensures (record { going = going_starts fresh register_rows laws _; lower = passed_starts })
 
 pub returns-then-number-ne0 : goal.returns-then-number-ne0
-unfolding registerInJob
+unfolding register_in_job
 returns-then-number-ne0 c =
     let i = c.loop-at.invariant in
     let n = c.refusal_at-number.ensures (reached c.loop-at.previous c.loop-at.register) (given_is c.loop-at.previous c.loop-at.register i.going.so_far.holds.within i.lower c.last_of-i.ensures c.last_of-t.ensures) in
-    c.refused.ensures ∙ ap registerRead (sym (going-refused fresh registerRows laws i.going _ c.loop-at-test.true n c.if-number-ne0.true))
+    c.refused.ensures ∙ ap register_read (sym (going_refused fresh register_rows laws i.going _ c.loop-at-test.true n c.if-number-ne0.true))
 
 pub i32_at-requires : goal.i32_at-requires
 unfolding row_of total
 i32_at-requires c = omega (arith, (here (goal.at.i32_at-requires c).Else-number-ne0 0x10 c.in-16.is).room)
 
 pub loop-at-preserved-in-16 : goal.loop-at-preserved-in-16
-unfolding row_of total operandsAt intAt
+unfolding row_of total operands_at int_at
 loop-at-preserved-in-16 c =
     let e = (goal.at.loop-at-preserved-in-16 c).Else-number-ne0 in record {
-      going = rw (to_z-of_z (record { sfits = c.i32_at.type_inv }), c.i32_at.ensures) (going_on fresh registerRows laws c.loop-at.invariant.going c.loop-at-test.true (judged e) 0x10 c.in-16.is refl);
-      lower = passed-base c.loop-at.register (within e) c.loop-at.invariant.lower _;
+      going = rw (to_z-of_z (record { sfits = c.i32_at.type_inv }), c.i32_at.ensures) (going_on fresh register_rows laws c.loop-at.invariant.going c.loop-at-test.true (judged e) 0x10 c.in-16.is refl);
+      lower = passed_base c.loop-at.register (within e) c.loop-at.invariant.lower _;
     }
 
 pub u16_at-tank-requires : goal.u16_at-tank-requires
@@ -116,12 +116,12 @@ pub bounds-register-n-in-17 : goal.bounds-register-n-in-17
 bounds-register-n-in-17 c = few (goal.at.bounds-register-n-in-17 c).Else-number-ne0 c.in-17.is
 
 pub loop-at-preserved-in-17 : goal.loop-at-preserved-in-17
-unfolding row_of total operandsAt
+unfolding row_of total operands_at
 loop-at-preserved-in-17 c =
     let e = (goal.at.loop-at-preserved-in-17 c).Else-number-ne0 in
     let w = c.pass_windows-passed.ensures in record {
-      going = rw (c.u16_at.ensures, c.u16_at-tank.ensures, add-one) (going_on fresh registerRows laws c.loop-at.invariant.going c.loop-at-test.true (judged e) 0x11 c.in-17.is refl);
-      lower = rw add-one (passed-choice c.loop-at.register (within e) c.loop-at.invariant.lower _ _ (rw (c.u16_at.ensures, c.u16_at-tank.ensures) (next-choice e c.in-17.is)) _ w.within.1 w.lower);
+      going = rw (c.u16_at.ensures, c.u16_at-tank.ensures, add-one) (going_on fresh register_rows laws c.loop-at.invariant.going c.loop-at-test.true (judged e) 0x11 c.in-17.is refl);
+      lower = rw add-one (passed_choice c.loop-at.register (within e) c.loop-at.invariant.lower _ _ (rw (c.u16_at.ensures, c.u16_at-tank.ensures) (next_choice e c.in-17.is)) _ w.within.1 w.lower);
     }
 
 pub u32_at-requires : goal.u32_at-requires
@@ -129,21 +129,21 @@ unfolding row_of total
 u32_at-requires c = omega (arith, (here (goal.at.u32_at-requires c).Else-number-ne0 0x12 c.in-18.is).room)
 
 pub bounds-register-m : goal.bounds-register-m
-bounds-register-m c = few-terms (goal.at.bounds-register-m c).Else-number-ne0 c.in-18.is
+bounds-register-m c = few_terms (goal.at.bounds-register-m c).Else-number-ne0 c.in-18.is
 
 pub i32_at-requires-in-18 : goal.i32_at-requires-in-18
 unfolding row_of total
 i32_at-requires-in-18 c = omega (arith, (here (goal.at.i32_at-requires-in-18 c).Else-number-ne0 0x12 c.in-18.is).room)
 
 pub bounds-register-m-in-18 : goal.bounds-register-m-in-18
-bounds-register-m-in-18 c = few-terms (goal.at.bounds-register-m-in-18 c).Else-number-ne0 c.in-18.is
+bounds-register-m-in-18 c = few_terms (goal.at.bounds-register-m-in-18 c).Else-number-ne0 c.in-18.is
 
 pub loop-at-preserved-in-18 : goal.loop-at-preserved-in-18
-unfolding row_of total operandsAt intAt
+unfolding row_of total operands_at int_at
 loop-at-preserved-in-18 c =
     let e = (goal.at.loop-at-preserved-in-18 c).Else-number-ne0 in record {
-      going = rw (to_z-of_z (record { sfits = c.i32_at-in-18.type_inv }), c.i32_at-in-18.ensures, c.u32_at.ensures, add-one) (going_on fresh registerRows laws c.loop-at.invariant.going c.loop-at-test.true (judged e) 0x12 c.in-18.is refl);
-      lower = rw add-one (passed-term c.loop-at.register (within e) c.loop-at.invariant.lower _ _);
+      going = rw (to_z-of_z (record { sfits = c.i32_at-in-18.type_inv }), c.i32_at-in-18.ensures, c.u32_at.ensures, add-one) (going_on fresh register_rows laws c.loop-at.invariant.going c.loop-at-test.true (judged e) 0x12 c.in-18.is refl);
+      lower = rw add-one (passed_term c.loop-at.register (within e) c.loop-at.invariant.lower _ _);
     }
 
 pub u16_at-requires-in-19 : goal.u16_at-requires-in-19
@@ -151,28 +151,28 @@ unfolding row_of total
 u16_at-requires-in-19 c = omega (arith, (here (goal.at.u16_at-requires-in-19 c).Else-number-ne0 0x13 c.in-19.is).room)
 
 pub bounds-register-k : goal.bounds-register-k
-bounds-register-k c = few-windows (goal.at.bounds-register-k c).Else-number-ne0 c.in-19.is
+bounds-register-k c = few_windows (goal.at.bounds-register-k c).Else-number-ne0 c.in-19.is
 
 pub u16_at-requires-in-19-2 : goal.u16_at-requires-in-19-2
 unfolding row_of total
 u16_at-requires-in-19-2 c = omega (arith, (here (goal.at.u16_at-requires-in-19-2 c).Else-number-ne0 0x13 c.in-19.is).room)
 
 pub bounds-register-k-in-19 : goal.bounds-register-k-in-19
-bounds-register-k-in-19 c = few-windows (goal.at.bounds-register-k-in-19 c).Else-number-ne0 c.in-19.is
+bounds-register-k-in-19 c = few_windows (goal.at.bounds-register-k-in-19 c).Else-number-ne0 c.in-19.is
 
 pub u16_at-requires-in-19-3 : goal.u16_at-requires-in-19-3
 unfolding row_of total
 u16_at-requires-in-19-3 c = omega (arith, (here (goal.at.u16_at-requires-in-19-3 c).Else-number-ne0 0x13 c.in-19.is).room)
 
 pub bounds-register-k-in-19-2 : goal.bounds-register-k-in-19-2
-bounds-register-k-in-19-2 c = few-windows (goal.at.bounds-register-k-in-19-2 c).Else-number-ne0 c.in-19.is
+bounds-register-k-in-19-2 c = few_windows (goal.at.bounds-register-k-in-19-2 c).Else-number-ne0 c.in-19.is
 
 pub loop-at-preserved-in-19 : goal.loop-at-preserved-in-19
-unfolding row_of total operandsAt
+unfolding row_of total operands_at
 loop-at-preserved-in-19 c =
     let e = (goal.at.loop-at-preserved-in-19 c).Else-number-ne0 in record {
-      going = rw (c.u16_at-in-19-3.ensures, c.u16_at-in-19-2.ensures, c.u16_at-in-19.ensures, add-one) (going_on fresh registerRows laws c.loop-at.invariant.going c.loop-at-test.true (judged e) 0x13 c.in-19.is refl);
-      lower = rw add-one (passed-window c.loop-at.register (within e) c.loop-at.invariant.lower _ _ _);
+      going = rw (c.u16_at-in-19-3.ensures, c.u16_at-in-19-2.ensures, c.u16_at-in-19.ensures, add-one) (going_on fresh register_rows laws c.loop-at.invariant.going c.loop-at-test.true (judged e) 0x13 c.in-19.is refl);
+      lower = rw add-one (passed_window c.loop-at.register (within e) c.loop-at.invariant.lower _ _ _);
     }
 
 pub i16_at-requires : goal.i16_at-requires
@@ -180,20 +180,20 @@ unfolding row_of total
 i16_at-requires c = omega (arith, (here (goal.at.i16_at-requires c).Else-number-ne0 0x14 c.in-20.is).room)
 
 pub bounds-register-row : goal.bounds-register-row
-bounds-register-row c = few-rows (goal.at.bounds-register-row c).Else-number-ne0 c.in-20.is
+bounds-register-row c = few_rows (goal.at.bounds-register-row c).Else-number-ne0 c.in-20.is
 
 pub put_entries-requires : goal.put_entries-requires
 unfolding row_of total
 put_entries-requires c =
     let e = (goal.at.put_entries-requires c).Else-number-ne0 in
-    record { place_within = omega (arith, few-rows e c.in-20.is); bytes_there = omega (arith, (here e 0x14 c.in-20.is).room) }
+    record { place_within = omega (arith, few_rows e c.in-20.is); bytes_there = omega (arith, (here e 0x14 c.in-20.is).room) }
 
 pub loop-at-preserved-in-20 : goal.loop-at-preserved-in-20
-unfolding row_of total operandsAt intAt
+unfolding row_of total operands_at int_at
 loop-at-preserved-in-20 c =
     let e = (goal.at.loop-at-preserved-in-20 c).Else-number-ne0 in record {
-      going = rw (to_z-of_z (record { sfits = c.i16_at.type_inv }), c.i16_at.ensures, c.put_entries.ensures, ← entries-at c.args.bytes.now (c.loop-at.at + 1), add-one) (going_on fresh registerRows laws c.loop-at.invariant.going c.loop-at-test.true (judged e) 0x14 c.in-20.is refl);
-      lower = passed-rows c.loop-at.register (within e) c.loop-at.invariant.lower _ _ _;
+      going = rw (to_z-of_z (record { sfits = c.i16_at.type_inv }), c.i16_at.ensures, c.put_entries.ensures, ← entries_at_lem c.args.bytes.now (c.loop-at.at + 1), add-one) (going_on fresh register_rows laws c.loop-at.invariant.going c.loop-at-test.true (judged e) 0x14 c.in-20.is refl);
+      lower = passed_rows c.loop-at.register (within e) c.loop-at.invariant.lower _ _ _;
     }
 
 pub u16_at-requires-in-24 : goal.u16_at-requires-in-24
@@ -201,20 +201,20 @@ unfolding row_of total
 u16_at-requires-in-24 c = omega (arith, (here (goal.at.u16_at-requires-in-24 c).Else-number-ne0 0x18 c.in-24.is).room)
 
 pub loop-at-preserved : goal.loop-at-preserved
-unfolding row_of total operandsAt
+unfolding row_of total operands_at
 loop-at-preserved c =
     let e = (goal.at.loop-at-preserved c).Else-number-ne0 in record {
-      going = rw c.u16_at-in-24.ensures (going_on fresh registerRows laws c.loop-at.invariant.going c.loop-at-test.true (judged e) 0x18 c.in-24.is refl);
+      going = rw c.u16_at-in-24.ensures (going_on fresh register_rows laws c.loop-at.invariant.going c.loop-at-test.true (judged e) 0x18 c.in-24.is refl);
       lower = passed_length c.loop-at.register (within e) c.loop-at.invariant.lower _;
     }
 
 pub returns-in_default : goal.returns-in_default
-unfolding registerInJob row_of total operandsAt
+unfolding register_in_job row_of total operands_at
 returns-in_default c =
     let e = (goal.at.returns-in_default c).Else-number-ne0 in
-    let f : get_or c.args.bytes.now c.loop-at.at 0 ≡ 0x1F = only-last endRow (get_or c.args.bytes.now c.loop-at.at 0) (baseRow ∷ choiceRow ∷ termRow ∷ windowRow ∷ rowRow ∷ lengthRow ∷ []) ((λ e. omega arith) ▹ (λ e. omega arith) ▹ (λ e. omega arith) ▹ (λ e. omega arith) ▹ (λ e. omega arith) ▹ (λ e. omega arith) ▹ tt) _ (here e _ refl).place in
-    ap registerRead (sym (going-ends fresh registerRows laws c.loop-at.invariant.going c.loop-at-test.true (judged e) 0x1F f refl))
+    let f : get_or c.args.bytes.now c.loop-at.at 0 ≡ 0x1F = only_last end_row (get_or c.args.bytes.now c.loop-at.at 0) (base_row ∷ choice_row ∷ term_row ∷ window_row ∷ row_row ∷ length_row ∷ []) ((λ e. omega arith) ▹ (λ e. omega arith) ▹ (λ e. omega arith) ▹ (λ e. omega arith) ▹ (λ e. omega arith) ▹ (λ e. omega arith) ▹ tt) _ (here e _ refl).place in
+    ap register_read (sym (going_ends fresh register_rows laws c.loop-at.invariant.going c.loop-at-test.true (judged e) 0x1F f refl))
 
 pub returns : goal.returns
-unfolding registerInJob
-returns c = c.refused-2.ensures ∙ ap registerRead (sym (going-missing fresh registerRows laws c.loop-at.invariant.going c.loop-at-test.false))
+unfolding register_in_job
+returns c = c.refused-2.ensures ∙ ap register_read (sym (going_missing fresh register_rows laws c.loop-at.invariant.going c.loop-at-test.false))

@@ -9,51 +9,51 @@ use lib.ListN.{get_or}
 use mir.Syntax.{w8, w16, w64}
 use mir.Val.{SFits, to_z, of_z}
 use borrow.Author.Rules.{rules}
-use Rattle.integers.proofs.Order.{natAbs-neg, natAbs-*-≤}
-use Rattle.integers.proofs.Machine.{signed-small, cast-read, read-signed}
-use Rattle.forms.specs.Store.{addForm, Bounded, maxBeforeMonomial}
-use Rattle.register.specs.Register.{entryIn}
-use Rattle.certificate.specs.Limits.{maxRowMultiplier}
-use Rattle.residual.proofs.RowAdded.{first, first-none, first-next, first-all, first-room}
+use Rattle.integers.proofs.Order.{nat_abs_neg, nat_abs-*-≤}
+use Rattle.integers.proofs.Machine.{signed_small, cast_read, read_signed}
+use Rattle.forms.specs.Store.{add_form, Bounded, max_before_monomial}
+use Rattle.register.specs.Register.{entry_in}
+use Rattle.certificate.specs.Limits.{max_row_multiplier}
+use Rattle.residual.proofs.RowAdded.{first, first_none, first_next, first_all, first_room}
 use Rattle.residual.proofs.add_row_form.Goals.{Start}
 use Rattle.residual.proofs.add_row_form.Goals as goal
 
 -- a number of 8 bits, and one of 16
 
-byte-low : (x : ℤ) → SFits w8 x → nat_abs x ≤ 128
-byte-low x f = omega (arith, signed-small w8 x f)
+byte_low : (x : ℤ) → SFits w8 x → nat_abs x ≤ 128
+byte_low x f = omega (arith, signed_small w8 x f)
 
-byte-read : (x : ℤ) → SFits w8 x → to_z w64 (of_z w64 (to_z w8 (of_z w8 x))) ≡ x
-byte-read x f = cast-read w8 w64 x (omega arith) f
+byte_read : (x : ℤ) → SFits w8 x → to_z w64 (of_z w64 (to_z w8 (of_z w8 x))) ≡ x
+byte_read x f = cast_read w8 w64 x (omega arith) f
 
-word-low : (x : ℤ) → SFits w16 x → nat_abs (neg_ℤ x) ≤ 32_768
-word-low x f = omega (arith, signed-small w16 x f, natAbs-neg x)
+word_low : (x : ℤ) → SFits w16 x → nat_abs (neg_ℤ x) ≤ 32_768
+word_low x f = omega (arith, signed_small w16 x f, nat_abs_neg x)
 
-word-less-read : (x : ℤ) → SFits w16 x → to_z w64 (of_z w64 (pos 0 -ℤ to_z w64 (of_z w64 (to_z w16 (of_z w16 x))))) ≡ neg_ℤ x
-word-less-read x f =
-    rw (cast-read w16 w64 x (omega arith) f, +ℤ_idl (neg_ℤ x))
-    (read-signed w64 (neg_ℤ x) (omega (arith, word-low x f)))
+word_less_read : (x : ℤ) → SFits w16 x → to_z w64 (of_z w64 (pos 0 -ℤ to_z w64 (of_z w64 (to_z w16 (of_z w16 x))))) ≡ neg_ℤ x
+word_less_read x f =
+    rw (cast_read w16 w64 x (omega arith) f, +ℤ_idl (neg_ℤ x))
+    (read_signed w64 (neg_ℤ x) (omega (arith, word_low x f)))
 
 module _ (c : Start) where
   abbrev a : ℕ → ℤ
-  a = entryIn c.args.entries.now c.args.row
+  a = entry_in c.args.entries.now c.args.row
 
   -- m as the code has it
-  m-read : to_z w64 (of_z w64 c.args.m) ≡ c.args.m
-  m-read = read-signed w64 c.args.m (omega (arith, c.requires.m_bound))
+  m_read : to_z w64 (of_z w64 c.args.m) ≡ c.args.m
+  m_read = read_signed w64 c.args.m (omega (arith, c.requires.m_bound))
 
   -- what is stored after j choices
-  module _ (j : ℕ) (t : List ℤ) (d : t ≡ addForm c.args.side (first a c.args.variable (to_z w64 (of_z w64 c.args.m)) j) c.args.table.now) where
-    stored : t ≡ addForm c.args.side (first a c.args.variable c.args.m j) c.args.table.now
-    stored = rw m-read at d
+  module _ (j : ℕ) (t : List ℤ) (d : t ≡ add_form c.args.side (first a c.args.variable (to_z w64 (of_z w64 c.args.m)) j) c.args.table.now) where
+    stored : t ≡ add_form c.args.side (first a c.args.variable c.args.m j) c.args.table.now
+    stored = rw m_read at d
 
-    room : j ≤ c.args.n → ((k : ℕ) → k < j → nat_abs (a k) ≤ 128) → Bounded c.args.side maxBeforeMonomial t
+    room : j ≤ c.args.n → ((k : ℕ) → k < j → nat_abs (a k) ≤ 128) → Bounded c.args.side max_before_monomial t
     room l small =
         let p = c.requires.places in
-        rw stored (first-room a c.args.variable c.args.m c.args.side c.args.table.now j (omega (arith, p.0)) (omega (arith, p.1)) (omega (arith, c.requires.few)) c.requires.m_bound small c.requires.bounded)
+        rw stored (first_room a c.args.variable c.args.m c.args.side c.args.table.now j (omega (arith, p.0)) (omega (arith, p.1)) (omega (arith, c.requires.few)) c.requires.m_bound small c.requires.bounded)
 
 pub loop-j-init : goal.loop-j-init
-loop-j-init c = record { so_far = first-none _ _ _ c.args.side c.args.table.now; small = λ k l. absurd (omega arith) }
+loop-j-init c = record { so_far = first_none _ _ _ c.args.side c.args.table.now; small = λ k l. absurd (omega arith) }
 
 -- a turn: the entry that is read
 
@@ -67,7 +67,7 @@ add_multiple-requires-clause-c_bound c =
     let k = (goal.at.add_multiple-requires-clause-c_bound c).Start in
     let x = get_or c.args.entries.now (c.args.row * 32 + c.loop-j.j) (pos 0) in
     let byte : SFits w8 x = search rules in
-    rw (m-read k, byte-read x byte) (omega (arith, natAbs-*-≤ c.args.m x maxRowMultiplier 128 c.requires.m_bound (byte-low x byte)))
+    rw (m_read k, byte_read x byte) (omega (arith, nat_abs-*-≤ c.args.m x max_row_multiplier 128 c.requires.m_bound (byte_low x byte)))
 
 pub loop-j-preserved : goal.loop-j-preserved
 loop-j-preserved c =
@@ -78,8 +78,8 @@ loop-j-preserved c =
     record {
       so_far =
           c.add_multiple.ensures
-          ∙ rw (byte-read x byte, add-one c.args.variable, add-one c.loop-j.j, i.so_far) (first-next (a k) c.args.variable _ c.args.side c.args.table.now c.loop-j.j);
-      small = below_more (a k) c.loop-j.j i.small (byte-low x byte);
+          ∙ rw (byte_read x byte, add-one c.args.variable, add-one c.loop-j.j, i.so_far) (first_next (a k) c.args.variable _ c.args.side c.args.table.now c.loop-j.j);
+      small = below_more (a k) c.loop-j.j i.small (byte_low x byte);
     }
   where
     below_more : (a : ℕ → ℤ) (j : ℕ) → ((k : ℕ) → k < j → nat_abs (a k) ≤ 128) → nat_abs (a j) ≤ 128 → (k : ℕ) → k < j + 1 → nat_abs (a k) ≤ 128
@@ -101,7 +101,7 @@ add_multiple-requires-2-clause-c_bound c =
     let k = (goal.at.add_multiple-requires-2-clause-c_bound c).Start in
     let x = get_or c.args.totals.now c.args.row (pos 0) in
     let word : SFits w16 x = search rules in
-    rw (m-read k, word-less-read x word) (omega (arith, natAbs-*-≤ c.args.m (neg_ℤ x) maxRowMultiplier 32_768 c.requires.m_bound (word-low x word)))
+    rw (m_read k, word_less_read x word) (omega (arith, nat_abs-*-≤ c.args.m (neg_ℤ x) max_row_multiplier 32_768 c.requires.m_bound (word_low x word)))
 
 pub returns : goal.returns
 returns c =
@@ -110,5 +110,5 @@ returns c =
     let word : SFits w16 x = search rules in
     let all : c.loop-j.j ≡ c.args.n = omega arith in
     c.add_multiple-2.ensures
-    ∙ rw (m-read k, word-less-read x word, add-one c.args.variable, stored k c.loop-j.j c.loop-j.table c.loop-j.invariant.so_far, all)
-    (first-all (a k) c.args.variable c.args.m c.args.side c.args.table.now c.args.n x)
+    ∙ rw (m_read k, word_less_read x word, add-one c.args.variable, stored k c.loop-j.j c.loop-j.table c.loop-j.invariant.so_far, all)
+    (first_all (a k) c.args.variable c.args.m c.args.side c.args.table.now c.args.n x)

@@ -11,26 +11,26 @@ use mir.Val.{SFits}
 use mir.Facts.{to_z-of_z}
 use borrow.Author.Rules.{rules}
 use Rattle.forms.specs.Form.{times}
-use Rattle.forms.specs.Table.{tableNumbers}
-use Rattle.forms.specs.Store.{addForm, Bounded, maxBeforeForm}
+use Rattle.forms.specs.Table.{table_numbers}
+use Rattle.forms.specs.Store.{add_form, Bounded, max_before_form}
 use Rattle.wire.specs.Part.{accepted}
 use Rattle.wire.specs.Rows.{Progress}
 use Rattle.register.specs.declared.Register.{Register}
 use Rattle.register.specs.Register.{coefficient}
 use Rattle.scheme.specs.declared.Scheme.{Scheme}
 use Rattle.certificate.specs.declared.Multiplier.{Multiplier as Named}
-use Rattle.certificate.specs.RowForm.{rowFormOf}
+use Rattle.certificate.specs.RowForm.{row_form_of}
 use Rattle.certificate.specs.Certificate.{Certificate}
-use Rattle.certificate.specs.Format.{commandSize, commandsInJob}
-use Rattle.certificate.specs.Answer.{IsMultiplier, multiplierAt, squareIn}
+use Rattle.certificate.specs.Format.{command_size, commands_in_job}
+use Rattle.certificate.specs.Answer.{IsMultiplier, multiplier_at, square_in}
 use Rattle.certificate.proofs.Sizes.{size_above}
-use Rattle.residual.specs.Residual.{squareAt}
-use Rattle.residual.specs.Built.{withScaleIn, added, lessWhere}
-use Rattle.residual.proofs.Squares.{range-of}
-use Rattle.residual.proofs.Adds.{addable, RowCommand, row-command}
-use Rattle.residual.proofs.ByCommand.{holdsR}
-use Rattle.residual.proofs.Midway.{command-room, multiplier-allowed, square-allowed}
-use Rattle.residual.proofs.Filled.{Filled, Ready, side_in, first-length, first_under, first-filled, filled-bounded, multiplier-filled, row-filled, square-filled, filled-last, filled-inside}
+use Rattle.residual.specs.Residual.{square_at}
+use Rattle.residual.specs.Built.{with_scale_in, added, less_where}
+use Rattle.residual.proofs.Squares.{range_of}
+use Rattle.residual.proofs.Adds.{addable, RowCommand, row_command}
+use Rattle.residual.proofs.ByCommand.{holds_r}
+use Rattle.residual.proofs.Midway.{command_room, multiplier_allowed, square_allowed}
+use Rattle.residual.proofs.Filled.{Filled, Ready, side_in, first_length, first_under, first_filled, filled_bounded, multiplier_filled, row_filled, square_filled, filled_last, filled_inside}
 use Rattle.residual.proofs.put_residual.Goals.{After-put_scaled_function}
 use Rattle.residual.proofs.put_residual.Goals as goal
 
@@ -54,42 +54,42 @@ module _ (k : After-put_scaled_function) where
   abbrev first : List ℤ
   first = k.put_scaled_function.new.table
 
-  first-is : first ≡ holdsR (coefficient reg) reg sch (withScaleIn bytes) lent
-  first-is = k.put_scaled_function.ensures
+  first_is : first ≡ holds_r (coefficient reg) reg sch (with_scale_in bytes) lent
+  first_is = k.put_scaled_function.ensures
 
-  long : tableNumbers ≤ length first
-  long = omega (arith, first-length ready lent k.requires.table_numbers_in_bounds first first-is, k.requires.table_numbers_in_bounds)
+  long : table_numbers ≤ length first
+  long = omega (arith, first_length ready lent k.requires.table_numbers_in_bounds first first_is, k.requires.table_numbers_in_bounds)
 
   -- a turn
   module _ (t : List ℤ) (at : ℕ) (f : Filled reg sch bytes first t at) where
     -- the command's bytes
-    within : at + commandSize (get_or bytes at 0) ≤ length bytes
-    within = command-room _ _ _ ready.reads f.midway
+    within : at + command_size (get_or bytes at 0) ≤ length bytes
+    within = command_room _ _ _ ready.reads f.midway
 
-    room : Bounded (side_in reg sch) maxBeforeForm t
-    room = filled-bounded ready first long f
+    room : Bounded (side_in reg sch) max_before_form t
+    room = filled_bounded ready first long f
 
     -- of a row: the row and the variable that are named, and m
-    row : get_or bytes at 0 ≡ 0x3B → RowCommand reg sch (multiplierAt bytes at)
-    unfolding multiplierAt
-    row e = row-command reg sch (multiplierAt bytes at) (multiplier-allowed reg sch bytes ready.reads f.midway (inr e)) e
+    row : get_or bytes at 0 ≡ 0x3B → RowCommand reg sch (multiplier_at bytes at)
+    unfolding multiplier_at
+    row e = row_command reg sch (multiplier_at bytes at) (multiplier_allowed reg sch bytes ready.reads f.midway (inr e)) e
 
     -- at the end
-    whole : (IsMultiplier (get_or bytes at 0) → ⊥) → (get_or bytes at 0 ≡ 0x3A → ⊥) → (p : Progress Certificate) (e : ℕ) → commandsInJob reg sch bytes ≡ accepted p e →
-        t ≡ holdsR (coefficient reg) reg sch p.parsed lent
-    whole x y p e d = filled-last ready first long f x y p e d ∙ first_under ready lent k.requires.table_numbers_in_bounds first first-is p.parsed
+    whole : (IsMultiplier (get_or bytes at 0) → ⊥) → (get_or bytes at 0 ≡ 0x3A → ⊥) → (p : Progress Certificate) (e : ℕ) → commands_in_job reg sch bytes ≡ accepted p e →
+        t ≡ holds_r (coefficient reg) reg sch p.parsed lent
+    whole x y p e d = filled_last ready first long f x y p e d ∙ first_under ready lent k.requires.table_numbers_in_bounds first first_is p.parsed
 
 pub loop-at-init : goal.loop-at-init
 loop-at-init c =
     let k = (goal.at.loop-at-init c).After-put_scaled_function in
-    rw c.command_size-at.ensures (first-filled (ready k) (lent k) c.requires.table_numbers_in_bounds (first k) (first-is k))
+    rw c.command_size-at.ensures (first_filled (ready k) (lent k) c.requires.table_numbers_in_bounds (first k) (first_is k))
 
 pub square_at-square-requires : goal.square_at-square-requires
 square_at-square-requires c = rw c.in-58.is at (within (goal.at.square_at-square-requires c).After-put_scaled_function _ _ c.loop-at.invariant)
 
 pub subtract_square-requires-clause-square_range : goal.subtract_square-requires-clause-square_range
 subtract_square-requires-clause-square_range c =
-    rw c.square_at-square.ensures (range-of (square-allowed _ _ _ c.requires.reads c.loop-at.invariant.midway c.in-58.is))
+    rw c.square_at-square.ensures (range_of (square_allowed _ _ _ c.requires.reads c.loop-at.invariant.midway c.in-58.is))
 
 pub subtract_square-requires-clause-bounded : goal.subtract_square-requires-clause-bounded
 subtract_square-requires-clause-bounded c = room (goal.at.subtract_square-requires-clause-bounded c).After-put_scaled_function _ _ c.loop-at.invariant
@@ -108,8 +108,8 @@ pub loop-at-preserved-in-58 : goal.loop-at-preserved-in-58
 loop-at-preserved-in-58 c =
     let k = (goal.at.loop-at-preserved-in-58 c).After-put_scaled_function in
     rw c.command_size-at-in-58.ensures
-    (square-filled (ready k) (first k) (long k) c.loop-at.invariant c.in-58.is _
-    (c.subtract_square.ensures ∙ ap (λ q. lessWhere (side_in (reg k) (sch k)) (squareAt (squareIn q)) (λ i j. true) c.loop-at.table) c.square_at-square.ensures))
+    (square_filled (ready k) (first k) (long k) c.loop-at.invariant c.in-58.is _
+    (c.subtract_square.ensures ∙ ap (λ q. less_where (side_in (reg k) (sch k)) (square_at (square_in q)) (λ i j. true) c.loop-at.table) c.square_at-square.ensures))
 
 -- a multiplier command
 
@@ -117,10 +117,10 @@ pub multiplier_at-t-requires-clause-at_in_bounds : goal.multiplier_at-t-requires
 multiplier_at-t-requires-clause-at_in_bounds c = within (goal.at.multiplier_at-t-requires-clause-at_in_bounds c).After-put_scaled_function _ _ c.loop-at.invariant
 
 pub add_multiplier-requires-clause-addable : goal.add_multiplier-requires-clause-addable
-unfolding multiplierAt
+unfolding multiplier_at
 add_multiplier-requires-clause-addable c =
-    let ok = multiplier-allowed _ _ _ c.requires.reads c.loop-at.invariant.midway (inl (omega arith, omega arith)) in
-    rw c.multiplier_at-t.ensures (addable _ _ (multiplierAt c.args.bytes.now c.loop-at.at) ok (omega arith) (omega arith))
+    let ok = multiplier_allowed _ _ _ c.requires.reads c.loop-at.invariant.midway (inl (omega arith, omega arith)) in
+    rw c.multiplier_at-t.ensures (addable _ _ (multiplier_at c.args.bytes.now c.loop-at.at) ok (omega arith) (omega arith))
 
 pub add_multiplier-requires-clause-bounded : goal.add_multiplier-requires-clause-bounded
 add_multiplier-requires-clause-bounded c = room (goal.at.add_multiplier-requires-clause-bounded c).After-put_scaled_function _ _ c.loop-at.invariant
@@ -139,8 +139,8 @@ pub loop-at-preserved : goal.loop-at-preserved
 loop-at-preserved c =
     let k = (goal.at.loop-at-preserved c).After-put_scaled_function in
     rw c.command_size-at-in-49-to-57.ensures
-    (multiplier-filled (ready k) (first k) (long k) c.loop-at.invariant (omega arith) (omega arith) _
-    (c.add_multiplier.ensures (reg k) refl ∙ ap (λ t. addForm (side_in (reg k) (sch k)) (added (reg k) (sch k) t) c.loop-at.table) c.multiplier_at-t.ensures))
+    (multiplier_filled (ready k) (first k) (long k) c.loop-at.invariant (omega arith) (omega arith) _
+    (c.add_multiplier.ensures (reg k) refl ∙ ap (λ t. add_form (side_in (reg k) (sch k)) (added (reg k) (sch k) t) c.loop-at.table) c.multiplier_at-t.ensures))
 
 -- a row's form
 
@@ -150,18 +150,18 @@ multiplier_at-named-requires-clause-at_in_bounds c = within (goal.at.multiplier_
 pub add_row_form-requires-clause-row_within : goal.add_row_form-requires-clause-row_within
 add_row_form-requires-clause-row_within c =
     let k = (goal.at.add_row_form-requires-clause-row_within c).After-put_scaled_function in
-    rw c.multiplier_at-named.ensures (omega (arith, (row k _ _ c.loop-at.invariant c.in-59.is).row-there, (ready k).register.rows.few))
+    rw c.multiplier_at-named.ensures (omega (arith, (row k _ _ c.loop-at.invariant c.in-59.is).row_there, (ready k).register.rows.few))
 
 pub add_row_form-requires-clause-places : goal.add_row_form-requires-clause-places
 add_row_form-requires-clause-places c =
     let k = (goal.at.add_row_form-requires-clause-places c).After-put_scaled_function in
-    rw c.multiplier_at-named.ensures (omega arith, omega (arith, (row k _ _ c.loop-at.invariant c.in-59.is).variable-there))
+    rw c.multiplier_at-named.ensures (omega arith, omega (arith, (row k _ _ c.loop-at.invariant c.in-59.is).variable_there))
 
 pub add_row_form-requires-clause-m_bound : goal.add_row_form-requires-clause-m_bound
 add_row_form-requires-clause-m_bound c =
     let k = (goal.at.add_row_form-requires-clause-m_bound c).After-put_scaled_function in
     let fits : SFits w64 c.multiplier_at-named.result.m = search rules in
-    rw (to_z-of_z fits, c.multiplier_at-named.ensures) (row k _ _ c.loop-at.invariant c.in-59.is).m-within
+    rw (to_z-of_z fits, c.multiplier_at-named.ensures) (row k _ _ c.loop-at.invariant c.in-59.is).m_within
 
 pub add_row_form-requires-clause-bounded : goal.add_row_form-requires-clause-bounded
 add_row_form-requires-clause-bounded c = room (goal.at.add_row_form-requires-clause-bounded c).After-put_scaled_function _ _ c.loop-at.invariant
@@ -181,9 +181,9 @@ loop-at-preserved-in-59 c =
     let k = (goal.at.loop-at-preserved-in-59 c).After-put_scaled_function in
     let fits : SFits w64 c.multiplier_at-named.result.m = search rules in
     rw c.command_size-at-in-59.ensures
-    (row-filled (ready k) (first k) (long k) c.loop-at.invariant c.in-59.is _
+    (row_filled (ready k) (first k) (long k) c.loop-at.invariant c.in-59.is _
     (rw (to_z-of_z fits) at c.add_row_form.ensures
-    ∙ ap (λ (t : Named). addForm (side_in (reg k) (sch k)) (times t.m (rowFormOf (reg k) t.i t.j)) c.loop-at.table) c.multiplier_at-named.ensures))
+    ∙ ap (λ (t : Named). add_form (side_in (reg k) (sch k)) (times t.m (row_form_of (reg k) t.i t.j)) c.loop-at.table) c.multiplier_at-named.ensures))
 
 -- the end
 
@@ -196,4 +196,4 @@ returns-in_default-2 c = whole (goal.at.returns-in_default-2 c).After-put_scaled
 pub returns : goal.returns
 returns c =
     let k = (goal.at.returns c).After-put_scaled_function in
-    λ p e d. absurd (filled-inside (ready k) (first k) (long k) c.loop-at.invariant c.loop-at-test.false)
+    λ p e d. absurd (filled_inside (ready k) (first k) (long k) c.loop-at.invariant c.loop-at-test.false)

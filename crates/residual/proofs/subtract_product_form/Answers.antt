@@ -2,14 +2,14 @@ use Prim.Native.Nat.{ℕ, ◌+◌, ◌-◌, ◌≤◌, ◌<◌}
 use mathlib.Core.Path.{◌≡◌, ◌∙◌, ap}
 use native.Mathlib.Omega.{arith}
 use native.Mathlib.Numerals.{add-one}
-use Rattle.forms.specs.Store.{addForm}
+use Rattle.forms.specs.Store.{add_form}
 use Rattle.scheme.specs.declared.Scheme.{Scheme}
-use Rattle.scheme.specs.Scheme.{maxProducts, left, right, side}
+use Rattle.scheme.specs.Scheme.{max_products, left, right, side}
 use Rattle.scheme.specs.Valid.{Products}
 use Rattle.certificate.specs.declared.Multiplier.{Multiplier as Named}
-use Rattle.certificate.specs.Rules.{byKey}
+use Rattle.certificate.specs.Rules.{by_key}
 use Rattle.residual.specs.Built.{signed_of, Addable}
-use Rattle.residual.proofs.Adds.{negated, added-at, names-product}
+use Rattle.residual.proofs.Adds.{negated, added_at, names_product}
 use Rattle.residual.proofs.subtract_product_form.Goals as goal
 
 -- the places of a product and of its operands
@@ -21,16 +21,16 @@ record Places (n m : ℕ) (s : Scheme) (t : Named) : Type 0 where
   l : left n s t.i + 1 < m
   r : right n s t.i + 1 < m
 
-places : {n m : ℕ} {s : Scheme} {t : Named} → Products n s → s.products ≤ maxProducts → m ≡ side n s → Addable n s t → (0x35 ≤ t.kind) × (t.kind ≤ 0x37) → Places n m s t
+places : {n m : ℕ} {s : Scheme} {t : Named} → Products n s → s.products ≤ max_products → m ≡ side n s → Addable n s t → (0x35 ≤ t.kind) × (t.kind ≤ 0x37) → Places n m s t
 places products few e ok k =
-    let p = names-product ok products k.0 k.1 in
+    let p = names_product ok products k.0 k.1 in
     record {
       after = p.after;
       at = omega (arith, p.there, p.after, few);
       constant = omega (arith, e);
       z = omega (arith, p.there, e);
       l = omega (arith, p.there, p.left_below, e);
-      r = omega (arith, p.there, p.right-below, e);
+      r = omega (arith, p.there, p.right_below, e);
     }
 
 pub overflow_sub-at : goal.overflow_sub-at
@@ -67,23 +67,23 @@ add_product_bound-requires-clause-z_lt_side c =
     (p.z, p.l, p.r)
 
 pub returns-in-53 : goal.returns-in-53
-unfolding signed_of byKey
+unfolding signed_of by_key
 returns-in-53 c = λ reg e.
     let a = c.args in
     c.add_difference.ensures
-    ∙ ap (λ f. addForm a.side f a.table.now) (rw ((negated a.t.m c.requires.addable.m-within).less-read, ← e, add-one (left reg.choices a.scheme a.t.i), add-one a.t.i) (added-at reg a.scheme a.t 0x35 c.in-53.is))
+    ∙ ap (λ f. add_form a.side f a.table.now) (rw ((negated a.t.m c.requires.addable.m_within).less_read, ← e, add-one (left reg.choices a.scheme a.t.i), add-one a.t.i) (added_at reg a.scheme a.t 0x35 c.in-53.is))
 
 pub returns-in-54 : goal.returns-in-54
-unfolding signed_of byKey
+unfolding signed_of by_key
 returns-in-54 c = λ reg e.
     let a = c.args in
     c.add_difference-in-54.ensures
-    ∙ ap (λ f. addForm a.side f a.table.now) (rw ((negated a.t.m c.requires.addable.m-within).less-read, ← e, add-one (right reg.choices a.scheme a.t.i), add-one a.t.i) (added-at reg a.scheme a.t 0x36 c.in-54.is))
+    ∙ ap (λ f. add_form a.side f a.table.now) (rw ((negated a.t.m c.requires.addable.m_within).less_read, ← e, add-one (right reg.choices a.scheme a.t.i), add-one a.t.i) (added_at reg a.scheme a.t 0x36 c.in-54.is))
 
 pub returns-in_default : goal.returns-in_default
-unfolding signed_of byKey
+unfolding signed_of by_key
 returns-in_default c = λ reg e.
     let a = c.args in
     c.add_product_bound.ensures
-    ∙ ap (λ f. addForm a.side f a.table.now)
-    (rw ((negated a.t.m c.requires.addable.m-within).less-read, ← e, add-one a.t.i, add-one (left reg.choices a.scheme a.t.i), add-one (right reg.choices a.scheme a.t.i)) (added-at reg a.scheme a.t 0x37 (omega arith)))
+    ∙ ap (λ f. add_form a.side f a.table.now)
+    (rw ((negated a.t.m c.requires.addable.m_within).less_read, ← e, add-one a.t.i, add-one (left reg.choices a.scheme a.t.i), add-one (right reg.choices a.scheme a.t.i)) (added_at reg a.scheme a.t 0x37 (omega arith)))

@@ -9,20 +9,20 @@ use mir.Syntax.{w16, w64}
 use mir.Val.{to_z, of_z}
 use mir.Facts.{to_z-of_z}
 use borrow.Author.Tests.{le-ltb, lt-ltb}
-use Rattle.integers.proofs.Order.{natAbs-sub, natAbs-*-≤}
-use Rattle.integers.proofs.Machine.{fits_signed, read-signed}
-use Rattle.forms.specs.Store.{maxBeforeMonomial}
+use Rattle.integers.proofs.Order.{nat_abs_sub, nat_abs-*-≤}
+use Rattle.integers.proofs.Machine.{fits_signed, read_signed}
+use Rattle.forms.specs.Store.{max_before_monomial}
 use Rattle.forms.proofs.Store.{place_inside}
-use Rattle.certificate.specs.Limits.{squareEntries, maxEntry}
-use Rattle.residual.specs.Limits.{maxRowFactor, maxSquareAt}
-use Rattle.residual.specs.Built.{timesEntries, cells}
-use Rattle.residual.proofs.Subtracted.{Joins, joins-next, joins-and, less-cong, less_none, less-was, less-next}
+use Rattle.certificate.specs.Limits.{square_entries, max_entry}
+use Rattle.residual.specs.Limits.{max_row_factor, max_square_at}
+use Rattle.residual.specs.Built.{times_entries, cells}
+use Rattle.residual.proofs.Subtracted.{Joins, joins_next, joins_and, less_cong, less_none, less_was, less_next}
 use Rattle.residual.proofs.subtract_row.Invariants.{first}
 use Rattle.residual.proofs.subtract_row.Goals.{After-times_entry}
 use Rattle.residual.proofs.subtract_row.Goals as goal
 
 first_next : (i j k l : ℕ) → Joins (first i j k l) (eqb k i && eqb l j) (first i (j + 1) k l)
-first_next i j k l = joins-and (eqb k i) (joins-next l j)
+first_next i j k l = joins_and (eqb k i) (joins_next l j)
 
 -- a turn: what is stored, as the code has it
 module _ (c : After-times_entry) where
@@ -39,36 +39,36 @@ module _ (c : After-times_entry) where
   abbrev f : ℤ
   f = to_z w64 (of_z w64 c.args.factor)
 
-  f-read : f ≡ c.args.factor
-  f-read = read-signed w64 c.args.factor (omega (arith, c.requires.factor_bound))
+  f_read : f ≡ c.args.factor
+  f_read = read_signed w64 c.args.factor (omega (arith, c.requires.factor_bound))
 
   abbrev x : ℤ
   x = cells n c.loop-j.table row j
 
   abbrev y : ℤ
-  y = timesEntries f c.args.entries.now row j
+  y = times_entries f c.args.entries.now row j
 
-  x-small : nat_abs x ≤ maxBeforeMonomial
-  x-small =
+  x_small : nat_abs x ≤ max_before_monomial
+  x_small =
       let h = c.requires.bounded in
       let p = place_inside n row j c.requires.row_lt_side.0 (omega arith) in
-      rw (less-was n _ (first row j) _ h.long c.loop-j.invariant.so_far row j c.requires.row_lt_side.0 (omega arith) (rw (le-ltb j j (omega arith)) (and-false (eqb row row)))) (h.low (row * n + j) p)
+      rw (less_was n _ (first row j) _ h.long c.loop-j.invariant.so_far row j c.requires.row_lt_side.0 (omega arith) (rw (le-ltb j j (omega arith)) (and-false (eqb row row)))) (h.low (row * n + j) p)
 
-  inside : j < squareEntries
+  inside : j < square_entries
   inside = omega (arith, c.requires.row_lt_side.1)
 
-  small : nat_abs (x -ℤ y) ≤ maxBeforeMonomial + maxSquareAt
-  small = omega (arith, natAbs-sub x y, x-small, natAbs-*-≤ f (get_or c.args.entries.now j (pos 0)) maxRowFactor maxEntry (rw f-read c.requires.factor_bound) (c.requires.entries_within j inside))
+  small : nat_abs (x -ℤ y) ≤ max_before_monomial + max_square_at
+  small = omega (arith, nat_abs_sub x y, x_small, nat_abs-*-≤ f (get_or c.args.entries.now j (pos 0)) max_row_factor max_entry (rw f_read c.requires.factor_bound) (c.requires.entries_within j inside))
 
   product_is : to_z w64 (of_z w64 c.times_entry.result) ≡ y
   product_is =
       to_z-of_z {w = w64} (record { sfits = c.times_entry.type_inv })
       ∙ c.times_entry.ensures
       ∙ ap (λ z. f *ℤ z)
-      (read-signed w16 (get_or c.args.entries.now j (pos 0)) (omega (arith, c.requires.entries_within j inside)))
+      (read_signed w16 (get_or c.args.entries.now j (pos 0)) (omega (arith, c.requires.entries_within j inside)))
 
   difference : to_z w64 (of_z w64 x) -ℤ to_z w64 (of_z w64 c.times_entry.result) ≡ x -ℤ y
-  difference = ap₂ ◌-ℤ◌ (read-signed w64 x (omega (arith, x-small))) product_is
+  difference = ap₂ ◌-ℤ◌ (read_signed w64 x (omega (arith, x_small))) product_is
 
 pub loop-j-init : goal.loop-j-init
 loop-j-init c = record {
@@ -87,11 +87,11 @@ loop-j-preserved c =
     record {
       within = omega arith;
       so_far =
-          ap (set c.loop-j.table (row k * n k + j k)) (ap (λ z. to_z w64 (of_z w64 z)) (difference k) ∙ read-signed w64 (x k -ℤ y k) (omega (arith, small k)))
-          ∙ less-next (n k) _ (first (row k) (j k)) _ c.requires.bounded.long c.loop-j.invariant.so_far (row k) (j k) c.requires.row_lt_side.0 (omega arith) (λ i l _ _. first_next (row k) (j k) i l);
+          ap (set c.loop-j.table (row k * n k + j k)) (ap (λ z. to_z w64 (of_z w64 z)) (difference k) ∙ read_signed w64 (x k -ℤ y k) (omega (arith, small k)))
+          ∙ less_next (n k) _ (first (row k) (j k)) _ c.requires.bounded.long c.loop-j.invariant.so_far (row k) (j k) c.requires.row_lt_side.0 (omega arith) (λ i l _ _. first_next (row k) (j k) i l);
     }
 
 pub returns : goal.returns
 returns c =
     c.loop-j.invariant.so_far
-    ∙ less-cong c.args.side c.args.table.now (λ i j l m. rw (lt-ltb j c.loop-j.j (omega arith)) (and-true (eqb i c.args.row))) (λ i j _ _ _. ap (λ z. timesEntries z c.args.entries.now i j) (read-signed w64 c.args.factor (omega (arith, c.requires.factor_bound))))
+    ∙ less_cong c.args.side c.args.table.now (λ i j l m. rw (lt-ltb j c.loop-j.j (omega arith)) (and-true (eqb i c.args.row))) (λ i j _ _ _. ap (λ z. times_entries z c.args.entries.now i j) (read_signed w64 c.args.factor (omega (arith, c.requires.factor_bound))))

@@ -7,83 +7,83 @@ use mathlib.Core.Bool.{false}
 use mathlib.Core.List.{List, [], ◌∷◌}
 use lib.ListN.{length, get_or}
 use Rattle.wire.specs.Checks.{refusal}
-use Rattle.wire.specs.Number.{natAt}
-use Rattle.wire.specs.Part.{operandsAt, total, checksAt}
+use Rattle.wire.specs.Number.{nat_at}
+use Rattle.wire.specs.Part.{operands_at, total, checks_at}
 use Rattle.wire.specs.Rows.{Progress, row_of}
-use Rattle.wire.proofs.Rest.{only-last}
+use Rattle.wire.proofs.Rest.{only_last}
 use Rattle.wire.proofs.Accepting.{reached}
-use Rattle.wire.proofs.Loop.{Here, here-at, Going, going-starts, going-missing, going-refused, going_on, going-ends, next_of, size_of}
+use Rattle.wire.proofs.Loop.{Here, here_at, Going, going_starts, going_missing, going_refused, going_on, going_ends, next_of, size_of}
 use Rattle.register.specs.declared.Register.{Register}
 use Rattle.register.specs.Register.{mask}
 use Rattle.register.specs.Valid.{Valid}
 use Rattle.scheme.specs.declared.Scheme.{Scheme}
-use Rattle.scheme.specs.Scheme.{variables, fresh, withSplit}
+use Rattle.scheme.specs.Scheme.{variables, fresh, with_split}
 use Rattle.scheme.specs.Sets.{SetsBelow}
-use Rattle.scheme.specs.Format.{productRow, splitRow, endRow, schemeRows, schemePart, schemeInJob}
-use Rattle.scheme.specs.Answer.{seenOf, schemeRead}
+use Rattle.scheme.specs.Format.{product_row, split_row, end_row, scheme_rows, scheme_part, scheme_in_job}
+use Rattle.scheme.specs.Answer.{seen_of, scheme_read}
 use Rattle.scheme.proofs.Sets.{sets_same}
-use Rattle.scheme.proofs.Passes.{NextProduct, product-iff, NextSplit, split-iff}
-use Rattle.scheme.proofs.Entries.{lengths-within, grown-sets}
+use Rattle.scheme.proofs.Passes.{NextProduct, product_iff, NextSplit, split_iff}
+use Rattle.scheme.proofs.Entries.{lengths_within, grown_sets}
 use Rattle.scheme.proofs.Laws.{Good, laws}
 use Rattle.scheme.proofs.read_scheme.Goals as goal
 
 -- what the loop has seen
-seen-is : (reg : Register) (previous : ℕ) (s : Scheme) {m : ℕ} → m ≡ mask reg s.splits → seenOf reg (reached previous s)
+seen_is : (reg : Register) (previous : ℕ) (s : Scheme) {m : ℕ} → m ≡ mask reg s.splits → seen_of reg (reached previous s)
     ≡ record { previous = previous; choices = reg.choices; terms = reg.terms; products = s.products; splits = s.splits; mask = m }
-seen-is reg previous s e = rw e
+seen_is reg previous s e = rw e
 
 -- the sets of the choices are those of the fresh scheme
-first-sets : (reg : Register) {sets : List ℕ} → SetsBelow reg.choices fresh reg.choices sets → SetsBelow reg.choices fresh (variables reg.choices fresh) sets
+first_sets : (reg : Register) {sets : List ℕ} → SetsBelow reg.choices fresh reg.choices sets → SetsBelow reg.choices fresh (variables reg.choices fresh) sets
 unfolding fresh
-first-sets reg h = rw add-zero h
+first_sets reg h = rw add-zero h
 
 -- a turn of the loop, whose command is not refused
 record Turn (bytes : List ℕ) (reg : Register) (previous : ℕ) (s : Scheme) (at : ℕ) : Type 0 where
   inside : at < length bytes
-  judged : refusal (checksAt (schemePart reg) bytes (reached previous s) at) ≡ 0
+  judged : refusal (checks_at (scheme_part reg) bytes (reached previous s) at) ≡ 0
 
 -- by the array of sets, whose entries are those of what has been read
 turn : (bytes : List ℕ) (reg : Register) (previous : ℕ) (s : Scheme) (at : ℕ) {m number : ℕ} {sets : List ℕ} → at < length bytes → m ≡ mask reg s.splits
     → SetsBelow reg.choices s (variables reg.choices s) sets
     → ((r : Register) (p : Progress Scheme)
-    → seenOf r p ≡ record { previous = previous; choices = reg.choices; terms = reg.terms; products = s.products; splits = s.splits; mask = m }
-    → SetsBelow r.choices p.parsed (variables r.choices p.parsed) sets → number ≡ refusal (checksAt (schemePart r) bytes p at))
+    → seen_of r p ≡ record { previous = previous; choices = reg.choices; terms = reg.terms; products = s.products; splits = s.splits; mask = m }
+    → SetsBelow r.choices p.parsed (variables r.choices p.parsed) sets → number ≡ refusal (checks_at (scheme_part r) bytes p at))
     → number ≡ 0 → Turn bytes reg previous s at
-turn bytes reg previous s at l e held n z = record { inside = l; judged = sym (n reg (reached previous s) (seen-is reg previous s e) held) ∙ z }
+turn bytes reg previous s at l e held n z = record { inside = l; judged = sym (n reg (reached previous s) (seen_is reg previous s e) held) ∙ z }
 
 module _ {bytes : List ℕ} {reg : Register} {previous : ℕ} {s : Scheme} {at : ℕ} (t : Turn bytes reg previous s at) where
-  here : (b : ℕ) → get_or bytes at 0 ≡ b → Here fresh (schemeRows reg) bytes (reached previous s) at b
-  here b e = here-at fresh (schemeRows reg) bytes (reached previous s) at b e t.inside t.judged
+  here : (b : ℕ) → get_or bytes at 0 ≡ b → Here fresh (scheme_rows reg) bytes (reached previous s) at b
+  here b e = here_at fresh (scheme_rows reg) bytes (reached previous s) at b e t.inside t.judged
 
-  product : get_or bytes at 0 ≡ 0x21 → NextProduct reg.choices s (natAt 1 bytes (at + 1)) (natAt 1 bytes (at + 1 + 1))
-  unfolding row_of operandsAt
-  product e = (product-iff _ _ _ _).0 (here 0x21 e).allowed
+  product : get_or bytes at 0 ≡ 0x21 → NextProduct reg.choices s (nat_at 1 bytes (at + 1)) (nat_at 1 bytes (at + 1 + 1))
+  unfolding row_of operands_at
+  product e = (product_iff _ _ _ _).0 (here 0x21 e).allowed
 
-  split : get_or bytes at 0 ≡ 0x22 → NextSplit reg s (natAt 1 bytes (at + 1)) (natAt 1 bytes (at + 1 + 1))
-  unfolding row_of operandsAt
-  split e = (split-iff _ _ _ _).0 (here 0x22 e).allowed
+  split : get_or bytes at 0 ≡ 0x22 → NextSplit reg s (nat_at 1 bytes (at + 1)) (nat_at 1 bytes (at + 1 + 1))
+  unfolding row_of operands_at
+  split e = (split_iff _ _ _ _).0 (here 0x22 e).allowed
 
   -- what else stands here is the end
   end : (get_or bytes at 0 ≡ 0x21 → ⊥) → (get_or bytes at 0 ≡ 0x22 → ⊥) → get_or bytes at 0 ≡ 0x2F
-  end f g = only-last (endRow reg) _ (productRow reg ∷ splitRow reg ∷ []) (f, (g, tt)) _ (here _ refl).place
+  end f g = only_last (end_row reg) _ (product_row reg ∷ split_row reg ∷ []) (f, (g, tt)) _ (here _ refl).place
 
   -- what is read with the command, where it does not end the part
-  on : Valid reg → Going fresh (schemeRows reg) (Good reg) bytes (reached previous s) at → (b : ℕ) → get_or bytes at 0 ≡ b → (row_of (schemeRows reg) b).last ≡ false
-      → Going fresh (schemeRows reg) (Good reg) bytes (next_of fresh (schemeRows reg) bytes (reached previous s) at b) (at + size_of fresh (schemeRows reg) b)
-  on valid g b e f = going_on fresh (schemeRows reg) (laws reg valid) g t.inside t.judged b e f
+  on : Valid reg → Going fresh (scheme_rows reg) (Good reg) bytes (reached previous s) at → (b : ℕ) → get_or bytes at 0 ≡ b → (row_of (scheme_rows reg) b).last ≡ false
+      → Going fresh (scheme_rows reg) (Good reg) bytes (next_of fresh (scheme_rows reg) bytes (reached previous s) at b) (at + size_of fresh (scheme_rows reg) b)
+  on valid g b e f = going_on fresh (scheme_rows reg) (laws reg valid) g t.inside t.judged b e f
 
 pub loop-at-init : goal.loop-at-init
 loop-at-init c =
     let reg = c.args.register in
-    rw c.fresh-scheme.ensures (record { going = going-starts fresh (schemeRows reg) (laws reg c.requires) _; held = first-sets reg (c.choice_sets-sets.ensures fresh) })
+    rw c.fresh-scheme.ensures (record { going = going_starts fresh (scheme_rows reg) (laws reg c.requires) _; held = first_sets reg (c.choice_sets-sets.ensures fresh) })
 
 pub returns-then-number-ne0 : goal.returns-then-number-ne0
-unfolding schemeInJob
+unfolding scheme_in_job
 returns-then-number-ne0 c =
     let reg = c.args.register in
     let i = c.loop-at in
-    let n = c.refusal_at-number.ensures reg (reached i.previous i.scheme) (seen-is reg i.previous i.scheme c.entry.ensures) i.invariant.held in
-    c.refused.ensures ∙ ap schemeRead (sym (going-refused fresh (schemeRows reg) (laws reg c.requires) i.invariant.going _ c.loop-at-test.true n c.if-number-ne0.true))
+    let n = c.refusal_at-number.ensures reg (reached i.previous i.scheme) (seen_is reg i.previous i.scheme c.entry.ensures) i.invariant.held in
+    c.refused.ensures ∙ ap scheme_read (sym (going_refused fresh (scheme_rows reg) (laws reg c.requires) i.invariant.going _ c.loop-at-test.true n c.if-number-ne0.true))
 
 pub u8_at-l-requires : goal.u8_at-l-requires
 unfolding row_of total
@@ -113,7 +113,7 @@ bounds-scheme-k-in-33 c =
     (product t c.in-33.is).few
 
 pub loop-at-preserved-in-33 : goal.loop-at-preserved-in-33
-unfolding row_of total operandsAt
+unfolding row_of total operands_at
 loop-at-preserved-in-33 c =
     let reg = c.args.register in
     let i = c.loop-at in
@@ -123,7 +123,7 @@ loop-at-preserved-in-33 c =
     rw (c.union_of.ensures, c.u8_at-r.ensures, c.u8_at-l.ensures, add-one)
     (record {
       going = on t c.requires i.invariant.going 0x21 f refl;
-      held = grown-sets i.scheme _ _ reg.choices (lengths-within i.invariant.going.so_far.holds.within) q.few i.invariant.held (omega (arith, c.requires.within.choices.few, q.few)) (omega (arith, q.fits.ordered, q.fits.falls)) q.fits.falls;
+      held = grown_sets i.scheme _ _ reg.choices (lengths_within i.invariant.going.so_far.holds.within) q.few i.invariant.held (omega (arith, c.requires.within.choices.few, q.few)) (omega (arith, q.fits.ordered, q.fits.falls)) q.fits.falls;
     })
 
 pub u8_at-requires : goal.u8_at-requires
@@ -149,24 +149,24 @@ bounds-scheme-t-in-34 c =
     omega (arith, c.requires.within.terms.few, (split t c.in-34.is).few)
 
 pub loop-at-preserved : goal.loop-at-preserved
-unfolding row_of total operandsAt
+unfolding row_of total operands_at
 loop-at-preserved c =
     let i = c.loop-at in
     let t = turn c.args.bytes.now c.args.register c.loop-at.previous c.loop-at.scheme c.loop-at.at c.loop-at-test.true c.entry.ensures c.loop-at.invariant.held c.refusal_at-number.ensures c.if-number-ne0.false in
     rw (c.u8_at-in-34.ensures, c.u8_at.ensures, add-one)
-    (record { going = on t c.requires i.invariant.going 0x22 c.in-34.is refl; held = sets_same i.invariant.held (withSplit i.scheme _ _) (λ w a b. (refl, refl)) })
+    (record { going = on t c.requires i.invariant.going 0x22 c.in-34.is refl; held = sets_same i.invariant.held (with_split i.scheme _ _) (λ w a b. (refl, refl)) })
 
 pub returns-in_default : goal.returns-in_default
-unfolding schemeInJob row_of total operandsAt
+unfolding scheme_in_job row_of total operands_at
 returns-in_default c =
     let reg = c.args.register in
     let i = c.loop-at in
     let t = turn c.args.bytes.now c.args.register c.loop-at.previous c.loop-at.scheme c.loop-at.at c.loop-at-test.true c.entry.ensures c.loop-at.invariant.held c.refusal_at-number.ensures c.if-number-ne0.false in
     let f = end t (λ e. omega arith) (λ e. omega arith) in
-    ap schemeRead (sym (going-ends fresh (schemeRows reg) (laws reg c.requires) i.invariant.going t.inside t.judged 0x2F f refl))
+    ap scheme_read (sym (going_ends fresh (scheme_rows reg) (laws reg c.requires) i.invariant.going t.inside t.judged 0x2F f refl))
 
 pub returns : goal.returns
-unfolding schemeInJob
+unfolding scheme_in_job
 returns c =
     let reg = c.args.register in
-    c.refused-2.ensures ∙ ap schemeRead (sym (going-missing fresh (schemeRows reg) (laws reg c.requires) c.loop-at.invariant.going c.loop-at-test.false))
+    c.refused-2.ensures ∙ ap scheme_read (sym (going_missing fresh (scheme_rows reg) (laws reg c.requires) c.loop-at.invariant.going c.loop-at-test.false))

@@ -5,18 +5,18 @@ use mathlib.Core.Path.{sym, ap}
 use mathlib.Core.List.{[], ◌∷◌}
 use lib.ListN.{length}
 use Rattle.text.specs.Text.{digits}
-use Rattle.text.proofs.Digits.{digits-one, digits_more, length_more}
+use Rattle.text.proofs.Digits.{digits_one, digits_more, length_more}
 use Rattle.wire.proofs.Written.{and_then, same}
 use Rattle.text.proofs.+put_digits.Goals as goal
 
 pub put_byte-requires : goal.put_byte-requires
-put_byte-requires t c = omega (arith, ap length (digits-one c.args.n (omega arith)))
+put_byte-requires t c = omega (arith, ap length (digits_one c.args.n (omega arith)))
 
 pub returns-then-n-lt10 : goal.returns-then-n-lt10
 returns-then-n-lt10 t c =
     let a = c.args in
     let b = c.put_byte.ensures in
-    let (value, out_after) = same a.out.now a.at (sym (digits-one a.n (omega arith))) (b.value, b.out_after) in
+    let (value, out_after) = same a.out.now a.at (sym (digits_one a.n (omega arith))) (b.value, b.out_after) in
     record { value = value; out_after = out_after }
 
 pub put_digits-last-requires : goal.put_digits-last-requires

@@ -9,9 +9,9 @@ use mir.Facts.{to_z-of_z}
 use mir.Syntax.{w64}
 use mir.Val.{SFits, to_z, of_z}
 use borrow.Author.Rules.{rules}
-use Rattle.integers.specs.Lists.{joinBelow}
+use Rattle.integers.specs.Lists.{join_below}
 use Rattle.wire.specs.Number.{written}
-use Rattle.wire.proofs.Written.{begins, turn, room, length-going, ends, and_then, same, length-written}
+use Rattle.wire.proofs.Written.{begins, turn, room, length_going, ends, and_then, same, length-written}
 use Rattle.text.specs.Text.{line}
 use Rattle.text.specs.Fields.{field}
 use Rattle.text.proofs.Lines.{field_of, line-fields, length-line}
@@ -25,7 +25,7 @@ loop-i-init c = begins _ _ _ _
 
 -- once the first byte is written, there is room for the others
 fits : (letter : ℕ) (xs : List ℤ) (s out : List ℕ) (start first : ℕ) → start + length (line letter xs) ≤ length s → first ≡ start + 1 → out ≡ written s start (letter ∷ [])
-    → first + length (joinBelow (length xs) (field_of xs)) + 1 ≤ length out
+    → first + length (join_below (length xs) (field_of xs)) + 1 ≤ length out
 fits letter xs s out start first h e w = omega (arith, length-line letter xs, ap length w ∙ length-written s start (letter ∷ []))
 
 -- a number, as its bits are read
@@ -54,7 +54,7 @@ put_byte-requires c =
     let a = c.args in
     let p = c.put_byte-first in
     let h = fits a.letter a.numbers.now a.out.now p.new.out a.start p.result c.requires p.ensures.value p.ensures.out_after in
-    omega (arith, (ends _ _ _ _ c.loop-i.invariant (omega arith)).0, length-going _ _ _ _ c.loop-i.invariant)
+    omega (arith, (ends _ _ _ _ c.loop-i.invariant (omega arith)).0, length_going _ _ _ _ c.loop-i.invariant)
 
 pub returns : goal.returns
 returns c =

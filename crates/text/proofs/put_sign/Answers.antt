@@ -3,7 +3,7 @@ use native.Mathlib.Omega.{arith}
 use mathlib.Core.Path.{sym, ap}
 use lib.ListN.{length}
 use mir.Facts.{to_z-of_z}
-use Rattle.text.proofs.Digits.{sign_below, sign-none}
+use Rattle.text.proofs.Digits.{sign_below, sign_none}
 use Rattle.wire.proofs.Written.{same, nothing}
 use Rattle.text.proofs.put_sign.Goals as goal
 
@@ -20,5 +20,5 @@ returns-then-x-lt0 c =
 pub returns : goal.returns
 returns c =
     let a = c.args in
-    let (value, out_after) = same a.out.now a.at (sym (sign-none a.x (rw (to_z-of_z c.ranges.x) at c.if-x-lt0.false))) (nothing a.out.now a.at) in
+    let (value, out_after) = same a.out.now a.at (sym (sign_none a.x (rw (to_z-of_z c.ranges.x) at c.if-x-lt0.false))) (nothing a.out.now a.at) in
     record { value = value; out_after = out_after }

@@ -3,11 +3,11 @@ use Prim.Native.Nat.{ℕ, ◌+◌, ◌/◌}
 use mathlib.Core.Path.{ap, ◌∙◌}
 use mathlib.Core.List.{List}
 use Rattle.wire.specs.Number.{put_at}
-use Rattle.wire.proofs.Number.{putAt-split}
+use Rattle.wire.proofs.Number.{put_at_split}
 use Rattle.wire.proofs.put_u32.Goals as goal
 
 pub returns : goal.returns
 returns c =
     c.put_u16-2.ensures
     ∙ ap (λ (l : List ℕ). put_at 2 l (c.args.at + 2) (c.args.x / 65536)) c.put_u16.ensures
-    ∙ putAt-split 2 2 c.args.bytes.now c.args.at c.args.x
+    ∙ put_at_split 2 2 c.args.bytes.now c.args.at c.args.x

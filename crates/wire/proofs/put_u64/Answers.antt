@@ -3,11 +3,11 @@ use Prim.Native.Nat.{ℕ, ◌+◌, ◌/◌}
 use mathlib.Core.Path.{ap, ◌∙◌}
 use mathlib.Core.List.{List}
 use Rattle.wire.specs.Number.{put_at}
-use Rattle.wire.proofs.Number.{putAt-split}
+use Rattle.wire.proofs.Number.{put_at_split}
 use Rattle.wire.proofs.put_u64.Goals as goal
 
 pub returns : goal.returns
 returns c =
     c.put_u32-2.ensures
     ∙ ap (λ (l : List ℕ). put_at 4 l (c.args.at + 4) (c.args.x / 4294967296)) c.put_u32.ensures
-    ∙ putAt-split 4 4 c.args.bytes.now c.args.at c.args.x
+    ∙ put_at_split 4 4 c.args.bytes.now c.args.at c.args.x

@@ -4,7 +4,7 @@ use Prim.Native.Nat.{ℕ, ◌-◌, ◌≤◌, ◌<◌}
 use lib.Dec.{T}
 use lib.IntN.{pos}
 use lib.Signed.{◌≤ℤ◌}
-use Rattle.bound.specs.Bound.{rowHolds}
+use Rattle.bound.specs.Bound.{row_holds}
 use Rattle.residual.specs.Built.{cells}
 use Rattle.bound.proofs.FirstShort.{slack}
 use Rattle.bound.proofs.dominance.first_short.Given as goal
@@ -20,7 +20,7 @@ abbrev pub decreases-loop-j : goal.decreases-loop-j
 decreases-loop-j l = l.side - l.j
 
 abbrev pub invariant-rows : goal.invariant-rows
-invariant-rows l = record { within : l.row ≤ l.side; hold : (i : ℕ) → i < l.row → T (rowHolds l.side (cells l.side l.table) i) }
+invariant-rows l = record { within : l.row ≤ l.side; hold : (i : ℕ) → i < l.row → T (row_holds l.side (cells l.side l.table) i) }
 
 abbrev pub decreases-rows : goal.decreases-rows
 decreases-rows l = l.side - l.row

@@ -12,9 +12,9 @@ returns c = record {
     few = c.requires;
     not_full = refl;
     within = rw c.fresh-scheme.ensures (omega arith);
-    lengths = rw c.fresh-scheme.ensures (record { lefts = refl; rights = refl; split-lefts = refl; split-rights = refl });
+    lengths = rw c.fresh-scheme.ensures (record { lefts = refl; rights = refl; split_lefts = refl; split_rights = refl });
     long = refl;
-    sets-are = rw (c.fresh-scheme.ensures, add-zero) (c.choice_sets-sets.ensures fresh);
+    sets_are = rw (c.fresh-scheme.ensures, add-zero) (c.choice_sets-sets.ensures fresh);
   };
-  scheme-is = c.fresh-scheme.ensures;
+  scheme_is = c.fresh-scheme.ensures;
 }

@@ -1,7 +1,7 @@
 use mathlib.Core.Path.{refl}
-use Rattle.certificate.specs.Answer.{freshSquare}
+use Rattle.certificate.specs.Answer.{fresh_square}
 use Rattle.certificate.proofs.Square.fresh.Goals as goal
 
 pub returns : goal.returns
-unfolding freshSquare
+unfolding fresh_square
 returns c = refl

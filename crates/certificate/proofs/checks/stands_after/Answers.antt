@@ -1,8 +1,8 @@
 -- Where a command may stand, by its byte.
 use Rattle.std.proofs.Common.{sym, ◌∙◌, ap}
 use native.Mathlib.Omega.{arith}
-use Rattle.wire.specs.Rows.{isAmong, row_of}
-use Rattle.certificate.proofs.Rows.{row_other, stands-between}
+use Rattle.wire.specs.Rows.{is_among, row_of}
+use Rattle.certificate.proofs.Rows.{row_other, stands_between}
 use Rattle.certificate.proofs.checks.stands_after.Goals as goal
 
 pub returns-in-48 : goal.returns-in-48
@@ -15,7 +15,7 @@ returns-in-63 c = λ reg sch. c.after_scale.ensures ∙ rw c.in-63.is
 
 pub returns-in-49-to-59 : goal.returns-in-49-to-59
 returns-in-49-to-59 c = λ reg sch.
-    c.after_scale-in-49-to-59.ensures ∙ ap (isAmong c.args.previous) (sym (stands-between reg sch c.args.command (omega arith) (omega arith)))
+    c.after_scale-in-49-to-59.ensures ∙ ap (is_among c.args.previous) (sym (stands_between reg sch c.args.command (omega arith) (omega arith)))
 
 -- no command
 

@@ -3,9 +3,9 @@ use Rattle.std.proofs.Common.{sym}
 use native.Mathlib.Omega.{arith}
 use mathlib.Core.Logic.{inl, inr}
 use Rattle.wire.specs.Part.{total}
-use Rattle.certificate.specs.Rules.{arity, byKey}
-use Rattle.certificate.specs.Format.{commandSize}
-use Rattle.certificate.proofs.Sizes.{size_scale, size-ten, size_none, size-square, size-end}
+use Rattle.certificate.specs.Rules.{arity, by_key}
+use Rattle.certificate.specs.Format.{command_size}
+use Rattle.certificate.proofs.Sizes.{size_scale, size_ten, size_none, size_square, size_end}
 use Rattle.certificate.proofs.layout.command_size.Goals as goal
 
 -- a byte by itself
@@ -14,26 +14,26 @@ pub returns-in-48 : goal.returns-in-48
 returns-in-48 c = rw (c.in-48.is, size_scale)
 
 pub returns-in-50 : goal.returns-in-50
-unfolding commandSize byKey arity total
+unfolding command_size by_key arity total
 returns-in-50 c = rw c.in-50.is
 
 pub returns-in-51 : goal.returns-in-51
-unfolding commandSize byKey arity total
+unfolding command_size by_key arity total
 returns-in-51 c = rw c.in-51.is
 
 pub returns-in-52 : goal.returns-in-52
-unfolding commandSize byKey arity total
+unfolding command_size by_key arity total
 returns-in-52 c = rw c.in-52.is
 
 pub returns-in-58 : goal.returns-in-58
-returns-in-58 c = rw (c.in-58.is, size-square)
+returns-in-58 c = rw (c.in-58.is, size_square)
 
 pub returns-in-59 : goal.returns-in-59
-unfolding commandSize byKey arity total
+unfolding command_size by_key arity total
 returns-in-59 c = rw c.in-59.is
 
 pub returns-in-63 : goal.returns-in-63
-returns-in-63 c = rw (c.in-63.is, size-end)
+returns-in-63 c = rw (c.in-63.is, size_end)
 
 -- a byte that is no command
 
@@ -46,7 +46,7 @@ returns-in-0-to-47-2 c = sym (size_none _ (λ p q. omega arith) (λ e. omega ari
 -- one variable named
 
 pub returns-in-49 : goal.returns-in-49
-returns-in-49 c = sym (size-ten _ (inl (omega arith)))
+returns-in-49 c = sym (size_ten _ (inl (omega arith)))
 
 pub returns-in-49-2 : goal.returns-in-49-2
-returns-in-49-2 c = sym (size-ten _ (inr (omega arith, omega arith)))
+returns-in-49-2 c = sym (size_ten _ (inr (omega arith, omega arith)))

@@ -5,8 +5,8 @@ use Prim.Native.Nat.{suc}
 use Rattle.integers.proofs.Lists.{◌▹◌}
 use Rattle.wire.specs.Part.{total}
 use Rattle.wire.specs.Rows.{row_of}
-use Rattle.wire.proofs.Rest.{total-last}
-use Rattle.register.specs.Format.{baseRow, choiceRow, termRow, windowRow, rowRow, lengthRow, endRow}
+use Rattle.wire.proofs.Rest.{total_last}
+use Rattle.register.specs.Format.{base_row, choice_row, term_row, window_row, row_row, length_row, end_row}
 use Rattle.register.proofs.checks.command_size.Goals as goal
 
 pub returns-in-16 : goal.returns-in-16
@@ -35,4 +35,4 @@ returns-in-24 c = rw c.in-24.is
 
 pub returns-in_default : goal.returns-in_default
 returns-in_default c =
-    ap suc (sym (total-last endRow _ (baseRow ∷ choiceRow ∷ termRow ∷ windowRow ∷ rowRow ∷ lengthRow ∷ []) ((λ e. omega arith) ▹ (λ e. omega arith) ▹ (λ e. omega arith) ▹ (λ e. omega arith) ▹ (λ e. omega arith) ▹ (λ e. omega arith) ▹ tt) refl))
+    ap suc (sym (total_last end_row _ (base_row ∷ choice_row ∷ term_row ∷ window_row ∷ row_row ∷ length_row ∷ []) ((λ e. omega arith) ▹ (λ e. omega arith) ▹ (λ e. omega arith) ▹ (λ e. omega arith) ▹ (λ e. omega arith) ▹ (λ e. omega arith) ▹ tt) refl))

@@ -2,8 +2,8 @@ use native.Mathlib.Omega.{arith}
 use mathlib.Core.Path.{◌∙◌}
 use Rattle.integers.proofs.Lists.{◌▹◌}
 use Rattle.wire.specs.Rows.{row_of}
-use Rattle.wire.proofs.Rest.{no-row}
-use Rattle.register.specs.Format.{registerRows}
+use Rattle.wire.proofs.Rest.{no_row_lem}
+use Rattle.register.specs.Format.{register_rows}
 use Rattle.register.proofs.checks.stands_after.Goals as goal
 
 pub returns-in-16 : goal.returns-in-16
@@ -35,4 +35,4 @@ unfolding row_of
 returns-in-31 c = c.after_any-in-31.ensures ∙ rw c.in-31.is
 
 pub returns-in_default : goal.returns-in_default
-returns-in_default c = rw (no-row registerRows c.args.command ((λ e. omega arith) ▹ (λ e. omega arith) ▹ (λ e. omega arith) ▹ (λ e. omega arith) ▹ (λ e. omega arith) ▹ (λ e. omega arith) ▹ (λ e. omega arith) ▹ tt))
+returns-in_default c = rw (no_row_lem register_rows c.args.command ((λ e. omega arith) ▹ (λ e. omega arith) ▹ (λ e. omega arith) ▹ (λ e. omega arith) ▹ (λ e. omega arith) ▹ (λ e. omega arith) ▹ (λ e. omega arith) ▹ tt))

@@ -3,15 +3,15 @@ use Prim.Native.Nat.{ℕ, ◌+◌, ◌-◌, ◌≤◌, ◌<◌}
 use mathlib.Core.Path.{◌≡◌}
 use lib.IntN.{pos}
 use mir.Syntax.{w8}
-use Rattle.wire.specs.Number.{intAt}
-use Rattle.register.specs.Limits.{rowEntries}
+use Rattle.wire.specs.Number.{int_at}
+use Rattle.register.specs.Limits.{row_entries}
 use Rattle.register.proofs.rows.past_zero.Given as goal
 
 abbrev pub invariant-loop-j : goal.invariant-loop-j
 invariant-loop-j l = record {
   from : l.n ≤ l.j;
-  zeros : (i : ℕ) → l.n ≤ i → i < l.j → intAt w8 l.bytes (l.at + i) ≡ pos 0;
+  zeros : (i : ℕ) → l.n ≤ i → i < l.j → int_at w8 l.bytes (l.at + i) ≡ pos 0;
 }
 
 abbrev pub decreases-loop-j : goal.decreases-loop-j
-decreases-loop-j l = rowEntries - l.j
+decreases-loop-j l = row_entries - l.j

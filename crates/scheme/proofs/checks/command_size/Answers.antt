@@ -5,8 +5,8 @@ use mathlib.Core.Path.{refl, sym, ap}
 use mathlib.Core.List.{[], ◌∷◌}
 use Rattle.wire.specs.Part.{total}
 use Rattle.wire.specs.Rows.{row_of}
-use Rattle.wire.proofs.Rest.{total-last}
-use Rattle.scheme.specs.Format.{productRow, splitRow, endRow}
+use Rattle.wire.proofs.Rest.{total_last}
+use Rattle.scheme.specs.Format.{product_row, split_row, end_row}
 use Rattle.scheme.proofs.checks.command_size.Goals as goal
 
 pub returns-in-33 : goal.returns-in-33
@@ -18,4 +18,4 @@ unfolding row_of total
 returns-in-34 c = λ reg. rw c.in-34.is
 
 pub returns-in_default : goal.returns-in_default
-returns-in_default c = λ reg. ap suc (sym (total-last (endRow reg) _ (productRow reg ∷ splitRow reg ∷ []) (λ e. omega arith, (λ e. omega arith, tt)) refl))
+returns-in_default c = λ reg. ap suc (sym (total_last (end_row reg) _ (product_row reg ∷ split_row reg ∷ []) (λ e. omega arith, (λ e. omega arith, tt)) refl))

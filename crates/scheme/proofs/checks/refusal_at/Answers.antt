@@ -5,49 +5,49 @@ use mathlib.Core.Path.{◌≡◌, refl, ◌∙◌, ap}
 use mathlib.Core.Bool.{Bool}
 use mathlib.Core.List.{List, [], ◌∷◌}
 use lib.ListN.{length, get_or}
-use Rattle.wire.specs.Checks.{refusal, commandChecks}
-use Rattle.wire.specs.Part.{operandsAt, total, size, checksAt}
-use Rattle.wire.specs.Rows.{Progress, isAmong, row_of}
-use Rattle.wire.proofs.Checks.{command-room, command-here}
-use Rattle.wire.proofs.Rest.{only-last}
-use Rattle.wire.proofs.Loop.{operandsOf, common-refused, common-own}
+use Rattle.wire.specs.Checks.{refusal, command_checks}
+use Rattle.wire.specs.Part.{operands_at, total, size, checks_at}
+use Rattle.wire.specs.Rows.{Progress, is_among, row_of}
+use Rattle.wire.proofs.Checks.{command_room, command_here}
+use Rattle.wire.proofs.Rest.{only_last}
+use Rattle.wire.proofs.Loop.{operands_of, common_refused, common_own}
 use Rattle.register.specs.declared.Register.{Register}
 use Rattle.register.specs.Register as R
 use Rattle.scheme.specs.declared.Scheme.{Scheme}
 use Rattle.scheme.specs.declared.Seen.{Seen}
 use Rattle.scheme.specs.Scheme.{fresh}
-use Rattle.scheme.specs.Format.{productRow, splitRow, endRow, schemeRows, schemePart}
-use Rattle.scheme.specs.Answer.{seenOf}
-use Rattle.scheme.proofs.Passes.{product-in, split-in}
+use Rattle.scheme.specs.Format.{product_row, split_row, end_row, scheme_rows, scheme_part}
+use Rattle.scheme.specs.Answer.{seen_of}
+use Rattle.scheme.proofs.Passes.{product_in, split_in}
 use Rattle.scheme.proofs.checks.refusal_at.Goals as goal
 
 -- place and size of the command at a position, directly after another, are judged, with any register
 abbrev Judged : List ℕ → ℕ → ℕ → ℕ → Type 0
 Judged s at previous placed = (reg : Register) →
-    placed ≡ refusal (commandChecks (isAmong previous (row_of (schemeRows reg) (get_or s at 0)).follows) (length s - at) (size (schemePart reg) (get_or s at 0)) [])
+    placed ≡ refusal (command_checks (is_among previous (row_of (scheme_rows reg) (get_or s at 0)).follows) (length s - at) (size (scheme_part reg) (get_or s at 0)) [])
 
-judged : (s : List ℕ) (at previous : ℕ) {here : Bool} {bytes placed : ℕ} → ((reg : Register) → here ≡ isAmong previous (row_of (schemeRows reg) (get_or s at 0)).follows)
-    → ((reg : Register) → bytes ≡ size (schemePart reg) (get_or s at 0)) → placed ≡ refusal (commandChecks here (length s - at) bytes []) → Judged s at previous placed
+judged : (s : List ℕ) (at previous : ℕ) {here : Bool} {bytes placed : ℕ} → ((reg : Register) → here ≡ is_among previous (row_of (scheme_rows reg) (get_or s at 0)).follows)
+    → ((reg : Register) → bytes ≡ size (scheme_part reg) (get_or s at 0)) → placed ≡ refusal (command_checks here (length s - at) bytes []) → Judged s at previous placed
 judged s at previous h k e reg = rw (← (h reg), ← (k reg)) e
 
 -- and not refused
 module _ (s : List ℕ) (at : ℕ) (seen : Seen) {placed : ℕ} (h : Judged s at seen.previous placed) (z : placed ≡ 0) where
   -- the bytes of a command are as many with any register
-  room : (k n : ℕ) → get_or s at 0 ≡ k → size (schemePart R.fresh) k ≡ n → n ≤ length s - at
-  room k n e f = let g : size (schemePart R.fresh) (get_or s at 0) ≡ n = rw e f in rw g at (command-room _ _ _ [] _ (h R.fresh) z)
+  room : (k n : ℕ) → get_or s at 0 ≡ k → size (scheme_part R.fresh) k ≡ n → n ≤ length s - at
+  room k n e f = let g : size (scheme_part R.fresh) (get_or s at 0) ≡ n = rw e f in rw g at (command_room _ _ _ [] _ (h R.fresh) z)
 
-  own : (reg : Register) (p : Progress Scheme) → seenOf reg p ≡ seen → (k : ℕ) → get_or s at 0 ≡ k
-      → refusal ((row_of (schemeRows reg) k).checks p.parsed (operandsOf fresh (schemeRows reg) s at k)) ≡ refusal (checksAt (schemePart reg) s p at)
-  own reg p f k e = common-own fresh (schemeRows reg) s p at k e _ (rw (← e, ap (λ x. x.previous) f) (h reg)) z
+  own : (reg : Register) (p : Progress Scheme) → seen_of reg p ≡ seen → (k : ℕ) → get_or s at 0 ≡ k
+      → refusal ((row_of (scheme_rows reg) k).checks p.parsed (operands_of fresh (scheme_rows reg) s at k)) ≡ refusal (checks_at (scheme_part reg) s p at)
+  own reg p f k e = common_own fresh (scheme_rows reg) s p at k e _ (rw (← e, ap (λ x. x.previous) f) (h reg)) z
 
   -- what else stands here is the end
   end : (reg : Register) → (get_or s at 0 ≡ 0x21 → ⊥) → (get_or s at 0 ≡ 0x22 → ⊥) → get_or s at 0 ≡ 0x2F
-  end reg f g = only-last (endRow reg) _ (productRow reg ∷ splitRow reg ∷ []) (f, (g, tt)) _ (command-here _ _ _ [] _ (h reg) z)
+  end reg f g = only_last (end_row reg) _ (product_row reg ∷ split_row reg ∷ []) (f, (g, tt)) _ (command_here _ _ _ [] _ (h reg) z)
 
 pub returns-then-placed-ne0 : goal.returns-then-placed-ne0
 returns-then-placed-ne0 c =
     let j = judged c.args.bytes.now c.args.at c.args.seen.previous c.stands_after.ensures c.command_size.ensures c.command_refusal-placed.ensures in
-    λ reg p f h. common-refused fresh (schemeRows reg) c.args.bytes.now p c.args.at _ refl _ (rw (ap (λ x. x.previous) f) (j reg)) c.if-placed-ne0.true
+    λ reg p f h. common_refused fresh (scheme_rows reg) c.args.bytes.now p c.args.at _ refl _ (rw (ap (λ x. x.previous) f) (j reg)) c.if-placed-ne0.true
 
 pub u8_at-l-requires : goal.u8_at-l-requires
 unfolding row_of total
@@ -74,19 +74,19 @@ u8_at-r-requires-in-34 c =
     omega (arith, room c.args.bytes.now c.args.at c.args.seen j c.if-placed-ne0.false 0x22 3 c.in-34.is refl)
 
 pub returns-in-33 : goal.returns-in-33
-unfolding row_of operandsAt
+unfolding row_of operands_at
 returns-in-33 c =
     let j = judged c.args.bytes.now c.args.at c.args.seen.previous c.stands_after.ensures c.command_size.ensures c.command_refusal-placed.ensures in
-    λ reg p f h. c.product_refusal.ensures ∙ rw (← f, c.u8_at-r.ensures, c.u8_at-l.ensures) (product-in reg.choices p.parsed _ h _ _ ∙ own _ _ c.args.seen j c.if-placed-ne0.false reg p f 0x21 c.in-33.is)
+    λ reg p f h. c.product_refusal.ensures ∙ rw (← f, c.u8_at-r.ensures, c.u8_at-l.ensures) (product_in reg.choices p.parsed _ h _ _ ∙ own _ _ c.args.seen j c.if-placed-ne0.false reg p f 0x21 c.in-33.is)
 
 pub returns-in-34 : goal.returns-in-34
-unfolding row_of operandsAt
+unfolding row_of operands_at
 returns-in-34 c =
     let j = judged c.args.bytes.now c.args.at c.args.seen.previous c.stands_after.ensures c.command_size.ensures c.command_refusal-placed.ensures in
-    λ reg p f h. c.split_refusal.ensures ∙ rw (← f, c.u8_at-r-in-34.ensures, c.u8_at-l-in-34.ensures) (split-in reg.choices p.parsed _ h _ _ _ _ _ ∙ own _ _ c.args.seen j c.if-placed-ne0.false reg p f 0x22 c.in-34.is)
+    λ reg p f h. c.split_refusal.ensures ∙ rw (← f, c.u8_at-r-in-34.ensures, c.u8_at-l-in-34.ensures) (split_in reg.choices p.parsed _ h _ _ _ _ _ ∙ own _ _ c.args.seen j c.if-placed-ne0.false reg p f 0x22 c.in-34.is)
 
 pub returns-in_default : goal.returns-in_default
-unfolding row_of operandsAt
+unfolding row_of operands_at
 returns-in_default c =
     let j = judged c.args.bytes.now c.args.at c.args.seen.previous c.stands_after.ensures c.command_size.ensures c.command_refusal-placed.ensures in
     λ reg p f h. c.end_refusal.ensures ∙ rw (← f) (own _ _ c.args.seen j c.if-placed-ne0.false reg p f 0x2F (end c.args.bytes.now c.args.at c.args.seen j c.if-placed-ne0.false reg (λ e. omega arith) (λ e. omega arith)))

@@ -3,8 +3,8 @@ use native.Mathlib.Nat.{add-zero, add_assoc}
 use native.Mathlib.Omega.{arith}
 use native.Mathlib.Numerals.{add-one}
 use Rattle.scheme.specs.Scheme.{left}
-use Rattle.scheme.proofs.Variables.{left-falls}
-use Rattle.scheme.proofs.Sets.{left_at, right-at, sets-product}
+use Rattle.scheme.proofs.Variables.{left_falls}
+use Rattle.scheme.proofs.Sets.{left_at, right_at, sets_product}
 use Rattle.scheme.proofs.variable_sets.sets_of.Goals as goal
 
 pub loop-k-init : goal.loop-k-init
@@ -16,8 +16,8 @@ loop-k-preserved c =
     let s = c.args.scheme in
     let k = c.loop-k.k in
     let p = c.requires.products (n + k) (omega arith) (omega arith) in
-    let l : left n s (n + k) < n + k = left-falls n s c.requires.products (n + k) (omega arith) (omega arith) in
+    let l : left n s (n + k) < n + k = left_falls n s c.requires.products (n + k) (omega arith) (omega arith) in
     record {
       within = omega arith;
-      so_far = rw (c.union_of.ensures, ← (add_assoc n k 1), add-one (n + k)) (sets-product c.loop-k.invariant.so_far _ _ (left_at n s k) (right-at n s k) (omega arith) (omega arith) (rw left_at at l) (rw right-at at p.falls));
+      so_far = rw (c.union_of.ensures, ← (add_assoc n k 1), add-one (n + k)) (sets_product c.loop-k.invariant.so_far _ _ (left_at n s k) (right_at n s k) (omega arith) (omega arith) (rw left_at at l) (rw right_at at p.falls));
     }

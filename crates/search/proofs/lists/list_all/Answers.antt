@@ -2,8 +2,8 @@
 use native.Mathlib.Omega.{arith}
 use mathlib.Core.Path.{◌∙◌}
 use lib.ListN.{length-set}
-use Rattle.search.specs.Lent.{termsOf}
-use Rattle.search.proofs.Listing.{all-next}
+use Rattle.search.specs.Lent.{terms_of}
+use Rattle.search.proofs.Listing.{all_next}
 use Rattle.search.proofs.lists.list_all.Goals as goal
 
 pub loop-k-preserved : goal.loop-k-preserved
@@ -17,5 +17,5 @@ loop-k-preserved c =
       sets_len = t.auto.sets ∙ h.sets_len;
       amounts_len = t.auto.amounts ∙ h.amounts_len;
       counts_len = length-set l.counts l.k t.result ∙ h.counts_len;
-      listed = all-next (termsOf a.terms a.masks.now a.coefficients.now) c.requires.small l.sets _ l.amounts _ l.counts l.k t.result (omega arith) h.listed t.ensures.kept t.ensures.kept_2 t.ensures.listed_under;
+      listed = all_next (terms_of a.terms a.masks.now a.coefficients.now) c.requires.small l.sets _ l.amounts _ l.counts l.k t.result (omega arith) h.listed t.ensures.kept t.ensures.kept_2 t.ensures.listed_under;
     }

@@ -6,10 +6,10 @@ use lib.IntN.{pos}
 use lib.ListN.{length, length-set}
 use mir.Syntax.{w32}
 use mir.Val.{to_z, of_z}
-use Rattle.integers.proofs.Machine.{read-signed}
-use Rattle.register.specs.Limits.{maxTerms}
-use Rattle.search.specs.Lent.{termsOf, mask_of, coefficientOf, isListed}
-use Rattle.search.proofs.Listing.{kept_next, listed-none, listed_next}
+use Rattle.integers.proofs.Machine.{read_signed}
+use Rattle.register.specs.Limits.{max_terms}
+use Rattle.search.specs.Lent.{terms_of, mask_of, coefficient_of, is_listed}
+use Rattle.search.proofs.Listing.{kept_next, listed_none, listed_next}
 use Rattle.search.proofs.lists.list_terms.Goals as goal
 
 pub loop-t-init : goal.loop-t-init
@@ -17,7 +17,7 @@ loop-t-init c = record {
   within = omega arith;
   sets_len = c.requires.sets_len;
   amounts_len = c.requires.amounts_len;
-  listed = listed-none _ _ _ _ _;
+  listed = listed_none _ _ _ _ _;
   kept_sets = λ p l. refl;
   kept_amounts = λ p l. refl;
 }
@@ -27,14 +27,14 @@ loop-t-preserved c =
     let l = c.loop-t in
     let h = l.invariant in
     let a = c.args in
-    let r = termsOf a.terms a.masks.now a.coefficients.now in
-    let from = a.k * maxTerms in
+    let r = terms_of a.terms a.masks.now a.coefficients.now in
+    let from = a.k * max_terms in
     let w = c.requires.small in
-    let room : from + l.count < length l.sets = omega (arith, h.listed.few, w.count-within) in
-    let room' : from + l.count < length l.amounts = omega (arith, h.listed.few, w.count-within) in
-    let small = w.coefficients-within l.t in
-    let read : to_z w32 (of_z w32 (coefficientOf r l.t)) ≡ coefficientOf r l.t = read-signed w32 (coefficientOf r l.t) (omega arith) in
-    let told : c.is_listed.result ≡ isListed a.k (mask_of r l.t) (coefficientOf r l.t) = c.is_listed.ensures ∙ ap (isListed a.k (mask_of r l.t)) read in
+    let room : from + l.count < length l.sets = omega (arith, h.listed.few, w.count_within) in
+    let room' : from + l.count < length l.amounts = omega (arith, h.listed.few, w.count_within) in
+    let small = w.coefficients_within l.t in
+    let read : to_z w32 (of_z w32 (coefficient_of r l.t)) ≡ coefficient_of r l.t = read_signed w32 (coefficient_of r l.t) (omega arith) in
+    let told : c.is_listed.result ≡ is_listed a.k (mask_of r l.t) (coefficient_of r l.t) = c.is_listed.ensures ∙ ap (is_listed a.k (mask_of r l.t)) read in
     record {
       within = omega arith;
       sets_len = length-set l.sets (from + l.count) _ ∙ h.sets_len;

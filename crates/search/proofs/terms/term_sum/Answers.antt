@@ -4,18 +4,18 @@ use mathlib.Core.Bool.{true, false}
 use mir.Syntax.{w32}
 use mir.Facts.{to_z-of_z}
 use borrow.Author.Tests.{eq-eqb, ne_eqb}
-use Rattle.sets.specs.Sets.{isSubset}
-use Rattle.search.specs.Lent.{termLost}
+use Rattle.sets.specs.Sets.{is_subset}
+use Rattle.search.specs.Lent.{term_lost}
 use Rattle.search.proofs.terms.term_sum.Goals as goal
 
 pub returns-then-fed-mask : goal.returns-then-fed-mask
-unfolding isSubset
+unfolding is_subset
 returns-then-fed-mask c =
-    let fed : isSubset c.args.mask c.args.fed ≡ true = eq-eqb _ _ c.if-fed-mask.true in
+    let fed : is_subset c.args.mask c.args.fed ≡ true = eq-eqb _ _ c.if-fed-mask.true in
     rw fed (to_z-of_z c.ranges.coefficient)
 
 pub returns : goal.returns
-unfolding isSubset
+unfolding is_subset
 returns c =
-    let unfed : isSubset c.args.mask c.args.fed ≡ false = ne_eqb _ _ c.if-fed-mask.false in
-    rw unfed (to_z-of_z {w = w32} (record { sfits = c.lost_by.type_inv }) ∙ c.lost_by.ensures ∙ ap (λ x. termLost x c.args.mask c.args.possible) (to_z-of_z c.ranges.coefficient))
+    let unfed : is_subset c.args.mask c.args.fed ≡ false = ne_eqb _ _ c.if-fed-mask.false in
+    rw unfed (to_z-of_z {w = w32} (record { sfits = c.lost_by.type_inv }) ∙ c.lost_by.ensures ∙ ap (λ x. term_lost x c.args.mask c.args.possible) (to_z-of_z c.ranges.coefficient))
