@@ -6,5 +6,5 @@ use console::MAX_VISITS;
 use std::io;
 
 fn main(rt: HostRuntime) -> io::Result<()> {
-    console::print_cheapest(&rt, MAX_VISITS)
+    console::print_cheapest(&mut rt.reader(), &mut io::writer(&rt), MAX_VISITS)
 }

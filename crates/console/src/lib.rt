@@ -82,25 +82,23 @@ fn read_full<R: Read>(input: &mut R, buffer: &mut [u8]) -> io::Result<usize>
     Ok(done)
 }
 
-// Reads a job and prints its lines. What a job leads to stands in fewer bytes (`reach_is` in job/proofs/Prefix) than are read, so
-// what stands past these makes no difference.
-pub fn print_listing(rt: &(impl Input + Print)) -> io::Result<()> {
-    let mut input = rt.reader();
+// Reads a job from one place and prints its lines to another. What a job leads to stands in fewer bytes (`reach_is` in
+// job/proofs/Prefix) than are read, so what stands past these makes no difference.
+pub fn print_listing<R: Read, W: Write>(input: &mut R, output: &mut W) -> io::Result<()> {
     let mut job = [0u8; INPUT];
-    let n = read_full(&mut input, &mut job)?;
+    let n = read_full(input, &mut job)?;
     let mut text = [0u8; TEXT];
     let checked = lines_of(&job[..n], &mut text);
-    io::writer(rt).write_all(&text[..checked.count])
+    output.write_all(&text[..checked.count])
 }
 
 // Reads a job and prints the lines that its supplier may read. What stands past the bytes read makes no difference to these either.
-pub fn print_supplier_listing(rt: &(impl Input + Print)) -> io::Result<()> {
-    let mut input = rt.reader();
+pub fn print_supplier_listing<R: Read, W: Write>(input: &mut R, output: &mut W) -> io::Result<()> {
     let mut job = [0u8; INPUT];
-    let n = read_full(&mut input, &mut job)?;
+    let n = read_full(input, &mut job)?;
     let mut text = [0u8; TEXT];
     let count = supplier_lines(&job[..n], &mut text);
-    io::writer(rt).write_all(&text[..count])
+    output.write_all(&text[..count])
 }
 
 // Writes the lines of what the search call answered for a register at the front. Returns their count of bytes.
@@ -132,13 +130,16 @@ pub fn cheapest_lines(register: &[u8], limit: u32, text: &mut [u8]) -> usize
     put_search(read.register, answer, text)
 }
 
-// Reads a register and prints the lines of its cheapest plan. What a register leads to stands in fewer bytes (`lines_prefix` and
-// `reach_is` in proofs/Prefix) than are read, so what stands past these makes no difference.
-pub fn print_cheapest(rt: &(impl Input + Print), limit: u32) -> io::Result<()> {
-    let mut input = rt.reader();
+// Reads a register from one place and prints the lines of its cheapest plan to another. What a register leads to stands in fewer
+// bytes (`lines_prefix` and `reach_is` in proofs/Prefix) than are read, so what stands past these makes no difference.
+pub fn print_cheapest<R: Read, W: Write>(
+    input: &mut R,
+    output: &mut W,
+    limit: u32,
+) -> io::Result<()> {
     let mut register = [0u8; INPUT];
-    let n = read_full(&mut input, &mut register)?;
+    let n = read_full(input, &mut register)?;
     let mut text = [0u8; TEXT];
     let count = cheapest_lines(&register[..n], limit, &mut text);
-    io::writer(rt).write_all(&text[..count])
+    output.write_all(&text[..count])
 }

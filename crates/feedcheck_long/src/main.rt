@@ -5,5 +5,5 @@
 use std::io;
 
 fn main(rt: HostRuntime) -> io::Result<()> {
-    console::print_listing(&rt)
+    console::print_listing(&mut rt.reader(), &mut io::writer(&rt))
 }
