@@ -15,5 +15,8 @@ pub mod Misfit
 pub mod RowAbsent
 pub mod Feedings
 pub mod Rows
+pub mod BeforeRows
+pub mod BeforeRowMultipliers
+pub mod EveryPlan
 pub mod Suppliers
 pub mod SupplierListing

@@ -148,7 +148,7 @@ misfit_in_job job table supplier tally position k l m = (table_enough job table 
 
 -- a number that no row's checks have
 
-abbrev Never : {R : Type 0} → ℕ → Row R → Type 0
+abbrev pub Never : {R : Type 0} → ℕ → Row R → Type 0
 Never {R} n row = (r : R) (xs : List ℕ) → All (λ c. c.number ≡ n → ⊥) (row.checks r xs)
 
 no_fail : (n : ℕ) (cs : List Check) → All (λ c. c.number ≡ n → ⊥) cs → Fails n cs → ⊥
@@ -164,7 +164,7 @@ module _ {R : Type 0} (n : ℕ) where
       cond_cases (λ (x : Row R). All (λ c. c.number ≡ n → ⊥) (x.checks r xs)) (eqb b row.byte) row (row_of rows b) (λ t. h.0 r xs) (λ t. row_never rows h.1 b r xs)
 
   -- is answered nowhere
-  never : (fresh : R) (rows : List (Row R)) → All (Never n) rows → 2 < n → (s : List ℕ) (at : ℕ) → RefusedAt (part_of fresh rows) s n at → ⊥
+  pub never : (fresh : R) (rows : List (Row R)) → All (Never n) rows → 2 < n → (s : List ℕ) (at : ℕ) → RefusedAt (part_of fresh rows) s n at → ⊥
   unfolding checks_at command_checks
   never fresh rows h l s at r = go r.lowest
     where
@@ -176,10 +176,10 @@ module _ {R : Type 0} (n : ℕ) where
           let b = get_or s at 0 in
           no_fail n _ (row_never rows h b r.read.parsed (operands_at (row_of rows b).widths s (at + 1))) f
 
--- 15 is none of parts 1 to 3
+-- none above 14 is of parts 1 to 3
 
-module _ (n : ℕ) (e : n ≡ 15) where
-  register_never : All (Never n) register_rows
+module _ (n : ℕ) (l : 14 < n) where
+  pub register_never : All (Never n) register_rows
   unfolding base_checks choice_checks term_checks window_checks row_checks length_checks RF.end_checks
   register_never =
       (λ r xs. (λ k. absurd (omega arith)) ▹ tt)
@@ -297,7 +297,7 @@ only_misfit t s b b' e = go (cost_refusals t s b b' (λ z. absurd (omega arith))
     go (inl f) = absurd (in_register f.refused)
       where
         in_register : RefusedByItself register_part t a.number a.position → ⊥
-        in_register (inl r) = never a.number _ register_rows (register_never a.number e) (omega arith) t a.position r
+        in_register (inl r) = never a.number _ register_rows (register_never a.number (omega arith)) (omega arith) t a.position r
         in_register (inr (z, _)) = omega arith
     go (inr f) =
         let reg = f.before.reg in
@@ -324,14 +324,14 @@ only_misfit_in_job s table supplier tally b l e = go (job_refusals.refused s b t
         ⊎ (FromScheme a.number a.part a.position s table after
         ⊎ (FromCertificate a.number a.part a.position s table after
         ⊎ FromPlan a.number a.part a.position s table after)) → MisfitJob s a.position
-    go (inl f) = absurd (never a.number _ register_rows (register_never a.number e) (omega arith) s a.position f.refused)
+    go (inl f) = absurd (never a.number _ register_rows (register_never a.number (omega arith)) (omega arith) s a.position f.refused)
     go (inr (inl f)) =
         let k = f.behind in
-        absurd (never a.number _ (scheme_rows f.before.reg) (scheme_never a.number e f.before.reg) (omega arith) k.rest k.at k.refused)
+        absurd (never a.number _ (scheme_rows f.before.reg) (scheme_never a.number (omega arith) f.before.reg) (omega arith) k.rest k.at k.refused)
     go (inr (inr (inl f))) = absurd (in_certificate f.behind.refused)
       where
         in_certificate : CertificateRefused (coefficient f.before.reg) f.before.reg f.before.sch f.behind.rest a.number f.behind.at → ⊥
-        in_certificate (inl r) = never a.number _ (certificate_rows f.before.reg f.before.sch) (certificate_never a.number e f.before.reg f.before.sch) (omega arith) f.behind.rest f.behind.at r
+        in_certificate (inl r) = never a.number _ (certificate_rows f.before.reg f.before.sch) (certificate_never a.number (omega arith) f.before.reg f.before.sch) (omega arith) f.behind.rest f.behind.at r
         in_certificate (inr short) = omega (arith, short.nine)
     go (inr (inr (inr f))) =
         let reg = f.before.reg in

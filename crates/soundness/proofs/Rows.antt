@@ -1,5 +1,6 @@
 -- Rows, of our calls.
-use Prim.Native.Nat.{ℕ}
+use Prim.Native.Nat.{ℕ, ◌^◌, ◌<◌}
+use native.Mathlib.Omega.{arith}
 use mathlib.Core.Path.{◌≡◌, refl, sym, ◌∙◌, ap}
 use mathlib.Core.Logic.{inl, inr, ⊎_elim}
 use mathlib.Core.List.{List, ◌++◌, append-nil}
@@ -15,6 +16,8 @@ use Rattle.register.specs.Valid.{Valid}
 use Rattle.register.specs.Encoding.{encode_base, encode_length, encode_with_length, encode_without_length, encode_register, SaysRow}
 use Rattle.register.proofs.Canonical.{canonical}
 use Rattle.register.proofs.BeforeRows.{as_before_rows_in_job, as_before_rows, no_rows}
+use Rattle.plan.specs.Valid as P
+use Rattle.plan.proofs.Answers.{cost_encodings}
 use Rattle.plan.proofs.Fits.{every_fits}
 use Rattle.soundness.specs.Calls.{register_call, cost_call, check_call, job_call, listing_call}
 use Rattle.soundness.specs.Windows.{without_rows}
@@ -130,6 +133,11 @@ module _ (s : List ℕ) (none : SaysRow s → ⊥) where
       go (refused n at) e = refl
       go (accepted p end) e = ap (λ w. set_rows p.parsed w.0 w.1 w.2) (sym (no_rows s none e))
 
+-- ---- plans of a register without rows
+
+every_valid : (reg : Register) → reg.rows ≡ 0 → (fed : ℕ) → fed < 2 ^ reg.choices → P.Valid reg fed
+every_valid reg none fed l = record { inside = l; fits = every_fits reg none fed }
+
 -- ---- the promises
 
 pub rows_kept : RowsKept register_call cost_call check_call job_call listing_call
@@ -152,6 +160,7 @@ rows_kept = record {
   rows_named = rows_named;
   every_plan = every_fits;
   none_said = λ register none. sym (ap (λ r. r.rows) (answered_without register none));
+  cost_every = λ register plan reg fed p none l e. cost_encodings register plan reg fed p.conditions p.bytes (every_valid reg none fed l) e;
   read_as_before = λ register none. (ap register_answer (as_before_rows register none), answered_without register none);
 }
 
@@ -164,4 +173,8 @@ kept_before_rows = record {
         (λ p. (before_none reg p.conditions, ⊎_elim (λ e. inl (e ∙ with_length reg)) (λ (day, e). inr (day, e ∙ without_length reg)) (to p.bytes))),
         (λ (b, e). record { conditions = with_none reg b; bytes = from (⊎_elim (λ e. inl (e ∙ sym (with_length reg))) (λ (day, e). inr (day, e ∙ sym (without_length reg))) e) }),
       );
+  part_4 = λ reg plan fed none. (
+    (λ p. let l = p.conditions.inside in (omega arith, p.bytes)),
+    (λ (l, e). record { conditions = every_valid reg none fed (omega arith); bytes = e }),
+  );
 }

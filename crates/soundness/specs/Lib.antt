@@ -13,5 +13,7 @@ pub mod Windows
 pub mod DayLengths
 pub mod Search
 pub mod Rows
+pub mod BeforeRows
+pub mod BeforeRowMultipliers
 pub mod Suppliers
 pub mod SupplierListing

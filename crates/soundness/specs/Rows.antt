@@ -22,6 +22,7 @@ use Rattle.plan.specs.declared.CostAnswer.{CostAnswer}
 use Rattle.plan.specs.Plan.{cost}
 use Rattle.plan.specs.Fits.{Fits, fed_sum}
 use Rattle.plan.specs.Encoding.{encode_plan}
+use Rattle.plan.specs.Encoding as PE
 use Rattle.scheme.specs.declared.Scheme.{Scheme}
 use Rattle.scheme.specs.Filling.{Filling, factor, induced}
 use Rattle.scheme.specs.Function.{g}
@@ -41,7 +42,7 @@ use Rattle.job.specs.Tally.{suppliers, with_refused, moved}
 use Rattle.listing.specs.Listing.{fed_line}
 use Rattle.soundness.specs.Calls.{RegisterCall, CostCall, CheckCall, JobCall, ListingCall}
 use Rattle.soundness.specs.Parts.{Part1, Part2, Part3, Part4}
-use Rattle.soundness.specs.Acceptance.{register_accepted}
+use Rattle.soundness.specs.Acceptance.{register_accepted, cost_accepted}
 use Rattle.soundness.specs.Refusals.{Before4}
 use Rattle.soundness.specs.Jobs.{Accepted, Listed, shown, AcceptedJob}
 use Rattle.soundness.specs.Windows.{without_rows}
@@ -241,13 +242,18 @@ pub record RowsKept (register_call : RegisterCall) (cost_call : CostCall) (check
   -- without rows every plan fits, as where the bytes say no row
   pub every_plan : (reg : Register) → reg.rows ≡ 0 → (plan : ℕ) → Fits reg plan
   pub none_said : (register : List ℕ) → (SaysRow register → ⊥) → (register_call register).register.rows ≡ 0
+  -- and every set of the choices is accepted for its cost, as before there were rows
+  pub cost_every : (register plan : List ℕ) (reg : Register) (fed : ℕ) → Part1 register reg → reg.rows ≡ 0 → fed < 2 ^ reg.choices → PE.Encodes reg fed plan →
+      cost_call register plan ≡ cost_accepted (cost (coefficient reg) reg fed)
   -- bytes that say no row are answered as they were, accepted or refused, with no row
   pub read_as_before : (register : List ℕ) → (SaysRow register → ⊥) →
       (register_call register ≡ register_answer (by_itself_before_rows register)) × (without_rows (register_call register).register ≡ (register_call register).register)
 
 -- A register that says no row is what it was, of no call in particular: each call reads part 1 at the front of a job or by itself, and
--- what is said of part 1 has its earlier form.
+-- what is said of part 1, and of part 4 with such a register, has its earlier form.
 pub record AsBeforeRows : Type 0 where
   pub in_job : (s : List ℕ) → (SaysRow s → ⊥) → register_in_job s ≡ in_job_before_rows s
   pub by_itself : (s : List ℕ) → (SaysRow s → ⊥) → register_by_itself s ≡ by_itself_before_rows s
   pub part_1 : (register : List ℕ) (reg : Register) → Part1 register (without_rows reg) ↔ (ValidBeforeRows reg × EncodesBeforeRows reg register)
+  -- part 4 of a register without rows: each choice that is fed is one of the register's, and nothing more is asked of the plan
+  pub part_4 : (reg : Register) (plan : List ℕ) (fed : ℕ) → reg.rows ≡ 0 → Part4 reg plan fed ↔ ((fed < 2 ^ reg.choices) × PE.Encodes reg fed plan)
