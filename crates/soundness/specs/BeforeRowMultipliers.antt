@@ -1,6 +1,6 @@
 -- A certificate without a multiplier `3B`: part 3 as it stood before there were rows, the bound that is then one over every plan, and
--- our own certificate, which has no `3B`. Of the definitions those that a `3B` changed are written here as they were; the others, among
--- them the bytes of a certificate, are what they were.
+-- our own certificate, which has no `3B`. Of the definitions those that a `3B` changed are written here as they were, with names of one
+-- line written out; the others, among them the bytes of a certificate, are what they were.
 use Rattle.std.specs.Prelude.{ℕ, ◌≤◌, ◌<◌, ◌≡◌, ◌↔◌, Bool, true, ◌&&◌, cond, ltb, leb, eqb, ℤ, pos, neg_ℤ, nat_abs, ◌-ℤ◌, ◌≤ℤ◌, length, get_or}
 use mathlib.Core.List.{List, [], ◌∷◌, ◌++◌, flat_map}
 use Rattle.std.specs.Int.Bits.{bit_or}
@@ -167,7 +167,8 @@ pub record BoundsEveryPlan (check_call : CheckCall) (plain_call : PlainCall) (jo
       (plan : Plan parts.register.choices) → (job_call job table supplier tally).0.bound ≤ℤ plan_cost parts.register plan.fed
   -- our own certificate has no `3B`, whatever register and scheme it is of
   pub own : (reg : Register) (sch : Scheme) → NoRowMultiplier (own_certificate reg sch)
-  -- so the bound that the check answers for the bytes that our own call hands back is one over every plan
+  -- so the bound that the check, lent a table that is long enough, answers for the bytes that our own call hands back is one over
+  -- every plan
   pub of_own : (register scheme lent : List ℕ) (table : List ℤ) (reg : Register) (sch : Scheme) → Part1 register reg → Part2 reg scheme sch →
       (plain_call register scheme lent).0.number ≡ 0 → table_numbers ≤ length table →
       (plan : Plan reg.choices) → (check_call register scheme (front (plain_call register scheme lent)) table).0.bound ≤ℤ plan_cost reg plan.fed
