@@ -9,4 +9,5 @@ pub mod Grammar
 pub mod Walk
 pub mod Refused
 pub mod Outcome
+pub mod Results
 pub mod Writer

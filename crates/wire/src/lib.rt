@@ -2,12 +2,19 @@
 
 #![tactic(auto)]
 
+mod endian;
+mod refusals;
+
 ghost use Rattle.std.specs.Prelude.{◌≡◌, cond, [], ◌+◌, ◌≤◌, ◌^◌, length, nat_abs};
 ghost use Rattle.std.specs.Int.{Width, w8, w16, w32, w64};
 ghost use mir.Val.{to_z, of_z, bits};
 ghost use Rattle.wire.specs.Number.{nat_at, int_at, put_at};
 ghost use Rattle.wire.specs.Checks.{command_checks, refusal};
 ghost use Rattle.wire.specs.Writer.{refused_answer, written_answer};
+ghost use Rattle.wire.specs.Results.{number_of};
+
+pub use endian::{FromBytes, ToBytes};
+pub use refusals::{Fault, Read, Refusal, Refused, by_itself, check_command, refuse_if};
 
 // The answer of a call that writes bytes into a lent buffer: a refusal's number, part and position, or zeros and the count of
 // bytes written.
@@ -28,6 +35,17 @@ impl WriterAnswer {
             number: number,
             part: part,
             position: position,
+            count: 0,
+        }
+    }
+
+    pub fn from_fault(fault: Fault) -> WriterAnswer
+        ensures { result ≡ refused_answer (number_of fault.refusal) fault.part fault.position }
+    {
+        WriterAnswer {
+            number: fault.refusal.number(),
+            part: fault.part,
+            position: fault.position,
             count: 0,
         }
     }
