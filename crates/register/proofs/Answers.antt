@@ -1,33 +1,34 @@
--- The answer of the register by itself, from that of the register in a job.
-use mathlib.Core.Path.{◌≡◌, refl, sym, ap}
+-- The answer of the register by itself, from its outcome.
+use mathlib.Core.Path.{◌≡◌, refl, ap}
 use mathlib.Core.List.{List}
-use Prim.Native.Nat.{ℕ, ◌<◌, ◌≤◌}
-use lib.ListN.{length}
-use Rattle.wire.specs.Part.{accepted}
-use Rattle.wire.proofs.Part.{read_part_numbered}
-use Rattle.wire.proofs.Outcome.{Tells, told_refused, told_read, itself_refused, itself_past, itself_whole}
-use Rattle.register.specs.declared.RegisterRead.{RegisterRead}
+use Prim.Native.Nat.{ℕ}
+use Rattle.std.proofs.Common.{Result, Ok, Err}
+use Rattle.wire.specs.declared.refusals.Fault.{Fault}
+use Rattle.wire.specs.Outcome.{Outcome, refuses, accepts, given}
+use Rattle.wire.specs.Part.{Reading, refused, accepted}
+use Rattle.wire.specs.Rows.{Progress}
+use Rattle.wire.specs.Results.{number_of, outcome_of}
+use Rattle.register.specs.declared.Register.{Register}
 use Rattle.register.specs.declared.RegisterAnswer.{RegisterAnswer}
-use Rattle.register.specs.Format.{register_part, register_in_job, register_by_itself}
-use Rattle.register.specs.Answer.{refused_answer, register_read, register_answer}
+use Rattle.register.specs.Register.{fresh}
+use Rattle.register.specs.Format.{register_by_itself}
+use Rattle.register.specs.Opening.{open_register}
+use Rattle.register.specs.Answer.{register_answer}
 
-pub register_tells : Tells register_read (λ r. r.number) (λ r. r.position)
-register_tells = record { refusals = λ n at. (refl, refl); readings = λ p end. (refl, refl) }
+-- what a call answers, by what the register's outcome is
+abbrev pub answer_of : Result Register Fault → RegisterAnswer
+answer_of (Ok r) = record { number = 0; part = 0; position = 0; register = r }
+answer_of (Err fault) = record { number = number_of fault.refusal; part = fault.part; position = fault.position; register = fresh }
 
-module _ (s : List ℕ) (part : RegisterRead) (e : part ≡ register_read (register_in_job s)) where
-  pub answer_refused : (part.number ≡ 0 → ⊥) → refused_answer part.number part.position ≡ register_answer (register_by_itself s)
-  unfolding register_by_itself
-  answer_refused h = sym (ap register_answer (itself_refused s (told_refused register_read _ _ register_tells part (register_in_job s) e h)))
-
-  module _ (h : part.number ≡ 0) where
-    pub register_went : (previous : ℕ) × (register_in_job s ≡ accepted (record { previous = previous; parsed = part.register }) part.position)
-    unfolding register_in_job
-    register_went = told_read register_read _ _ (λ r. r.register) register_tells (λ p end. refl) part (register_in_job s) e (read_part_numbered register_part s) h
-
-    pub answer_past : part.position < length s → refused_answer 12 part.position ≡ register_answer (register_by_itself s)
-    unfolding register_by_itself
-    answer_past l = sym (ap register_answer (itself_past s register_went.1 l))
-
-    pub answer_accepted : length s ≤ part.position → ◌≡◌ {A = RegisterAnswer} (record { number = 0; part = 0; position = 0; register = part.register }) (register_answer (register_by_itself s))
-    unfolding register_by_itself
-    answer_accepted l = sym (ap register_answer (itself_whole s register_went.1 l))
+pub answers : (s : List ℕ) (result : Result Register Fault) → outcome_of result ≡ open_register s → answer_of result ≡ register_answer (register_by_itself s)
+answers s result e = by (register_by_itself s) result e
+  where
+    by : (x : Reading (Progress Register)) (result : Result Register Fault) → outcome_of result ≡ given 1 x → answer_of result ≡ register_answer x
+    by (refused n at) (Ok r) q = cc
+    by (refused n at) (Err fault) q =
+        let a : number_of fault.refusal ≡ n = cc in
+        let b : fault.part ≡ 1 = cc in
+        let d : fault.position ≡ at = cc in
+        rw (a, b, d)
+    by (accepted p end) (Ok r) q = let a : r ≡ p.parsed = cc in rw a
+    by (accepted p end) (Err fault) q = cc

@@ -6,25 +6,9 @@ use Rattle.wire.specs.Number.{int_at}
 use Rattle.wire.specs.Part.{Reading, refused, accepted}
 use Rattle.wire.specs.Rows.{Progress}
 use Rattle.register.specs.declared.Register.{Register}
-use Rattle.register.specs.declared.Seen.{Seen}
-use Rattle.register.specs.declared.RegisterRead.{RegisterRead}
 use Rattle.register.specs.declared.RegisterAnswer.{RegisterAnswer}
-use Rattle.register.specs.Limits.{row_entries}
-use Rattle.register.specs.Register.{tank, minute, mask, fresh}
-
--- what the checks of a command look at, of what has been read so far
-abbrev pub seen_of : Progress Register → Seen
-seen_of p = let r = p.parsed in record {
-  previous = p.previous;
-  choices = r.choices;
-  terms = r.terms;
-  tank = tank r (r.choices - 1);
-  minute = minute r (r.choices - 1);
-  mask = mask r (r.terms - 1);
-  windows = r.windows;
-  day_length = r.day_length;
-  rows = r.rows;
-}
+use Rattle.register.specs.Limits.{max_choices, max_terms, max_windows, row_entries}
+use Rattle.register.specs.Register.{tank, window_tank, fresh}
 
 -- the entries of a row at a position, one byte each
 abbrev pub entries_at : List ℕ → ℕ → List ℤ
@@ -34,24 +18,15 @@ entries_at s at = join_below row_entries (λ j. int_at w8 s (at + j) ∷ [])
 abbrev pub NoFall : ℕ → List ℕ → Type 0
 NoFall n xs = (i j : ℕ) → i ≤ j → j < n → get_or xs i 0 ≤ get_or xs j 0
 
--- what has been seen, and the windows, whose tanks do not fall. The first `passed` of them are of tanks below the last choice's: a choice that
--- rises need not look at these
-pub record Given (p : Progress Register) (seen : Seen) (passed : ℕ) (tanks froms tos : List ℕ) : Type 0 where
-  pub seen_is : seen_of p ≡ seen
-  pub tanks_are : p.parsed.window_tanks ≡ tanks
-  pub froms_are : p.parsed.window_froms ≡ froms
-  pub tos_are : p.parsed.window_tos ≡ tos
-  pub no_fall : NoFall seen.windows tanks
-  pub earlier : (j : ℕ) → j < passed → (1 ≤ seen.choices) × (get_or tanks j 0 < seen.tank)
-
--- for the reader of a job: a refusal's number and position, or 0, the position past the end and the register
-
-abbrev pub refused_read : ℕ → ℕ → RegisterRead
-refused_read number at = record { number = number; position = at; register = fresh }
-
-abbrev pub register_read : Reading (Progress Register) → RegisterRead
-register_read (refused number at) = refused_read number at
-register_read (accepted p end) = record { number = 0; position = end; register = p.parsed }
+-- what the checks of a command look at: counts within the limits, and windows whose tanks do not fall. The first `passed` of them are of
+-- tanks below the last choice's: a choice that rises need not look at these
+pub record Given (r : Register) (passed : ℕ) : Type 0 where
+  pub few_choices : r.choices ≤ max_choices
+  pub few_terms : r.terms ≤ max_terms
+  pub few_windows : r.windows ≤ max_windows
+  pub within : passed ≤ r.windows
+  pub no_fall : NoFall r.windows r.window_tanks
+  pub earlier : (j : ℕ) → j < passed → (1 ≤ r.choices) × (window_tank r j < tank r (r.choices - 1))
 
 -- of the call: number, part and position of a refusal, other fields 0; or zeros and the register
 

@@ -3,33 +3,38 @@ ghost use Rattle.std.specs.Prelude.{◌≡◌, [], ◌∷◌, not, ◌||◌, eqb
 ghost use Rattle.integers.specs.Lists.{comes_before};
 ghost use Rattle.wire.specs.Checks.{refusal};
 ghost use Rattle.wire.specs.Part.{checks_at, size};
-ghost use Rattle.wire.specs.Rows.{Progress, is_among, row_of};
-ghost use Rattle.register.specs.Limits.{max_choices, max_windows};
+ghost use Rattle.wire.specs.Results.{number_in};
+ghost use Rattle.wire.specs.Rows.{is_among, row_of};
+ghost use Rattle.register.specs.Limits.{max_choices};
 ghost use Rattle.register.specs.Format.{base_checks, choice_checks, term_checks, window_checks, row_checks, length_checks, end_checks, register_rows, register_part};
 ghost use Rattle.register.specs.Answer.{Given};
 
+use super::Register;
 use super::rows::past_zero;
 use super::windows::may_feed;
-use super::{Register, Seen, last_of};
-use wire::{command_refusal, first_of};
+use wire::{FromBytes, Refusal, check_command, refuse_if};
 
-// The refusal of a base cost, or 0.
-fn base_refusal(base: i32) -> u8
-    ensures { result ≡ refusal (base_checks base) }
+#[tactic(auto, unfolding(wire::specs::Checks::refusal, crate::specs::Format::base_checks))]
+// A base cost.
+fn base_refusal(base: i32) -> Result<(), Refusal>
+    ensures { number_in result ≡ refusal (base_checks base) }
 {
-    first_of(Register::MAX_BASE < wire::magnitude(base as i64), 4, 0)
+    refuse_if(
+        Register::MAX_BASE < base.unsigned_abs(),
+        Refusal::OutOfRange,
+    )
 }
 
+#[tactic(auto, unfolding(integers::specs::Lists::comes_before))]
 // A tank with a second number does not come after the last of n others: by tank, then by the second number.
 fn pair_falls(n: usize, tank0: u16, second0: u16, tank: u16, second: u16) -> bool
     ensures { result ≡ not (eqb n 0 || comes_before (tank0 ∷ second0 ∷ []) (tank ∷ second ∷ [])) }
 {
-    let later = (tank0 < tank) | ((tank0 == tank) & (second0 < second));
-    !((n == 0) | later)
+    !((n == 0) | ((tank0, second0) < (tank, second)))
 }
 
-// The refusal of a choice after n others, the last of which is tank0 at minute0, on a day of this length, or 0; `may` where its tank
-// may be fed then.
+#[tactic(auto, unfolding(wire::specs::Checks::refusal, crate::specs::Format::choice_checks))]
+// A choice after n others, the last of which is tank0 at minute0, on a day of this length; `may` where its tank may be fed then.
 fn choice_refusal(
     length: u16,
     n: usize,
@@ -38,32 +43,35 @@ fn choice_refusal(
     tank: u16,
     minute: u16,
     may: bool,
-) -> u8
-    ensures { result ≡ refusal (choice_checks length n tank0 minute0 tank minute may) }
+) -> Result<(), Refusal>
+    ensures { number_in result ≡ refusal (choice_checks length n tank0 minute0 tank minute may) }
 {
     let out = (tank == 0) | (Register::MAX_TANK < tank) | (length <= minute);
     let falls = pair_falls(n, tank0, minute0, tank, minute);
-    first_of(
-        Register::MAX_CHOICES <= n,
-        3,
-        first_of(out, 4, first_of(falls, 7, first_of(!may, 13, 0))),
-    )
+    refuse_if(Register::MAX_CHOICES <= n, Refusal::TooMany)?;
+    refuse_if(out, Refusal::OutOfRange)?;
+    refuse_if(falls, Refusal::NotRising)?;
+    refuse_if(!may, Refusal::OutsideWindows)
 }
 
-// The refusal of a term after m others, the last of which has mask0, where there are n choices, or 0.
-fn term_refusal(n: usize, m: usize, mask0: u32, mask: u32, coefficient: i32) -> u8
+#[tactic(auto, unfolding(wire::specs::Checks::refusal, crate::specs::Format::term_checks))]
+// A term after m others, the last of which has mask0, where there are n choices.
+fn term_refusal(n: usize, m: usize, mask0: u32, mask: u32, coefficient: i32) -> Result<(), Refusal>
     requires { n ≤ max_choices }
-    ensures { result ≡ refusal (term_checks n m mask0 mask coefficient) }
+    ensures { number_in result ≡ refusal (term_checks n m mask0 mask coefficient) }
 {
-    let size = wire::magnitude(coefficient as i64);
-    let out = (size == 0) | (Register::MAX_COEFFICIENT < size);
+    let size = coefficient.unsigned_abs();
+    let outside = (size == 0) | (Register::MAX_COEFFICIENT < size);
     let unnamed = (mask == 0) | (1u64 << n <= mask as u64);
     let falls = !((m == 0) | (mask0 < mask));
-    let named = first_of(unnamed, 5, first_of(falls, 7, 0));
-    first_of(Register::MAX_TERMS <= m, 3, first_of(out, 4, named))
+    refuse_if(Register::MAX_TERMS <= m, Refusal::TooMany)?;
+    refuse_if(outside, Refusal::OutOfRange)?;
+    refuse_if(unnamed, Refusal::NotThere)?;
+    refuse_if(falls, Refusal::NotRising)
 }
 
-// The refusal of a window after k others, the last of which is tank0 from from0, on a day of this length, or 0.
+#[tactic(auto, unfolding(wire::specs::Checks::refusal, crate::specs::Format::window_checks))]
+// A window after k others, the last of which is tank0 from from0, on a day of this length.
 fn window_refusal(
     length: u16,
     k: usize,
@@ -72,8 +80,8 @@ fn window_refusal(
     tank: u16,
     from: u16,
     to: u16,
-) -> u8
-    ensures { result ≡ refusal (window_checks length k tank0 from0 tank from to) }
+) -> Result<(), Refusal>
+    ensures { number_in result ≡ refusal (window_checks length k tank0 from0 tank from to) }
 {
     let out = (tank == 0)
         | (Register::MAX_TANK < tank)
@@ -81,75 +89,61 @@ fn window_refusal(
         | (to == 0)
         | (length < to);
     let falls = pair_falls(k, tank0, from0, tank, from);
-    let misordered = first_of(to <= from, 6, first_of(falls, 7, 0));
-    first_of(Register::MAX_WINDOWS <= k, 3, first_of(out, 4, misordered))
+    refuse_if(Register::MAX_WINDOWS <= k, Refusal::TooMany)?;
+    refuse_if(out, Refusal::OutOfRange)?;
+    refuse_if(to <= from, Refusal::Misordered)?;
+    refuse_if(falls, Refusal::NotRising)
 }
 
-// The refusal of a row after k others, or 0; `zeros` where its entries past the choices are 0.
-fn row_refusal(k: usize, total: i16, zeros: bool) -> u8
-    ensures { result ≡ refusal (row_checks k total zeros) }
+#[tactic(auto, unfolding(wire::specs::Checks::refusal, crate::specs::Format::row_checks))]
+// A row after k others; `zeros` where its entries past the choices are 0.
+fn row_refusal(k: usize, total: i16, zeros: bool) -> Result<(), Refusal>
+    ensures { number_in result ≡ refusal (row_checks k total zeros) }
 {
-    let out = Register::MAX_ROW_TOTAL < wire::magnitude(total as i64);
-    first_of(
-        Register::MAX_ROWS <= k,
-        3,
-        first_of(out, 4, first_of(!zeros, 5, 0)),
-    )
+    refuse_if(Register::MAX_ROWS <= k, Refusal::TooMany)?;
+    refuse_if(
+        Register::MAX_ROW_TOTAL < total.unsigned_abs(),
+        Refusal::OutOfRange,
+    )?;
+    refuse_if(!zeros, Refusal::NotThere)
 }
 
-// The refusal of a day length, or 0.
-fn length_refusal(length: u16) -> u8
-    ensures { result ≡ refusal (length_checks length) }
+#[tactic(auto, unfolding(wire::specs::Checks::refusal, crate::specs::Format::length_checks))]
+// A day length.
+fn length_refusal(length: u16) -> Result<(), Refusal>
+    ensures { number_in result ≡ refusal (length_checks length) }
 {
     let known = (length == Register::SHORT_DAY)
         | (length == Register::USUAL_DAY)
         | (length == Register::LONG_DAY);
-    first_of(!known, 4, 0)
+    refuse_if(!known, Refusal::OutOfRange)
 }
 
-// The refusal of an end after n choices, or 0.
-fn end_refusal(n: usize) -> u8
-    ensures { result ≡ refusal (end_checks n) }
+#[tactic(auto, unfolding(wire::specs::Checks::refusal, crate::specs::Format::end_checks))]
+// The end after n choices.
+fn end_refusal(n: usize) -> Result<(), Refusal>
+    ensures { number_in result ≡ refusal (end_checks n) }
 {
-    first_of(n == 0, 3, 0)
+    refuse_if(n == 0, Refusal::TooMany)
 }
 
-// A term or the end may stand directly after a command: after each but the end.
-fn after_any(previous: u8) -> bool
-    ensures { result ≡ is_among previous (0x10 ∷ 0x11 ∷ 0x12 ∷ 0x13 ∷ 0x14 ∷ 0x18 ∷ []) }
-{
-    (previous == 0x10)
-        | ((previous == 0x11)
-            | ((previous == 0x12)
-                | ((previous == 0x13) | ((previous == 0x14) | (previous == 0x18)))))
-}
-
-// A row may stand directly after a command: after each but a term and the end.
-fn before_terms(previous: u8) -> bool
-    ensures { result ≡ is_among previous (0x10 ∷ 0x11 ∷ 0x13 ∷ 0x14 ∷ 0x18 ∷ []) }
-{
-    (previous == 0x10)
-        | ((previous == 0x11) | ((previous == 0x13) | ((previous == 0x14) | (previous == 0x18))))
-}
-
+#[tactic(auto, unfolding(wire::specs::Rows::row_of))]
 // A command may stand directly after another, or first where that is 0.
 fn stands_after(previous: u8, command: u8) -> bool
     ensures { result ≡ is_among previous (row_of register_rows command).follows }
 {
     match command {
         0x10 => previous == 0,
-        0x11 => {
-            (previous == 0x10) | ((previous == 0x11) | ((previous == 0x13) | (previous == 0x18)))
-        }
-        0x12 => after_any(previous),
-        0x13 => (previous == 0x10) | ((previous == 0x13) | (previous == 0x18)),
-        0x14 => before_terms(previous),
+        0x11 => [0x10, 0x11, 0x13, 0x18].contains(&previous),
+        0x12 | 0x1f => [0x10, 0x11, 0x12, 0x13, 0x14, 0x18].contains(&previous),
+        0x13 => [0x10, 0x13, 0x18].contains(&previous),
+        0x14 => [0x10, 0x11, 0x13, 0x14, 0x18].contains(&previous),
         0x18 => previous == 0x10,
-        0x1f => after_any(previous),
         _ => false,
     }
 }
 
+#[tactic(auto, unfolding(wire::specs::Rows::row_of, wire::specs::Part::total))]
 // The bytes of a command.
 pub fn command_size(command: u8) -> usize
     ensures { result ≡ size register_part command }
@@ -165,73 +159,75 @@ pub fn command_size(command: u8) -> usize
     }
 }
 
-// The refusal of the command at a position, or 0, by what has been seen and the windows, of which the first `passed` are of tanks
-// below the last choice's. Place and size first, then its operands.
-pub fn refusal_at<'a>(
+// The command at a position, by the register so far and the byte of the last command; the first `passed` windows are of tanks below the
+// last choice's. Place and size first, then its operands.
+pub fn refusal_at(
     bytes: &[u8],
     at: usize,
-    seen: Seen,
+    register: &Register,
+    previous: u8,
     passed: usize,
-    tanks: &'a [u16; Register::MAX_WINDOWS],
-    froms: &'a [u16; Register::MAX_WINDOWS],
-    tos: &'a [u16; Register::MAX_WINDOWS],
-) -> u8
+) -> Result<(), Refusal>
     requires at_in_bounds { at < length bytes.now }
-    requires counts_within { (seen.choices ≤ max_choices) × (passed ≤ seen.windows) × (seen.windows ≤ max_windows) }
-    ensures { (p : Progress Register) → Given p seen passed tanks.now froms.now tos.now → result ≡ refusal (checks_at register_part bytes.now p at) }
+    requires given { Given register.now passed }
+    ensures { number_in result ≡ refusal (checks_at register_part bytes.now (record { previous = previous; parsed = register.now }) at) }
 {
     let command = bytes[at];
-    let previous = seen.previous;
-    let placed = command_refusal(
+    check_command(
         stands_after(previous, command),
         bytes.len() - at,
         command_size(command),
-    );
-    if placed != 0 {
-        return placed;
-    }
+    )?;
     match command {
-        0x10 => base_refusal(wire::i32_at(bytes, at + 1)),
+        0x10 => base_refusal(i32::read(bytes, at + 1)),
         0x11 => {
-            let tank = wire::u16_at(bytes, at + 1);
-            let minute = wire::u16_at(bytes, at + 1 + 2);
-            let may = may_feed(tanks, froms, tos, passed, seen.windows, tank, minute);
+            let tank = u16::read(bytes, at + 1);
+            let minute = u16::read(bytes, at + 1 + 2);
+            let may = may_feed(register, passed, tank, minute);
+            let i = register.choices.saturating_sub(1);
             choice_refusal(
-                seen.day_length,
-                seen.choices,
-                seen.tank,
-                seen.minute,
+                register.day_length,
+                register.choices,
+                register.tanks[i],
+                register.minutes[i],
                 tank,
                 minute,
                 may,
             )
         }
         0x12 => {
-            let mask = wire::u32_at(bytes, at + 1);
-            let coefficient = wire::i32_at(bytes, at + 1 + 4);
-            term_refusal(seen.choices, seen.terms, seen.mask, mask, coefficient)
+            let mask = u32::read(bytes, at + 1);
+            let coefficient = i32::read(bytes, at + 1 + 4);
+            let t = register.terms.saturating_sub(1);
+            term_refusal(
+                register.choices,
+                register.terms,
+                register.masks[t],
+                mask,
+                coefficient,
+            )
         }
         0x13 => {
-            let tank = wire::u16_at(bytes, at + 1);
-            let from = wire::u16_at(bytes, at + 1 + 2);
-            let to = wire::u16_at(bytes, at + 1 + 2 + 2);
-            let j = last_of(seen.windows);
+            let tank = u16::read(bytes, at + 1);
+            let from = u16::read(bytes, at + 1 + 2);
+            let to = u16::read(bytes, at + 1 + 2 + 2);
+            let j = register.windows.saturating_sub(1);
             window_refusal(
-                seen.day_length,
-                seen.windows,
-                tanks[j],
-                froms[j],
+                register.day_length,
+                register.windows,
+                register.window_tanks[j],
+                register.window_froms[j],
                 tank,
                 from,
                 to,
             )
         }
         0x14 => {
-            let total = wire::i16_at(bytes, at + 1);
-            let zeros = past_zero(bytes, at + 1 + 2, seen.choices);
-            row_refusal(seen.rows, total, zeros)
+            let total = i16::read(bytes, at + 1);
+            let zeros = past_zero(bytes, at + 1 + 2, register.choices);
+            row_refusal(register.rows, total, zeros)
         }
-        0x18 => length_refusal(wire::u16_at(bytes, at + 1)),
-        _ => end_refusal(seen.choices),
+        0x18 => length_refusal(u16::read(bytes, at + 1)),
+        _ => end_refusal(register.choices),
     }
 }

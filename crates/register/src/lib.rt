@@ -8,14 +8,18 @@ mod rows;
 pub mod walk;
 mod windows;
 
-ghost use Rattle.std.specs.Prelude.{◌≡◌, ◌-◌};
+ghost use Rattle.std.specs.Prelude.{◌≡◌};
+ghost use Rattle.wire.specs.Outcome.{added_by};
+ghost use Rattle.wire.specs.Results.{number_of, reading_of, outcome_of};
 ghost use Rattle.register.specs.Register.{fresh};
 ghost use Rattle.register.specs.Format.{register_in_job, register_by_itself};
-ghost use Rattle.register.specs.Answer.{refused_read, register_read, refused_answer, register_answer};
+ghost use Rattle.register.specs.Opening.{open_register};
+ghost use Rattle.register.specs.Answer.{register_answer};
 
 use checks::refusal_at;
 use rows::put_entries;
 use windows::pass_windows;
+use wire::{Fault, FromBytes, Read, Refusal, Refused, by_itself};
 
 // The record that the register's bytes give. Entries past the counts are 0. The entries of all rows stand one after the other, those
 // of each row by choice.
@@ -37,30 +41,6 @@ pub struct Register {
     pub rows: usize,
     pub row_totals: [i16; Register::MAX_ROWS],
     pub row_entries: [i8; Register::MAX_ROWS * Register::ROW_ENTRIES],
-}
-
-// What the checks of a command look at beside the windows: the byte of the last command, the counts, the last choice and mask, and
-// the day length.
-#[derive(Clone, Copy)]
-pub struct Seen {
-    pub previous: u8,
-    pub choices: usize,
-    pub terms: usize,
-    pub tank: u16,
-    pub minute: u16,
-    pub mask: u32,
-    pub windows: usize,
-    pub day_length: u16,
-    pub rows: usize,
-}
-
-// What reading the register at the front of a run of bytes leads to: a refusal's number and position, or 0, the position
-// past the end, and the register.
-#[derive(Clone, Copy)]
-pub struct RegisterRead {
-    pub number: u8,
-    pub position: usize,
-    pub register: Register,
 }
 
 // The answer of the call: a refusal's number, part and position, or zeros and the register.
@@ -86,15 +66,15 @@ impl Register {
     pub const ROW_ENTRIES: usize = 32;
 
     // The largest magnitude of the base cost.
-    pub const MAX_BASE: u64 = 1_000_000_000;
+    pub const MAX_BASE: u32 = 1_000_000_000;
 
     pub const MAX_TANK: u16 = 9_999;
 
     // The largest magnitude of a coefficient.
-    pub const MAX_COEFFICIENT: u64 = 1_000_000;
+    pub const MAX_COEFFICIENT: u32 = 1_000_000;
 
     // The largest magnitude of a row's total.
-    pub const MAX_ROW_TOTAL: u64 = 4_064;
+    pub const MAX_ROW_TOTAL: u16 = 4_064;
 
     // The minutes of a day: when the clocks go forward, on a usual day, which is meant where no length is said, and when they go
     // back.
@@ -127,113 +107,72 @@ impl Register {
     }
 }
 
-impl RegisterRead {
-    fn refused(number: u8, position: usize) -> RegisterRead
-        ensures { result ≡ refused_read number position }
-    {
-        let register = Register::fresh();
-        RegisterRead {
-            number: number,
-            position: position,
-            register: register,
-        }
-    }
-}
-
 impl RegisterAnswer {
-    fn refused(number: u8, position: usize) -> RegisterAnswer
-        ensures { result ≡ refused_answer number position }
+    fn from_fault(fault: Fault) -> RegisterAnswer
+        ensures { result ≡ record { number = number_of fault.refusal; part = fault.part; position = fault.position; register = fresh } }
     {
-        let register = Register::fresh();
         RegisterAnswer {
-            number: number,
-            part: 1,
-            position: position,
-            register: register,
+            number: fault.refusal.number(),
+            part: fault.part,
+            position: fault.position,
+            register: Register::fresh(),
         }
     }
-}
-
-// The index of the last of n entries, 0 where there is none.
-fn last_of(n: usize) -> usize
-    ensures { result ≡ n - 1 }
-{
-    if n == 0 { 0 } else { n - 1 }
 }
 
 // The register at the front of a run of bytes.
-pub fn read_register(bytes: &[u8]) -> RegisterRead
-    ensures { result ≡ register_read (register_in_job bytes.now) }
+pub fn read_register(bytes: &[u8]) -> Result<Read<Register>, Refused>
+    ensures { reading_of result ≡ added_by (λ r. r) (register_in_job bytes.now) }
 {
     let mut register = Register::fresh();
     let mut previous: u8 = 0;
     let mut at: usize = 0;
     // How many windows are of tanks below the last choice's.
     let mut passed: usize = 0;
+    // No range steps over commands, which differ in size.
     while at < bytes.len() {
-        let n = register.choices;
-        let m = register.terms;
-        let k = register.windows;
-        let i = last_of(n);
-        let t = last_of(m);
-        let seen = Seen {
-            previous: previous,
-            choices: n,
-            terms: m,
-            tank: register.tanks[i],
-            minute: register.minutes[i],
-            mask: register.masks[t],
-            windows: k,
-            day_length: register.day_length,
-            rows: register.rows,
-        };
-        let number = refusal_at(
-            bytes,
-            at,
-            seen,
-            passed,
-            &register.window_tanks,
-            &register.window_froms,
-            &register.window_tos,
-        );
-        if number != 0 {
-            return RegisterRead::refused(number, at);
-        }
+        refusal_at(bytes, at, &register, previous, passed).map_err(|refusal| Refused {
+            refusal,
+            position: at,
+        })?;
         let command = bytes[at];
         match command {
             0x10 => {
-                register.base = wire::i32_at(bytes, at + 1);
+                register.base = i32::read(bytes, at + 1);
                 register.day_length = Register::USUAL_DAY;
                 previous = 0x10;
                 at += 5;
             }
             0x11 => {
-                let tank = wire::u16_at(bytes, at + 1);
+                let n = register.choices;
+                let tank = u16::read(bytes, at + 1);
                 register.tanks[n] = tank;
-                register.minutes[n] = wire::u16_at(bytes, at + 1 + 2);
+                register.minutes[n] = u16::read(bytes, at + 1 + 2);
                 register.choices = n + 1;
-                passed = pass_windows(&register.window_tanks, passed, k, tank);
+                passed = pass_windows(&register, passed, tank);
                 previous = 0x11;
                 at += 5;
             }
             0x12 => {
-                register.masks[m] = wire::u32_at(bytes, at + 1);
-                register.coefficients[m] = wire::i32_at(bytes, at + 1 + 4);
+                let m = register.terms;
+                register.masks[m] = u32::read(bytes, at + 1);
+                register.coefficients[m] = i32::read(bytes, at + 1 + 4);
                 register.terms = m + 1;
                 previous = 0x12;
                 at += 9;
             }
             0x13 => {
-                register.window_tanks[k] = wire::u16_at(bytes, at + 1);
-                register.window_froms[k] = wire::u16_at(bytes, at + 1 + 2);
-                register.window_tos[k] = wire::u16_at(bytes, at + 1 + 2 + 2);
+                let k = register.windows;
+                register.window_tanks[k] = u16::read(bytes, at + 1);
+                register.window_froms[k] = u16::read(bytes, at + 1 + 2);
+                register.window_tos[k] = u16::read(bytes, at + 1 + 2 + 2);
                 register.windows = k + 1;
                 previous = 0x13;
                 at += 7;
             }
             0x14 => {
                 let row = register.rows;
-                register.row_totals[row] = wire::i16_at(bytes, at + 1);
+                register.row_totals[row] = i16::read(bytes, at + 1);
                 put_entries(
                     &mut register.row_entries,
                     row * Register::ROW_ENTRIES,
@@ -245,20 +184,29 @@ pub fn read_register(bytes: &[u8]) -> RegisterRead
                 at += 35;
             }
             0x18 => {
-                register.day_length = wire::u16_at(bytes, at + 1);
+                register.day_length = u16::read(bytes, at + 1);
                 previous = 0x18;
                 at += 3;
             }
             _ => {
-                return RegisterRead {
-                    number: 0,
-                    position: at + 1,
-                    register: register,
-                };
+                return Ok(Read {
+                    value: register,
+                    end: at + 1,
+                });
             }
         }
     }
-    RegisterRead::refused(2, at)
+    Err(Refused {
+        refusal: Refusal::CutShort,
+        position: at,
+    })
+}
+
+// The register as a run of bytes by itself, for calls that open it as part 1.
+pub fn open_register(bytes: &[u8]) -> Result<Register, Fault>
+    ensures { outcome_of result ≡ open_register bytes.now }
+{
+    by_itself(bytes, 1, read_register(bytes))
 }
 
 // The register as a run of bytes by itself.
@@ -266,20 +214,13 @@ pub fn read_register(bytes: &[u8]) -> RegisterRead
 pub extern "C" fn feedcheck_register(bytes: &[u8]) -> RegisterAnswer
     ensures { result ≡ register_answer (register_by_itself bytes.now) }
 {
-    let part = read_register(bytes);
-    let number = part.number;
-    let position = part.position;
-    if number != 0 {
-        return RegisterAnswer::refused(number, position);
-    }
-    if position < bytes.len() {
-        return RegisterAnswer::refused(12, position);
-    }
-    let register = part.register;
-    RegisterAnswer {
-        number: 0,
-        part: 0,
-        position: 0,
-        register: register,
+    match open_register(bytes) {
+        Ok(register) => RegisterAnswer {
+            number: 0,
+            part: 0,
+            position: 0,
+            register,
+        },
+        Err(fault) => RegisterAnswer::from_fault(fault),
     }
 }

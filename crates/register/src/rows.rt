@@ -8,18 +8,17 @@ ghost use Rattle.register.specs.Format.{zero_past};
 ghost use Rattle.register.specs.Answer.{entries_at};
 
 use super::Register;
+use wire::FromBytes;
 
 // The entries at a position are 0 for all but the first n choices.
 pub fn past_zero(bytes: &[u8], at: usize, n: usize) -> bool
     requires { at + row_entries ≤ length bytes.now }
     ensures { result ≡ zero_past n (λ j. int_at w8 bytes.now (at + j)) }
 {
-    let mut j = n;
-    while j < Register::ROW_ENTRIES {
-        if wire::i8_at(bytes, at + j) != 0 {
+    for j in n..Register::ROW_ENTRIES {
+        if i8::read(bytes, at + j) != 0 {
             return false;
         }
-        j += 1;
     }
     true
 }
@@ -35,9 +34,7 @@ pub fn put_entries(
     requires bytes_there { at + row_entries ≤ length bytes.now }
     ensures { entries.new ≡ sets entries.old place (entries_at bytes.now at) }
 {
-    let mut j = 0;
-    while j < Register::ROW_ENTRIES {
-        entries[place + j] = wire::i8_at(bytes, at + j);
-        j += 1;
+    for j in 0..Register::ROW_ENTRIES {
+        entries[place + j] = i8::read(bytes, at + j);
     }
 }

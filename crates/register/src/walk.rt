@@ -19,6 +19,7 @@ pub fn term_position(bytes: &[u8], term: usize) -> usize
 {
     let mut left = term;
     let mut at: usize = 0;
+    // No range steps over commands, which differ in size.
     while at < bytes.len() {
         let command = bytes[at];
         if is_term(command) {

@@ -20,3 +20,4 @@ pub mod Alike
 pub mod Loop
 pub mod Walk
 pub mod Outcome
+pub mod Results

@@ -7,37 +7,36 @@ use mathlib.Core.List.{List, [], ◌∷◌}
 use lib.IntN.{pos}
 use lib.ListN.{get_or}
 use Rattle.integers.proofs.Lists.{◌▹◌}
+use Rattle.std.proofs.Common.{rules}
 use Rattle.wire.specs.Number.{nat_at, int_at}
 use Rattle.wire.specs.Checks.{refusal}
-use Rattle.wire.specs.Part.{operands_at, total, checks_at}
+use Rattle.wire.specs.Part.{refused, operands_at, total, checks_at}
+use Rattle.wire.specs.Outcome.{added_by}
+use Rattle.wire.specs.Results.{number_of, number_in, reading_of}
 use Rattle.wire.specs.Rows.{Progress, row_of}
 use Rattle.wire.proofs.Rest.{only_last}
+use Rattle.wire.proofs.Results.{numbered}
 use Rattle.wire.proofs.Accepting.{reached}
 use Rattle.wire.proofs.Loop.{Here, here_at, going_starts, going_missing, going_refused, going_on, going_ends}
 use Rattle.register.specs.declared.Register.{Register}
-use Rattle.register.specs.declared.Seen.{Seen}
 use Rattle.register.specs.Limits.{max_choices, max_terms, max_windows, max_rows}
 use Rattle.register.specs.Register.{tank, minute, mask, fresh}
 use Rattle.register.specs.Format.{base_row, choice_row, term_row, window_row, row_row, entries_of, length_row, end_row, register_rows, register_part, register_in_job}
 use Rattle.register.specs.Valid.{Within, window_at}
-use Rattle.register.specs.Answer.{Given, register_read}
+use Rattle.register.specs.Answer.{Given}
 use Rattle.register.proofs.Passes.{NextChoice, choice_iff, term_iff, window_iff, row_iff}
 use Rattle.register.proofs.RowOperands.{entries_read, entries_at_lem}
 use Rattle.register.proofs.Entries.{term_at, windows_no_fall}
 use Rattle.register.proofs.Passed.{Passed, passed_starts, passed_base, passed_length, passed_choice, passed_term, passed_window, passed_rows}
 use Rattle.register.proofs.Laws.{laws}
-use Rattle.register.proofs.read_register.Goals.{Else-number-ne0}
+use Rattle.register.proofs.read_register.Goals.{In_ok-map_err}
 use Rattle.register.proofs.read_register.Goals as goal
 
--- what the loop has seen, its last choice at i and its last term at t
-abbrev seen : ℕ → Register → (i t : ℕ) → Seen
-seen previous r i t = record { previous = previous; choices = r.choices; terms = r.terms; tank = tank r i; minute = minute r i; mask = mask r t; windows = r.windows; day_length = r.day_length; rows = r.rows }
-
-given_is : (previous : ℕ) (r : Register) {i t k : ℕ} → Within r → Passed r k → i ≡ r.choices - 1 → t ≡ r.terms - 1 → Given (reached previous r) (seen previous r i t) k r.window_tanks r.window_froms r.window_tos
-given_is previous r w p d e = record { seen_is = rw (d, e); tanks_are = refl; froms_are = refl; tos_are = refl; no_fall = windows_no_fall r w; earlier = λ k l. rw d (p.earlier k l) }
+given_is : (r : Register) {k : ℕ} → Within r → Passed r k → Given r k
+given_is r w p = record { few_choices = w.choices.few; few_terms = w.terms.few; few_windows = w.windows.few; within = p.within; no_fall = windows_no_fall r w; earlier = p.earlier }
 
 -- once its command is not refused
-module _ (c : Else-number-ne0) where
+module _ (c : In_ok-map_err) where
   abbrev bytes : List ℕ
   bytes = c.args.bytes.now
 
@@ -54,7 +53,7 @@ module _ (c : Else-number-ne0) where
   within = c.loop-at.invariant.going.so_far.holds.within
 
   judged : refusal (checks_at register_part bytes p at) ≡ 0
-  judged = sym (c.refusal_at-number.ensures p (given_is c.loop-at.previous r within c.loop-at.invariant.lower c.last_of-i.ensures c.last_of-t.ensures)) ∙ c.if-number-ne0.false
+  judged = let passed : number_in c.refusal_at.result ≡ 0 = search rules in sym c.refusal_at.ensures ∙ passed
 
   here : (b : ℕ) → get_or bytes at 0 ≡ b → Here fresh register_rows bytes p at b
   here b e = here_at fresh register_rows bytes p at b e c.loop-at-test.true judged
@@ -82,139 +81,144 @@ module _ (c : Else-number-ne0) where
 pub loop-at-init : goal.loop-at-init
 loop-at-init c = rw c.fresh-register.ensures (record { going = going_starts fresh register_rows laws _; lower = passed_starts })
 
-pub returns-then-number-ne0 : goal.returns-then-number-ne0
-unfolding register_in_job
-returns-then-number-ne0 c =
-    let i = c.loop-at.invariant in
-    let n = c.refusal_at-number.ensures (reached c.loop-at.previous c.loop-at.register) (given_is c.loop-at.previous c.loop-at.register i.going.so_far.holds.within i.lower c.last_of-i.ensures c.last_of-t.ensures) in
-    c.refused.ensures ∙ ap register_read (sym (going_refused fresh register_rows laws i.going _ c.loop-at-test.true n c.if-number-ne0.true))
+pub refusal_at-requires-clause-given : goal.refusal_at-requires-clause-given
+refusal_at-requires-clause-given c = let i = c.loop-at.invariant in given_is c.loop-at.register i.going.so_far.holds.within i.lower
 
-pub i32_at-requires : goal.i32_at-requires
+pub returns-in_err-map_err : goal.returns-in_err-map_err
+unfolding register_in_job
+returns-in_err-map_err c =
+    let refusal = c.in_err-map_err.field-0.0.refusal in
+    let said : reading_of c.from_residual.result ≡ refused (number_of refusal) c.loop-at.at = search rules in
+    let n : number_of refusal ≡ number_in c.refusal_at.result = search rules in
+    said ∙ ap (added_by (λ r. r)) (sym (going_refused fresh register_rows laws c.loop-at.invariant.going _ c.loop-at-test.true (n ∙ c.refusal_at.ensures) (numbered refusal)))
+
+pub read-requires : goal.read-requires
 unfolding row_of total
-i32_at-requires c = omega (arith, (here (goal.at.i32_at-requires c).Else-number-ne0 0x10 c.in-16.is).room)
+read-requires c = omega (arith, (here (goal.at.read-requires c).In_ok-map_err 0x10 c.in-16.is).room)
 
 pub loop-at-preserved-in-16 : goal.loop-at-preserved-in-16
 unfolding row_of total operands_at int_at
 loop-at-preserved-in-16 c =
-    let e = (goal.at.loop-at-preserved-in-16 c).Else-number-ne0 in record {
-      going = rw (to_z-of_z (record { sfits = c.i32_at.type_inv }), c.i32_at.ensures) (going_on fresh register_rows laws c.loop-at.invariant.going c.loop-at-test.true (judged e) 0x10 c.in-16.is refl);
+    let e = (goal.at.loop-at-preserved-in-16 c).In_ok-map_err in record {
+      going = rw (to_z-of_z (record { sfits = c.read.type_inv }), c.read.ensures) (going_on fresh register_rows laws c.loop-at.invariant.going c.loop-at-test.true (judged e) 0x10 c.in-16.is refl);
       lower = passed_base c.loop-at.register (within e) c.loop-at.invariant.lower _;
     }
 
-pub u16_at-tank-requires : goal.u16_at-tank-requires
+pub read-tank-requires : goal.read-tank-requires
 unfolding row_of total
-u16_at-tank-requires c = omega (arith, (here (goal.at.u16_at-tank-requires c).Else-number-ne0 0x11 c.in-17.is).room)
+read-tank-requires c = omega (arith, (here (goal.at.read-tank-requires c).In_ok-map_err 0x11 c.in-17.is).room)
 
 pub bounds-register-n : goal.bounds-register-n
-bounds-register-n c = few (goal.at.bounds-register-n c).Else-number-ne0 c.in-17.is
+bounds-register-n c = few (goal.at.bounds-register-n c).In_ok-map_err c.in-17.is
 
-pub u16_at-requires : goal.u16_at-requires
+pub read-requires-in-17 : goal.read-requires-in-17
 unfolding row_of total
-u16_at-requires c = omega (arith, (here (goal.at.u16_at-requires c).Else-number-ne0 0x11 c.in-17.is).room)
+read-requires-in-17 c = omega (arith, (here (goal.at.read-requires-in-17 c).In_ok-map_err 0x11 c.in-17.is).room)
 
 pub bounds-register-n-in-17 : goal.bounds-register-n-in-17
-bounds-register-n-in-17 c = few (goal.at.bounds-register-n-in-17 c).Else-number-ne0 c.in-17.is
+bounds-register-n-in-17 c = few (goal.at.bounds-register-n-in-17 c).In_ok-map_err c.in-17.is
 
 pub loop-at-preserved-in-17 : goal.loop-at-preserved-in-17
 unfolding row_of total operands_at
 loop-at-preserved-in-17 c =
-    let e = (goal.at.loop-at-preserved-in-17 c).Else-number-ne0 in
+    let e = (goal.at.loop-at-preserved-in-17 c).In_ok-map_err in
     let w = c.pass_windows-passed.ensures in record {
-      going = rw (c.u16_at.ensures, c.u16_at-tank.ensures, add-one) (going_on fresh register_rows laws c.loop-at.invariant.going c.loop-at-test.true (judged e) 0x11 c.in-17.is refl);
-      lower = rw add-one (passed_choice c.loop-at.register (within e) c.loop-at.invariant.lower _ _ (rw (c.u16_at.ensures, c.u16_at-tank.ensures) (next_choice e c.in-17.is)) _ w.within.1 w.lower);
+      going = rw (c.read-in-17.ensures, c.read-tank.ensures, add-one) (going_on fresh register_rows laws c.loop-at.invariant.going c.loop-at-test.true (judged e) 0x11 c.in-17.is refl);
+      lower = rw add-one (passed_choice c.loop-at.register (within e) c.loop-at.invariant.lower _ _ (rw (c.read-in-17.ensures, c.read-tank.ensures) (next_choice e c.in-17.is)) _ w.within.1 w.lower);
     }
 
-pub u32_at-requires : goal.u32_at-requires
+pub read-requires-in-18 : goal.read-requires-in-18
 unfolding row_of total
-u32_at-requires c = omega (arith, (here (goal.at.u32_at-requires c).Else-number-ne0 0x12 c.in-18.is).room)
+read-requires-in-18 c = omega (arith, (here (goal.at.read-requires-in-18 c).In_ok-map_err 0x12 c.in-18.is).room)
 
 pub bounds-register-m : goal.bounds-register-m
-bounds-register-m c = few_terms (goal.at.bounds-register-m c).Else-number-ne0 c.in-18.is
+bounds-register-m c = few_terms (goal.at.bounds-register-m c).In_ok-map_err c.in-18.is
 
-pub i32_at-requires-in-18 : goal.i32_at-requires-in-18
+pub read-requires-in-18-2 : goal.read-requires-in-18-2
 unfolding row_of total
-i32_at-requires-in-18 c = omega (arith, (here (goal.at.i32_at-requires-in-18 c).Else-number-ne0 0x12 c.in-18.is).room)
+read-requires-in-18-2 c = omega (arith, (here (goal.at.read-requires-in-18-2 c).In_ok-map_err 0x12 c.in-18.is).room)
 
 pub bounds-register-m-in-18 : goal.bounds-register-m-in-18
-bounds-register-m-in-18 c = few_terms (goal.at.bounds-register-m-in-18 c).Else-number-ne0 c.in-18.is
+bounds-register-m-in-18 c = few_terms (goal.at.bounds-register-m-in-18 c).In_ok-map_err c.in-18.is
 
 pub loop-at-preserved-in-18 : goal.loop-at-preserved-in-18
 unfolding row_of total operands_at int_at
 loop-at-preserved-in-18 c =
-    let e = (goal.at.loop-at-preserved-in-18 c).Else-number-ne0 in record {
-      going = rw (to_z-of_z (record { sfits = c.i32_at-in-18.type_inv }), c.i32_at-in-18.ensures, c.u32_at.ensures, add-one) (going_on fresh register_rows laws c.loop-at.invariant.going c.loop-at-test.true (judged e) 0x12 c.in-18.is refl);
+    let e = (goal.at.loop-at-preserved-in-18 c).In_ok-map_err in record {
+      going = rw (to_z-of_z (record { sfits = c.read-in-18-2.type_inv }), c.read-in-18-2.ensures, c.read-in-18.ensures, add-one) (going_on fresh register_rows laws c.loop-at.invariant.going c.loop-at-test.true (judged e) 0x12 c.in-18.is refl);
       lower = rw add-one (passed_term c.loop-at.register (within e) c.loop-at.invariant.lower _ _);
     }
 
-pub u16_at-requires-in-19 : goal.u16_at-requires-in-19
+pub read-requires-in-19 : goal.read-requires-in-19
 unfolding row_of total
-u16_at-requires-in-19 c = omega (arith, (here (goal.at.u16_at-requires-in-19 c).Else-number-ne0 0x13 c.in-19.is).room)
+read-requires-in-19 c = omega (arith, (here (goal.at.read-requires-in-19 c).In_ok-map_err 0x13 c.in-19.is).room)
 
 pub bounds-register-k : goal.bounds-register-k
-bounds-register-k c = few_windows (goal.at.bounds-register-k c).Else-number-ne0 c.in-19.is
+bounds-register-k c = few_windows (goal.at.bounds-register-k c).In_ok-map_err c.in-19.is
 
-pub u16_at-requires-in-19-2 : goal.u16_at-requires-in-19-2
+pub read-requires-in-19-2 : goal.read-requires-in-19-2
 unfolding row_of total
-u16_at-requires-in-19-2 c = omega (arith, (here (goal.at.u16_at-requires-in-19-2 c).Else-number-ne0 0x13 c.in-19.is).room)
+read-requires-in-19-2 c = omega (arith, (here (goal.at.read-requires-in-19-2 c).In_ok-map_err 0x13 c.in-19.is).room)
 
 pub bounds-register-k-in-19 : goal.bounds-register-k-in-19
-bounds-register-k-in-19 c = few_windows (goal.at.bounds-register-k-in-19 c).Else-number-ne0 c.in-19.is
+bounds-register-k-in-19 c = few_windows (goal.at.bounds-register-k-in-19 c).In_ok-map_err c.in-19.is
 
-pub u16_at-requires-in-19-3 : goal.u16_at-requires-in-19-3
+pub read-requires-in-19-3 : goal.read-requires-in-19-3
 unfolding row_of total
-u16_at-requires-in-19-3 c = omega (arith, (here (goal.at.u16_at-requires-in-19-3 c).Else-number-ne0 0x13 c.in-19.is).room)
+read-requires-in-19-3 c = omega (arith, (here (goal.at.read-requires-in-19-3 c).In_ok-map_err 0x13 c.in-19.is).room)
 
 pub bounds-register-k-in-19-2 : goal.bounds-register-k-in-19-2
-bounds-register-k-in-19-2 c = few_windows (goal.at.bounds-register-k-in-19-2 c).Else-number-ne0 c.in-19.is
+bounds-register-k-in-19-2 c = few_windows (goal.at.bounds-register-k-in-19-2 c).In_ok-map_err c.in-19.is
 
 pub loop-at-preserved-in-19 : goal.loop-at-preserved-in-19
 unfolding row_of total operands_at
 loop-at-preserved-in-19 c =
-    let e = (goal.at.loop-at-preserved-in-19 c).Else-number-ne0 in record {
-      going = rw (c.u16_at-in-19-3.ensures, c.u16_at-in-19-2.ensures, c.u16_at-in-19.ensures, add-one) (going_on fresh register_rows laws c.loop-at.invariant.going c.loop-at-test.true (judged e) 0x13 c.in-19.is refl);
+    let e = (goal.at.loop-at-preserved-in-19 c).In_ok-map_err in record {
+      going = rw (c.read-in-19-3.ensures, c.read-in-19-2.ensures, c.read-in-19.ensures, add-one) (going_on fresh register_rows laws c.loop-at.invariant.going c.loop-at-test.true (judged e) 0x13 c.in-19.is refl);
       lower = rw add-one (passed_window c.loop-at.register (within e) c.loop-at.invariant.lower _ _ _);
     }
 
-pub i16_at-requires : goal.i16_at-requires
+pub read-requires-in-20 : goal.read-requires-in-20
 unfolding row_of total
-i16_at-requires c = omega (arith, (here (goal.at.i16_at-requires c).Else-number-ne0 0x14 c.in-20.is).room)
+read-requires-in-20 c = omega (arith, (here (goal.at.read-requires-in-20 c).In_ok-map_err 0x14 c.in-20.is).room)
 
 pub bounds-register-row : goal.bounds-register-row
-bounds-register-row c = few_rows (goal.at.bounds-register-row c).Else-number-ne0 c.in-20.is
+bounds-register-row c = few_rows (goal.at.bounds-register-row c).In_ok-map_err c.in-20.is
 
-pub put_entries-requires : goal.put_entries-requires
+pub put_entries-requires-clause-place_within : goal.put_entries-requires-clause-place_within
+put_entries-requires-clause-place_within c = omega (arith, few_rows (goal.at.put_entries-requires-clause-place_within c).In_ok-map_err c.in-20.is)
+
+pub put_entries-requires-clause-bytes_there : goal.put_entries-requires-clause-bytes_there
 unfolding row_of total
-put_entries-requires c =
-    let e = (goal.at.put_entries-requires c).Else-number-ne0 in
-    record { place_within = omega (arith, few_rows e c.in-20.is); bytes_there = omega (arith, (here e 0x14 c.in-20.is).room) }
+put_entries-requires-clause-bytes_there c = omega (arith, (here (goal.at.put_entries-requires-clause-bytes_there c).In_ok-map_err 0x14 c.in-20.is).room)
 
 pub loop-at-preserved-in-20 : goal.loop-at-preserved-in-20
 unfolding row_of total operands_at int_at
 loop-at-preserved-in-20 c =
-    let e = (goal.at.loop-at-preserved-in-20 c).Else-number-ne0 in record {
-      going = rw (to_z-of_z (record { sfits = c.i16_at.type_inv }), c.i16_at.ensures, c.put_entries.ensures, ← entries_at_lem c.args.bytes.now (c.loop-at.at + 1), add-one) (going_on fresh register_rows laws c.loop-at.invariant.going c.loop-at-test.true (judged e) 0x14 c.in-20.is refl);
+    let e = (goal.at.loop-at-preserved-in-20 c).In_ok-map_err in record {
+      going = rw (to_z-of_z (record { sfits = c.read-in-20.type_inv }), c.read-in-20.ensures, c.put_entries.ensures, ← entries_at_lem c.args.bytes.now (c.loop-at.at + 1), add-one) (going_on fresh register_rows laws c.loop-at.invariant.going c.loop-at-test.true (judged e) 0x14 c.in-20.is refl);
       lower = passed_rows c.loop-at.register (within e) c.loop-at.invariant.lower _ _ _;
     }
 
-pub u16_at-requires-in-24 : goal.u16_at-requires-in-24
+pub read-requires-in-24 : goal.read-requires-in-24
 unfolding row_of total
-u16_at-requires-in-24 c = omega (arith, (here (goal.at.u16_at-requires-in-24 c).Else-number-ne0 0x18 c.in-24.is).room)
+read-requires-in-24 c = omega (arith, (here (goal.at.read-requires-in-24 c).In_ok-map_err 0x18 c.in-24.is).room)
 
 pub loop-at-preserved : goal.loop-at-preserved
 unfolding row_of total operands_at
 loop-at-preserved c =
-    let e = (goal.at.loop-at-preserved c).Else-number-ne0 in record {
-      going = rw c.u16_at-in-24.ensures (going_on fresh register_rows laws c.loop-at.invariant.going c.loop-at-test.true (judged e) 0x18 c.in-24.is refl);
+    let e = (goal.at.loop-at-preserved c).In_ok-map_err in record {
+      going = rw c.read-in-24.ensures (going_on fresh register_rows laws c.loop-at.invariant.going c.loop-at-test.true (judged e) 0x18 c.in-24.is refl);
       lower = passed_length c.loop-at.register (within e) c.loop-at.invariant.lower _;
     }
 
 pub returns-in_default : goal.returns-in_default
 unfolding register_in_job row_of total operands_at
 returns-in_default c =
-    let e = (goal.at.returns-in_default c).Else-number-ne0 in
+    let e = (goal.at.returns-in_default c).In_ok-map_err in
     let f : get_or c.args.bytes.now c.loop-at.at 0 ≡ 0x1F = only_last end_row (get_or c.args.bytes.now c.loop-at.at 0) (base_row ∷ choice_row ∷ term_row ∷ window_row ∷ row_row ∷ length_row ∷ []) ((λ e. omega arith) ▹ (λ e. omega arith) ▹ (λ e. omega arith) ▹ (λ e. omega arith) ▹ (λ e. omega arith) ▹ (λ e. omega arith) ▹ tt) _ (here e _ refl).place in
-    ap register_read (sym (going_ends fresh register_rows laws c.loop-at.invariant.going c.loop-at-test.true (judged e) 0x1F f refl))
+    ap (added_by (λ r. r)) (sym (going_ends fresh register_rows laws c.loop-at.invariant.going c.loop-at-test.true (judged e) 0x1F f refl))
 
 pub returns : goal.returns
 unfolding register_in_job
-returns c = c.refused-2.ensures ∙ ap register_read (sym (going_missing fresh register_rows laws c.loop-at.invariant.going c.loop-at-test.false))
+returns c = ap (added_by (λ r. r)) (sym (going_missing fresh register_rows laws c.loop-at.invariant.going c.loop-at-test.false))

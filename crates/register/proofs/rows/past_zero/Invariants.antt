@@ -1,17 +1,10 @@
 -- The entries looked at are 0.
-use Prim.Native.Nat.{ℕ, ◌+◌, ◌-◌, ◌≤◌, ◌<◌}
+use Prim.Native.Nat.{ℕ, ◌+◌, ◌≤◌, ◌<◌}
 use mathlib.Core.Path.{◌≡◌}
 use lib.IntN.{pos}
 use mir.Syntax.{w8}
 use Rattle.wire.specs.Number.{int_at}
-use Rattle.register.specs.Limits.{row_entries}
 use Rattle.register.proofs.rows.past_zero.Given as goal
 
 abbrev pub invariant-loop-j : goal.invariant-loop-j
-invariant-loop-j l = record {
-  from : l.n ≤ l.j;
-  zeros : (i : ℕ) → l.n ≤ i → i < l.j → int_at w8 l.bytes (l.at + i) ≡ pos 0;
-}
-
-abbrev pub decreases-loop-j : goal.decreases-loop-j
-decreases-loop-j l = row_entries - l.j
+invariant-loop-j l = (i : ℕ) → l.n ≤ i → i < l.j → int_at w8 l.bytes (l.at + i) ≡ pos 0
