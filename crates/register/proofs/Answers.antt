@@ -1,10 +1,10 @@
 -- The answer of the register by itself, from its outcome.
-use mathlib.Core.Path.{◌≡◌, refl, ap}
+use mathlib.Core.Path.{◌≡◌}
 use mathlib.Core.List.{List}
 use Prim.Native.Nat.{ℕ}
 use Rattle.std.proofs.Common.{Result, Ok, Err}
 use Rattle.wire.specs.declared.refusals.Fault.{Fault}
-use Rattle.wire.specs.Outcome.{Outcome, refuses, accepts, given}
+use Rattle.wire.specs.Outcome.{given}
 use Rattle.wire.specs.Part.{Reading, refused, accepted}
 use Rattle.wire.specs.Rows.{Progress}
 use Rattle.wire.specs.Results.{number_of, outcome_of}

@@ -5,7 +5,7 @@ use Prim.Native.Nat.{ℕ}
 use lib.ListN.{length}
 use Rattle.wire.specs.Part.{Reading, refused, accepted}
 use Rattle.wire.specs.Rows.{Progress}
-use Rattle.wire.specs.Outcome.{Outcome, refuses, accepts, given}
+use Rattle.wire.specs.Outcome.{refuses, accepts, given}
 use Rattle.wire.proofs.Part.{NumberedReading, read_part_numbered, by_itself_numbered}
 use Rattle.wire.proofs.Encoding.{by_itself_end}
 use Rattle.wire.proofs.Outcome.{accepts_one, not_both, given_refuses}

@@ -1,5 +1,5 @@
 -- What the register's calls answer, by what reading leads to.
-use Rattle.std.specs.Prelude.{ℕ, ◌+◌, ◌-◌, ◌<◌, ◌≤◌, ◌≡◌, List, [], ◌∷◌, get_or, ℤ}
+use Rattle.std.specs.Prelude.{ℕ, ◌+◌, ◌-◌, ◌<◌, ◌≤◌, List, [], ◌∷◌, get_or, ℤ}
 use Rattle.std.specs.Int.{w8}
 use Rattle.integers.specs.Lists.{join_below}
 use Rattle.wire.specs.Number.{int_at}

@@ -20,7 +20,7 @@ use Rattle.wire.proofs.Accepting.{reached}
 use Rattle.wire.proofs.Loop.{Here, here_at, going_starts, going_missing, going_refused, going_on, going_ends}
 use Rattle.register.specs.declared.Register.{Register}
 use Rattle.register.specs.Limits.{max_choices, max_terms, max_windows, max_rows}
-use Rattle.register.specs.Register.{tank, minute, mask, fresh}
+use Rattle.register.specs.Register.{tank, minute, fresh}
 use Rattle.register.specs.Format.{base_row, choice_row, term_row, window_row, row_row, entries_of, length_row, end_row, register_rows, register_part, register_in_job}
 use Rattle.register.specs.Valid.{Within, window_at}
 use Rattle.register.specs.Answer.{Given}
