@@ -1,11 +1,13 @@
-// The refusal of each of the register's commands, by what has been seen before it.
-ghost use Rattle.std.specs.Prelude.{◌≡◌, [], ◌∷◌, not, ◌||◌, eqb, ◌<◌, ◌≤◌, length};
+// The refusal of each of the register's commands, by what has been read before it. They are told apart by a `match` on their byte, as the
+// format names them.
+ghost use Rattle.std.specs.Prelude.{◌≡◌, [], ◌∷◌, not, ◌||◌, eqb, ◌<◌, ◌≤◌, ◌-◌, length, get_or};
 ghost use Rattle.integers.specs.Lists.{comes_before};
 ghost use Rattle.wire.specs.Checks.{refusal};
 ghost use Rattle.wire.specs.Part.{checks_at, size};
 ghost use Rattle.wire.specs.Results.{number_in};
 ghost use Rattle.wire.specs.Rows.{is_among, row_of};
-ghost use Rattle.register.specs.Limits.{max_choices};
+ghost use Rattle.register.specs.Limits.{max_choices, max_terms, max_windows};
+ghost use Rattle.register.specs.Register.{window_tank, window_from};
 ghost use Rattle.register.specs.Format.{base_checks, choice_checks, term_checks, window_checks, row_checks, length_checks, end_checks, register_rows, register_part};
 ghost use Rattle.register.specs.Answer.{Given};
 
@@ -34,20 +36,15 @@ fn pair_falls(n: usize, tank0: u16, second0: u16, tank: u16, second: u16) -> boo
 }
 
 #[tactic(auto, unfolding(wire::specs::Checks::refusal, crate::specs::Format::choice_checks))]
-// A choice after n others, the last of which is tank0 at minute0, on a day of this length; `may` where its tank may be fed then.
-fn choice_refusal(
-    length: u16,
-    n: usize,
-    tank0: u16,
-    minute0: u16,
-    tank: u16,
-    minute: u16,
-    may: bool,
-) -> Result<(), Refusal>
-    ensures { number_in result ≡ refusal (choice_checks length n tank0 minute0 tank minute may) }
+// A choice after those of the register; `may` where its tank may be fed then.
+fn choice_refusal(register: &Register, tank: u16, minute: u16, may: bool) -> Result<(), Refusal>
+    requires { register.now.choices ≤ max_choices }
+    ensures { let r = register.now in let i = r.choices - 1 in number_in result ≡ refusal (choice_checks r.day_length r.choices (get_or r.tanks i 0) (get_or r.minutes i 0) tank minute may) }
 {
-    let out = (tank == 0) | (Register::MAX_TANK < tank) | (length <= minute);
-    let falls = pair_falls(n, tank0, minute0, tank, minute);
+    let n = register.choices;
+    let i = n.saturating_sub(1);
+    let out = (tank == 0) | (Register::MAX_TANK < tank) | (register.day_length <= minute);
+    let falls = pair_falls(n, register.tanks[i], register.minutes[i], tank, minute);
     refuse_if(Register::MAX_CHOICES <= n, Refusal::TooMany)?;
     refuse_if(out, Refusal::OutOfRange)?;
     refuse_if(falls, Refusal::NotRising)?;
@@ -55,15 +52,16 @@ fn choice_refusal(
 }
 
 #[tactic(auto, unfolding(wire::specs::Checks::refusal, crate::specs::Format::term_checks))]
-// A term after m others, the last of which has mask0, where there are n choices.
-fn term_refusal(n: usize, m: usize, mask0: u32, mask: u32, coefficient: i32) -> Result<(), Refusal>
-    requires { n ≤ max_choices }
-    ensures { number_in result ≡ refusal (term_checks n m mask0 mask coefficient) }
+// A term after those of the register.
+fn term_refusal(register: &Register, mask: u32, coefficient: i32) -> Result<(), Refusal>
+    requires { (register.now.choices ≤ max_choices) × (register.now.terms ≤ max_terms) }
+    ensures { let r = register.now in number_in result ≡ refusal (term_checks r.choices r.terms (get_or r.masks (r.terms - 1) 0) mask coefficient) }
 {
+    let m = register.terms;
     let size = coefficient.unsigned_abs();
     let outside = (size == 0) | (Register::MAX_COEFFICIENT < size);
-    let unnamed = (mask == 0) | (1u64 << n <= mask as u64);
-    let falls = !((m == 0) | (mask0 < mask));
+    let unnamed = (mask == 0) | (1u64 << register.choices <= u64::from(mask));
+    let falls = !((m == 0) | (register.masks[m.saturating_sub(1)] < mask));
     refuse_if(Register::MAX_TERMS <= m, Refusal::TooMany)?;
     refuse_if(outside, Refusal::OutOfRange)?;
     refuse_if(unnamed, Refusal::NotThere)?;
@@ -71,23 +69,21 @@ fn term_refusal(n: usize, m: usize, mask0: u32, mask: u32, coefficient: i32) -> 
 }
 
 #[tactic(auto, unfolding(wire::specs::Checks::refusal, crate::specs::Format::window_checks))]
-// A window after k others, the last of which is tank0 from from0, on a day of this length.
-fn window_refusal(
-    length: u16,
-    k: usize,
-    tank0: u16,
-    from0: u16,
-    tank: u16,
-    from: u16,
-    to: u16,
-) -> Result<(), Refusal>
-    ensures { number_in result ≡ refusal (window_checks length k tank0 from0 tank from to) }
+// A window after those of the register.
+fn window_refusal(register: &Register, tank: u16, from: u16, to: u16) -> Result<(), Refusal>
+    requires { register.now.windows ≤ max_windows }
+    ensures { let r = register.now in let j = r.windows - 1 in number_in result ≡ refusal (window_checks r.day_length r.windows (window_tank r j) (window_from r j) tank from to) }
 {
+    let k = register.windows;
+    let j = k.saturating_sub(1);
+    let length = register.day_length;
     let out = (tank == 0)
         | (Register::MAX_TANK < tank)
         | (length <= from)
         | (to == 0)
         | (length < to);
+    let tank0 = register.window_tanks[j];
+    let from0 = register.window_froms[j];
     let falls = pair_falls(k, tank0, from0, tank, from);
     refuse_if(Register::MAX_WINDOWS <= k, Refusal::TooMany)?;
     refuse_if(out, Refusal::OutOfRange)?;
@@ -100,11 +96,9 @@ fn window_refusal(
 fn row_refusal(k: usize, total: i16, zeros: bool) -> Result<(), Refusal>
     ensures { number_in result ≡ refusal (row_checks k total zeros) }
 {
+    let out = Register::MAX_ROW_TOTAL < total.unsigned_abs();
     refuse_if(Register::MAX_ROWS <= k, Refusal::TooMany)?;
-    refuse_if(
-        Register::MAX_ROW_TOTAL < total.unsigned_abs(),
-        Refusal::OutOfRange,
-    )?;
+    refuse_if(out, Refusal::OutOfRange)?;
     refuse_if(!zeros, Refusal::NotThere)
 }
 
@@ -184,43 +178,18 @@ pub fn refusal_at(
             let tank = u16::read(bytes, at + 1);
             let minute = u16::read(bytes, at + 1 + 2);
             let may = may_feed(register, passed, tank, minute);
-            let i = register.choices.saturating_sub(1);
-            choice_refusal(
-                register.day_length,
-                register.choices,
-                register.tanks[i],
-                register.minutes[i],
-                tank,
-                minute,
-                may,
-            )
+            choice_refusal(register, tank, minute, may)
         }
         0x12 => {
             let mask = u32::read(bytes, at + 1);
             let coefficient = i32::read(bytes, at + 1 + 4);
-            let t = register.terms.saturating_sub(1);
-            term_refusal(
-                register.choices,
-                register.terms,
-                register.masks[t],
-                mask,
-                coefficient,
-            )
+            term_refusal(register, mask, coefficient)
         }
         0x13 => {
             let tank = u16::read(bytes, at + 1);
             let from = u16::read(bytes, at + 1 + 2);
             let to = u16::read(bytes, at + 1 + 2 + 2);
-            let j = register.windows.saturating_sub(1);
-            window_refusal(
-                register.day_length,
-                register.windows,
-                register.window_tanks[j],
-                register.window_froms[j],
-                tank,
-                from,
-                to,
-            )
+            window_refusal(register, tank, from, to)
         }
         0x14 => {
             let total = i16::read(bytes, at + 1);

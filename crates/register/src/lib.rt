@@ -21,7 +21,7 @@ use rows::put_entries;
 use windows::pass_windows;
 use wire::{Fault, FromBytes, Read, Refusal, Refused, by_itself};
 
-// The record that the register's bytes give. Entries past the counts are 0. The entries of all rows stand one after the other, those
+// The record that the register's bytes give, laid out for C: arrays, each with its count. Entries past the counts are 0. The entries of all rows stand one after the other, those
 // of each row by choice.
 #[repr(C)]
 #[derive(Clone, Copy)]
@@ -43,7 +43,8 @@ pub struct Register {
     pub row_entries: [i8; Register::MAX_ROWS * Register::ROW_ENTRIES],
 }
 
-// The answer of the call: a refusal's number, part and position, or zeros and the register.
+// The answer of the call: a refusal's number, part and position, or zeros and the register. C reads it, so the number stands beside
+// the register.
 #[repr(C)]
 #[derive(Clone, Copy)]
 pub struct RegisterAnswer {
@@ -125,6 +126,7 @@ pub fn read_register(bytes: &[u8]) -> Result<Read<Register>, Refused>
     ensures { reading_of result ≡ added_by (λ r. r) (register_in_job bytes.now) }
 {
     let mut register = Register::fresh();
+    // The byte of the last command, or 0 before the first, as in the definition of what follows what.
     let mut previous: u8 = 0;
     let mut at: usize = 0;
     // How many windows are of tanks below the last choice's.

@@ -13,7 +13,8 @@ fn is_term(command: u8) -> bool
     command == 0x12
 }
 
-// The position of the command of a term, counted from 0, or 0 where there are fewer: commands follow each other by their sizes.
+// The position of the command of a term, counted from 0, or 0 where there are fewer, which a refusal tells as it is: commands follow each
+// other by their sizes.
 pub fn term_position(bytes: &[u8], term: usize) -> usize
     ensures { result ≡ term_position bytes.now term }
 {

@@ -120,16 +120,16 @@ returns-in-17 c =
     let tank = c.read-tank.result in
     let minute = c.read-minute.result in
     c.choice_refusal.ensures
-    ∙ choice_settled r.day_length r.choices _ _ tank minute c.may_feed-may.result (may_feed r.windows r.window_tanks r.window_froms r.window_tos tank minute) (λ h. c.may_feed-may.ensures g.no_fall (risen r.window_tanks h (rw c.saturating_sub-i.ensures g.earlier)))
-    ∙ rw (c.saturating_sub-i.ensures, c.read-minute.ensures, c.read-tank.ensures) (own (goal.at.returns-in-17 c).In_ok-check_command 0x11 c.in-17.is)
+    ∙ choice_settled r.day_length r.choices _ _ tank minute c.may_feed-may.result (may_feed r.windows r.window_tanks r.window_froms r.window_tos tank minute) (λ h. c.may_feed-may.ensures g.no_fall (risen r.window_tanks h g.earlier))
+    ∙ rw (c.read-minute.ensures, c.read-tank.ensures) (own (goal.at.returns-in-17 c).In_ok-check_command 0x11 c.in-17.is)
 
 pub returns-in-18 : goal.returns-in-18
 unfolding row_of operands_at int_at
-returns-in-18 c = c.term_refusal.ensures ∙ rw (c.saturating_sub-t.ensures, to_z-of_z (record { sfits = c.read-coefficient.type_inv }), c.read-coefficient.ensures, c.read-mask.ensures) (own (goal.at.returns-in-18 c).In_ok-check_command 0x12 c.in-18.is)
+returns-in-18 c = c.term_refusal.ensures ∙ rw (to_z-of_z (record { sfits = c.read-coefficient.type_inv }), c.read-coefficient.ensures, c.read-mask.ensures) (own (goal.at.returns-in-18 c).In_ok-check_command 0x12 c.in-18.is)
 
 pub returns-in-19 : goal.returns-in-19
 unfolding row_of operands_at
-returns-in-19 c = c.window_refusal.ensures ∙ rw (c.saturating_sub-j.ensures, c.read-to.ensures, c.read-from.ensures, c.read-tank-in-19.ensures) (own (goal.at.returns-in-19 c).In_ok-check_command 0x13 c.in-19.is)
+returns-in-19 c = c.window_refusal.ensures ∙ rw (c.read-to.ensures, c.read-from.ensures, c.read-tank-in-19.ensures) (own (goal.at.returns-in-19 c).In_ok-check_command 0x13 c.in-19.is)
 
 pub returns-in-20 : goal.returns-in-20
 unfolding row_of operands_at int_at
