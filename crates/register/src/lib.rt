@@ -24,7 +24,7 @@ use wire::{Fault, FromBytes, Read, Refusal, Refused, by_itself};
 // The record that the register's bytes give, laid out for C: arrays, each with its count. Entries past the counts are 0. The entries of all rows stand one after the other, those
 // of each row by choice.
 #[repr(C)]
-#[derive(Clone, Copy)]
+#[derive(Clone, Copy, Debug, PartialEq, Eq)]
 pub struct Register {
     pub base: i32,
     pub day_length: u16,
@@ -46,7 +46,7 @@ pub struct Register {
 // The answer of the call: a refusal's number, part and position, or zeros and the register. C reads it, so the number stands beside
 // the register.
 #[repr(C)]
-#[derive(Clone, Copy)]
+#[derive(Clone, Copy, Debug, PartialEq, Eq)]
 pub struct RegisterAnswer {
     pub number: u8,
     pub part: u8,
