@@ -1,45 +1,25 @@
--- What parts 1 and 2 by themselves lead to, from the answers of the register's call and of the scheme's reader in a job.
-use mathlib.Core.Path.{◌≡◌, refl}
+-- What parts 1 and 2 by themselves lead to, from the register that is opened and the scheme that is read.
+use Prim.Native.Nat.{ℕ}
+use mathlib.Core.Path.{◌≡◌, ◌∙◌, ap}
 use mathlib.Core.List.{List}
-use Prim.Native.Nat.{ℕ, ◌<◌, ◌≤◌}
-use lib.ListN.{length}
-use Rattle.wire.specs.Part.{Reading, accepted}
-use Rattle.wire.specs.Rows.{Progress}
-use Rattle.wire.proofs.Part.{read_part_numbered}
-use Rattle.wire.proofs.Outcome.{Tells, told_refused, told_read, itself_refused, itself_past, itself_whole}
-use Rattle.register.specs.declared.RegisterAnswer.{RegisterAnswer}
-use Rattle.register.specs.Format.{register_by_itself}
-use Rattle.register.specs.Answer.{register_answer}
-use Rattle.register.proofs.Opened.{opened_refused, opened}
+use Rattle.std.specs.Prelude.{Result}
+use Rattle.wire.specs.declared.refusals.Refused.{Refused}
+use Rattle.wire.specs.declared.refusals.Read.{Read}
+use Rattle.wire.specs.Part.{by_itself}
+use Rattle.wire.specs.Outcome.{Outcome, accepts, given, and_then, added_by}
+use Rattle.wire.specs.Results.{reading_of, whole_of}
+use Rattle.wire.proofs.Results.{whole_added}
+use Rattle.register.specs.declared.Register.{Register}
+use Rattle.register.specs.Opening.{open_register}
 use Rattle.scheme.specs.declared.Scheme.{Scheme}
-use Rattle.scheme.specs.declared.SchemeRead.{SchemeRead}
-use Rattle.scheme.specs.Format.{scheme_part, scheme_in_job, scheme_by_itself}
-use Rattle.scheme.specs.Answer.{scheme_read, open_parts, refused_parts, accepted_parts, parts_read}
+use Rattle.scheme.specs.Format.{scheme_in_job, scheme_by_itself}
+use Rattle.scheme.specs.Answer.{open_parts}
 
-pub scheme_tells : Tells scheme_read (λ r. r.number) (λ r. r.position)
-scheme_tells = record { refusals = λ n at. (refl, refl); readings = λ p end. (refl, refl) }
-
-module _ (t s : List ℕ) (first : RegisterAnswer) (e : first ≡ register_answer (register_by_itself t)) where
-  pub register_refused : (first.number ≡ 0 → ⊥) → refused_parts first.number 1 first.position ≡ parts_read (open_parts t s)
-  register_refused h = rw (opened_refused t first e h)
-
-  module _ (z : first.number ≡ 0) (part : SchemeRead) (d : part ≡ scheme_read (scheme_in_job first.register s)) where
-    abbrev reading : Reading (Progress Scheme)
-    reading = scheme_in_job first.register s
-
-    pub scheme_refused : (part.number ≡ 0 → ⊥) → refused_parts part.number 2 part.position ≡ parts_read (open_parts t s)
-    unfolding scheme_by_itself
-    scheme_refused h = rw ((opened t first e z).reads, itself_refused s (told_refused scheme_read _ _ scheme_tells part reading d h))
-
-    module _ (h : part.number ≡ 0) where
-      went : (previous : ℕ) × (reading ≡ accepted (record { previous = previous; parsed = part.scheme }) part.position)
-      unfolding scheme_in_job
-      went = told_read scheme_read _ _ (λ r. r.scheme) scheme_tells (λ p end. refl) part reading d (read_part_numbered (scheme_part first.register) s) h
-
-      pub scheme_past : part.position < length s → refused_parts 12 2 part.position ≡ parts_read (open_parts t s)
-      unfolding scheme_by_itself
-      scheme_past l = rw ((opened t first e z).reads, itself_past s went.1 l)
-
-      pub scheme_whole : length s ≤ part.position → accepted_parts (first.register, part.scheme) ≡ parts_read (open_parts t s)
-      unfolding scheme_by_itself
-      scheme_whole l = rw ((opened t first e z).reads, itself_whole s went.1 l)
+-- both parts, from a register that is opened and the scheme that is read with it
+pub parts_opened : (t s : List ℕ) (reg : Register) (read : Result (Read Scheme) Refused) (x : Outcome Scheme) →
+    accepts reg ≡ open_register t → reading_of read ≡ added_by (λ sch. sch) (scheme_in_job reg s) → x ≡ whole_of 2 (by_itself s (reading_of read)) →
+    and_then x (λ sch. accepts (reg, sch)) ≡ open_parts t s
+unfolding scheme_by_itself
+parts_opened t s reg read x e d f =
+    let g : x ≡ given 2 (by_itself s (scheme_in_job reg s)) = f ∙ ap (λ r. whole_of 2 (by_itself s r)) d ∙ whole_added 2 s (scheme_in_job reg s) in
+    ap (λ y. and_then y (λ sch. accepts (reg, sch))) g ∙ ap (λ a. and_then a (λ reg. and_then (given 2 (scheme_by_itself reg s)) (λ sch. accepts (reg, sch)))) e

@@ -3,6 +3,7 @@ pub mod Variables
 pub mod Function
 pub mod Filling
 pub mod Sets
+pub mod Search
 pub mod Passes
 pub mod Entries
 pub mod Laws
@@ -11,6 +12,7 @@ pub mod Canonical
 pub mod Encoding
 pub mod Lowest
 pub mod Answers
+pub mod Truncated
 pub mod Worked
 pub mod Table
 pub mod Opened

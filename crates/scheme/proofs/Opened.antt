@@ -1,8 +1,11 @@
 -- For calls that open parts 1 and 2: what the outcome says of their bytes.
-use mathlib.Core.Path.{◌≡◌, refl, sym, ◌∙◌, ap, ap₂, subst}
+use mathlib.Core.Path.{◌≡◌, refl, sym, ◌∙◌, ap₂, subst}
 use mathlib.Core.List.{List}
 use Prim.Native.Nat.{ℕ}
 use lib.ListN.{length}
+use Rattle.std.specs.Prelude.{Ok, Err}
+use Rattle.wire.specs.declared.refusals.Fault.{Fault}
+use Rattle.wire.specs.Results.{number_of}
 use Rattle.wire.specs.Number.{Bytes}
 use Rattle.wire.specs.Part.{accepted}
 use Rattle.wire.specs.Rows.{Progress}
@@ -19,9 +22,9 @@ use Rattle.register.specs.Encoding as RE
 use Rattle.register.proofs.Accept as A
 use Rattle.wire.proofs.Accepting.{reached}
 use Rattle.scheme.specs.declared.Scheme.{Scheme}
-use Rattle.scheme.specs.declared.PartsRead.{PartsRead}
+use Rattle.scheme.specs.declared.parts.Quadratization.{Quadratization}
 use Rattle.scheme.specs.Format.{scheme_part, scheme_in_job, scheme_by_itself}
-use Rattle.scheme.specs.Answer.{open_parts, parts_read, refused_answer, accepted_answer, scheme_answer}
+use Rattle.scheme.specs.Answer.{open_parts, parts_of, refused_answer, accepted_answer, scheme_answer}
 use Rattle.scheme.specs.Valid.{Valid}
 use Rattle.scheme.specs.Encoding.{Encodes}
 use Rattle.scheme.proofs.Accept.{whole_valid, accepted_iff}
@@ -90,22 +93,14 @@ module _ (t s : List ℕ) (reg : Register) (sch : Scheme) (o : Opened t s reg sc
   pub scheme_bytes : Encodes reg sch s
   scheme_bytes = ((accepted_iff reg o.register_valid s sch).0 o.scheme_reads).1
 
--- ---- by what is answered
+-- ---- by what opening them gives
 
-module _ (t s : List ℕ) (r : PartsRead) (e : r ≡ parts_read (open_parts t s)) where
-  pub opened_refused : (r.number ≡ 0 → ⊥) → open_parts t s ≡ refuses r.number r.part r.position
-  opened_refused h = go (open_parts t s) e
-    where
-      go : (x : Outcome (Register × Scheme)) → r ≡ parts_read x → x ≡ refuses r.number r.part r.position
-      go (refuses n part at) f = rw f
-      go (accepts a) f = absurd (h (ap (λ r. r.number) f))
+module _ (t s : List ℕ) where
+  pub opened_refused : (fault : Fault) → parts_of (Err fault) ≡ open_parts t s → open_parts t s ≡ refuses (number_of fault.refusal) fault.part fault.position
+  opened_refused fault e = sym e
 
-  pub opened_accepted : r.number ≡ 0 → Opened t s r.register r.scheme
-  opened_accepted z = go (open_parts t s) refl e (opening_numbered t s)
-    where
-      go : (x : Outcome (Register × Scheme)) → open_parts t s ≡ x → r ≡ parts_read x → Numbered x → Opened t s r.register r.scheme
-      go (refuses n part at) x f d = absurd (d (sym (ap (λ r. r.number) f) ∙ z))
-      go (accepts (reg, sch)) x f d = rw f (opened t s reg sch x)
+  pub opened_accepted : (q : Quadratization) → parts_of (Ok q) ≡ open_parts t s → Opened t s q.register q.scheme
+  opened_accepted q e = opened t s q.register q.scheme (sym e)
 
 -- the scheme's call answers 0, and the register's call answers the register
 pub answer_opened : (t s : List ℕ) → (scheme_answer t s).number ≡ 0 → Opened t s (register_answer (register_by_itself t)).register (scheme_answer t s).scheme

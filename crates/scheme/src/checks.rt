@@ -1,7 +1,8 @@
-// The checks of the scheme's commands: refusals 1 to 8.
+// The checks of the scheme's commands, which are told apart by their bytes, as the format writes them.
 ghost use Rattle.std.specs.Prelude.{◌≡◌, [], ◌∷◌, ◌+◌, ◌<◌, ◌≤◌, length};
 ghost use Rattle.wire.specs.Checks.{refusal};
 ghost use Rattle.wire.specs.Part.{checks_at, size};
+ghost use Rattle.wire.specs.Results.{number_in};
 ghost use Rattle.wire.specs.Rows.{Progress, is_among, row_of};
 ghost use Rattle.register.specs.declared.Register.{Register};
 ghost use Rattle.scheme.specs.Scheme.{variables};
@@ -11,29 +12,35 @@ ghost use Rattle.scheme.specs.Answer.{seen_of};
 
 use super::{Scheme, Seen, union_of};
 use crate::lookup::first_with;
-use wire::{command_refusal, first_of};
+use wire::{FromBytes, Refusal, check_command, refuse_if};
 
 // No variable below the count has this set.
 fn is_new(sets: &[u32], count: usize, union: u32) -> bool
     requires { count ≤ length sets.now }
     ensures { result ≡ none_is sets.now count union }
 {
-    first_with(sets, count, union) == count
+    first_with(sets, count, union).is_none()
 }
 
-// The refusal of the product of variables l and r after k others, where there are n choices, or 0.
-fn product_refusal(sets: &[u32], n: usize, k: usize, l: u8, r: u8) -> u8
+// The refusal of the product of variables l and r after k others, where there are n choices.
+#[tactic(auto, unfolding(crate::specs::Format::product_checks, wire::specs::Checks::refusal))]
+fn product_refusal(sets: &[u32], n: usize, k: usize, l: u8, r: u8) -> Result<(), Refusal>
     requires { n + k ≤ length sets.now }
-    ensures { result ≡ refusal (product_checks k (n + k) l r (none_is sets.now (n + k) (union_in sets.now l r))) }
+    ensures { number_in result ≡ refusal (product_checks k (n + k) l r (none_is sets.now (n + k) (union_in sets.now l r))) }
 {
     let count = n + k;
-    let unnamed = (count <= l as usize) | (count <= r as usize);
-    let known = !is_new(sets, count, union_of(sets, l, r));
-    let named = first_of(unnamed, 5, first_of(r <= l, 6, first_of(known, 8, 0)));
-    first_of(Scheme::MAX_PRODUCTS <= k, 3, named)
+    let unnamed = (count <= usize::from(l)) | (count <= usize::from(r));
+    refuse_if(Scheme::MAX_PRODUCTS <= k, Refusal::TooMany)?;
+    refuse_if(unnamed, Refusal::NotThere)?;
+    refuse_if(r <= l, Refusal::Misordered)?;
+    refuse_if(
+        !is_new(sets, count, union_of(sets, l, r)),
+        Refusal::SetsUnfit,
+    )
 }
 
-// The refusal of the split l, r after others, for a term with this mask, where there are so many terms and variables, or 0.
+// The refusal of the split l, r after others, for a term with this mask, where there are so many terms and variables.
+#[tactic(auto, unfolding(crate::specs::Format::split_checks, wire::specs::Checks::refusal))]
 fn split_refusal(
     sets: &[u32],
     terms: usize,
@@ -42,20 +49,22 @@ fn split_refusal(
     l: u8,
     r: u8,
     mask: u32,
-) -> u8
-    ensures { result ≡ refusal (split_checks terms splits count l r (union_in sets.now l r) mask) }
+) -> Result<(), Refusal>
+    ensures { number_in result ≡ refusal (split_checks terms splits count l r (union_in sets.now l r) mask) }
 {
-    let unnamed = (count <= l as usize) | (count <= r as usize);
-    let unfit = union_of(sets, l, r) != mask;
-    let named = first_of(unnamed, 5, first_of(r < l, 6, first_of(unfit, 8, 0)));
-    first_of(terms <= splits, 3, named)
+    let unnamed = (count <= usize::from(l)) | (count <= usize::from(r));
+    refuse_if(terms <= splits, Refusal::TooMany)?;
+    refuse_if(unnamed, Refusal::NotThere)?;
+    refuse_if(r < l, Refusal::Misordered)?;
+    refuse_if(union_of(sets, l, r) != mask, Refusal::SetsUnfit)
 }
 
-// The refusal of an end after so many splits, where there are so many terms, or 0.
-fn end_refusal(terms: usize, splits: usize) -> u8
-    ensures { result ≡ refusal (end_checks terms splits) }
+// The refusal of an end after so many splits, where there are so many terms.
+#[tactic(auto, unfolding(crate::specs::Format::end_checks, wire::specs::Checks::refusal))]
+fn end_refusal(terms: usize, splits: usize) -> Result<(), Refusal>
+    ensures { number_in result ≡ refusal (end_checks terms splits) }
 {
-    first_of(splits < terms, 3, 0)
+    refuse_if(splits < terms, Refusal::TooMany)
 }
 
 // A split or the end may stand directly after a command, or first where that is 0.
@@ -88,35 +97,32 @@ fn command_size(command: u8) -> usize
     }
 }
 
-// The refusal of the command at a position, or 0, by what has been seen and the sets of the variables. Place and size first,
-// then its operands.
-pub fn refusal_at(bytes: &[u8], at: usize, seen: Seen, sets: &[u32]) -> u8
+// The refusal of the command at a position, by what has been seen and the sets of the variables. Place and size first, then
+// its operands.
+pub fn refusal_at(bytes: &[u8], at: usize, seen: Seen, sets: &[u32]) -> Result<(), Refusal>
     requires at_in_bounds { at < length bytes.now }
     requires products_in_bounds { seen.choices + seen.products ≤ length sets.now }
     ensures { (reg : Register) (p : Progress Scheme) → seen_of reg p ≡ seen →
         SetsBelow reg.choices p.parsed (variables reg.choices p.parsed) sets.now →
-        result ≡ refusal (checks_at (scheme_part reg) bytes.now p at) }
+        number_in result ≡ refusal (checks_at (scheme_part reg) bytes.now p at) }
 {
     let command = bytes[at];
-    let placed = command_refusal(
+    check_command(
         stands_after(seen.previous, command),
         bytes.len() - at,
         command_size(command),
-    );
-    if placed != 0 {
-        return placed;
-    }
+    )?;
     let n = seen.choices;
     let k = seen.products;
     match command {
         0x21 => {
-            let l = wire::u8_at(bytes, at + 1);
-            let r = wire::u8_at(bytes, at + 1 + 1);
+            let l = u8::read(bytes, at + 1);
+            let r = u8::read(bytes, at + 1 + 1);
             product_refusal(sets, n, k, l, r)
         }
         0x22 => {
-            let l = wire::u8_at(bytes, at + 1);
-            let r = wire::u8_at(bytes, at + 1 + 1);
+            let l = u8::read(bytes, at + 1);
+            let r = u8::read(bytes, at + 1 + 1);
             split_refusal(sets, seen.terms, seen.splits, n + k, l, r, seen.mask)
         }
         _ => end_refusal(seen.terms, seen.splits),

@@ -2,25 +2,29 @@
 
 #![tactic(auto)]
 
-use register::{Register, feedcheck_register};
-
 mod checks;
 pub mod lookup;
+mod parts;
 mod variable_sets;
 
 ghost use Rattle.std.specs.Prelude.{◌≡◌};
 ghost use Rattle.register.specs.Valid.{Valid};
 ghost use Rattle.scheme.specs.Scheme.{fresh};
 ghost use Rattle.scheme.specs.Format.{scheme_in_job};
-ghost use Rattle.scheme.specs.Answer.{refused_read, scheme_read, refused_parts, open_parts, parts_read, scheme_answer};
+ghost use Rattle.scheme.specs.Answer.{parts_of, open_parts, refused_answer, scheme_answer};
+ghost use Rattle.wire.specs.Results.{number_of, reading_of};
+ghost use Rattle.wire.specs.Outcome.{added_by};
 
 use checks::refusal_at;
+pub use parts::Quadratization;
+use register::{Register, open_register};
 use variable_sets::entry;
 pub use variable_sets::{choice_sets, sets_of, union_of};
+use wire::{Fault, FromBytes, Read, Refusal, Refused};
 
-// The record that the scheme's bytes give. Entries past the counts are 0.
+// The record that the scheme's bytes give. Entries past the counts are 0. C has it, so the arrays stand beside their counts.
 #[repr(C)]
-#[derive(Clone, Copy)]
+#[derive(Clone, Copy, Debug, PartialEq, Eq)]
 pub struct Scheme {
     pub products: usize,
     pub splits: usize,
@@ -30,9 +34,9 @@ pub struct Scheme {
     pub split_rights: [u8; Register::MAX_TERMS],
 }
 
-// What the checks of a command look at, beside the sets of the variables: the byte of the last command, the counts, and the
-// mask of the term to be split.
-#[derive(Clone, Copy)]
+// What the checks of a command look at, beside the sets of the variables: the byte of the last command, or 0 before the first,
+// as the format's lists of what a command may follow have it, the counts, and the mask of the term to be split.
+#[derive(Clone, Copy, Debug, PartialEq, Eq)]
 pub struct Seen {
     pub previous: u8,
     pub choices: usize,
@@ -42,28 +46,9 @@ pub struct Seen {
     pub mask: u32,
 }
 
-// What reading the scheme at the front of a run of bytes leads to: a refusal's number and position, or 0, the position past
-// the end, and the scheme.
-#[derive(Clone, Copy)]
-pub struct SchemeRead {
-    pub number: u8,
-    pub position: usize,
-    pub scheme: Scheme,
-}
-
-// What opening parts 1 and 2 leads to: a refusal's number, part and position, or zeros, the register and the scheme.
-#[derive(Clone, Copy)]
-pub struct PartsRead {
-    pub number: u8,
-    pub part: u8,
-    pub position: usize,
-    pub register: Register,
-    pub scheme: Scheme,
-}
-
-// The answer of the call: a refusal's number, part and position, or zeros and the scheme.
+// The answer of the call, a record of C: a refusal's number, part and position, or zeros and the scheme.
 #[repr(C)]
-#[derive(Clone, Copy)]
+#[derive(Clone, Copy, Debug, PartialEq, Eq)]
 pub struct SchemeAnswer {
     pub number: u8,
     pub part: u8,
@@ -91,66 +76,50 @@ impl Scheme {
     }
 }
 
-impl SchemeRead {
-    fn refused(number: u8, position: usize) -> SchemeRead
-        ensures { result ≡ refused_read number position }
+impl SchemeAnswer {
+    fn refused(fault: Fault) -> SchemeAnswer
+        ensures { result ≡ refused_answer (number_of fault.refusal) fault.part fault.position }
     {
-        let scheme = Scheme::fresh();
-        SchemeRead {
-            number: number,
-            position: position,
-            scheme: scheme,
-        }
-    }
-}
-
-impl PartsRead {
-    fn refused(number: u8, part: u8, position: usize) -> PartsRead
-        ensures { result ≡ refused_parts number part position }
-    {
-        let register = Register::fresh();
-        let scheme = Scheme::fresh();
-        PartsRead {
-            number: number,
-            part: part,
-            position: position,
-            register: register,
-            scheme: scheme,
+        SchemeAnswer {
+            number: fault.refusal.number(),
+            part: fault.part,
+            position: fault.position,
+            scheme: Scheme::fresh(),
         }
     }
 }
 
 // The scheme at the front of a run of bytes, with a register.
-pub fn read_scheme(bytes: &[u8], register: Register) -> SchemeRead
-    requires { Valid register }
-    ensures { result ≡ scheme_read (scheme_in_job register bytes.now) }
+pub fn read_scheme(bytes: &[u8], register: &Register) -> Result<Read<Scheme>, Refused>
+    requires { Valid register.now }
+    ensures { reading_of result ≡ added_by (λ scheme. scheme) (scheme_in_job register.now bytes.now) }
 {
     let n = register.choices;
-    let terms = register.terms;
     let mut scheme = Scheme::fresh();
     let mut sets = choice_sets(n);
     let mut previous: u8 = 0;
     let mut at: usize = 0;
+    // Commands differ in size, so the walk goes by position.
     while at < bytes.len() {
         let k = scheme.products;
         let t = scheme.splits;
         let seen = Seen {
-            previous: previous,
+            previous,
             choices: n,
-            terms: terms,
+            terms: register.terms,
             products: k,
             splits: t,
             mask: entry(&register.masks, t),
         };
-        let number = refusal_at(bytes, at, seen, &sets);
-        if number != 0 {
-            return SchemeRead::refused(number, at);
-        }
+        refusal_at(bytes, at, seen, &sets).map_err(|refusal| Refused {
+            refusal,
+            position: at,
+        })?;
         let command = bytes[at];
         match command {
             0x21 => {
-                let l = wire::u8_at(bytes, at + 1);
-                let r = wire::u8_at(bytes, at + 1 + 1);
+                let l = u8::read(bytes, at + 1);
+                let r = u8::read(bytes, at + 1 + 1);
                 sets[n + k] = union_of(&sets, l, r);
                 scheme.lefts[k] = l;
                 scheme.rights[k] = r;
@@ -159,51 +128,33 @@ pub fn read_scheme(bytes: &[u8], register: Register) -> SchemeRead
                 at += 3;
             }
             0x22 => {
-                scheme.split_lefts[t] = wire::u8_at(bytes, at + 1);
-                scheme.split_rights[t] = wire::u8_at(bytes, at + 1 + 1);
+                scheme.split_lefts[t] = u8::read(bytes, at + 1);
+                scheme.split_rights[t] = u8::read(bytes, at + 1 + 1);
                 scheme.splits = t + 1;
                 previous = 0x22;
                 at += 3;
             }
             _ => {
-                return SchemeRead {
-                    number: 0,
-                    position: at + 1,
-                    scheme: scheme,
-                };
+                return Ok(Read {
+                    value: scheme,
+                    end: at + 1,
+                });
             }
         }
     }
-    SchemeRead::refused(2, at)
+    Err(Refused {
+        refusal: Refusal::CutShort,
+        position: at,
+    })
 }
 
 // Parts 1 and 2, each a run of bytes by itself.
-pub fn open_parts(register: &[u8], scheme: &[u8]) -> PartsRead
-    ensures { result ≡ parts_read (open_parts register.now scheme.now) }
+pub fn open_parts(register: &[u8], scheme: &[u8]) -> Result<Quadratization, Fault>
+    ensures { parts_of result ≡ open_parts register.now scheme.now }
 {
-    let first = feedcheck_register(register);
-    let first_number = first.number;
-    if first_number != 0 {
-        return PartsRead::refused(first_number, 1, first.position);
-    }
-    let given = first.register;
-    let part = read_scheme(scheme, given);
-    let number = part.number;
-    let position = part.position;
-    if number != 0 {
-        return PartsRead::refused(number, 2, position);
-    }
-    if position < scheme.len() {
-        return PartsRead::refused(12, 2, position);
-    }
-    let whole = part.scheme;
-    PartsRead {
-        number: 0,
-        part: 0,
-        position: 0,
-        register: given,
-        scheme: whole,
-    }
+    let register = open_register(register)?;
+    let scheme = wire::by_itself(scheme, 2, read_scheme(scheme, &register))?;
+    Ok(Quadratization { register, scheme })
 }
 
 // The scheme of a register, each as a run of bytes by itself.
@@ -211,12 +162,13 @@ pub fn open_parts(register: &[u8], scheme: &[u8]) -> PartsRead
 pub extern "C" fn feedcheck_scheme(register: &[u8], scheme: &[u8]) -> SchemeAnswer
     ensures { result ≡ scheme_answer register.now scheme.now }
 {
-    let parts = open_parts(register, scheme);
-    let whole = parts.scheme;
-    SchemeAnswer {
-        number: parts.number,
-        part: parts.part,
-        position: parts.position,
-        scheme: whole,
+    match open_parts(register, scheme) {
+        Ok(quadratization) => SchemeAnswer {
+            number: 0,
+            part: 0,
+            position: 0,
+            scheme: quadratization.scheme,
+        },
+        Err(fault) => SchemeAnswer::refused(fault),
     }
 }

@@ -11,14 +11,14 @@ use super::Scheme;
 pub fn entry(entries: &[u32], i: usize) -> u32
     ensures { result ≡ get_or entries.now i 0 }
 {
-    if i < entries.len() { entries[i] } else { 0 }
+    entries.get(i).copied().unwrap_or(0)
 }
 
 // The union of the sets of two variables.
 pub fn union_of(sets: &[u32], l: u8, r: u8) -> u32
     ensures { result ≡ union_in sets.now l r }
 {
-    entry(sets, l as usize) | entry(sets, r as usize)
+    entry(sets, usize::from(l)) | entry(sets, usize::from(r))
 }
 
 // The sets of n choices.
@@ -27,10 +27,8 @@ pub fn choice_sets(n: usize) -> [u32; Scheme::MAX_VARIABLES]
     ensures { (s : Scheme) → SetsBelow n s n result }
 {
     let mut sets = [0; Scheme::MAX_VARIABLES];
-    let mut i = 0;
-    while i < n {
+    for i in 0..n {
         sets[i] = 1u32 << i;
-        i += 1;
     }
     sets
 }
@@ -42,12 +40,9 @@ pub fn sets_of(n: usize, scheme: Scheme) -> [u32; Scheme::MAX_VARIABLES]
     requires products { Products n scheme }
     ensures { SetsBelow n scheme (n + scheme.products) result }
 {
-    let products = scheme.products;
     let mut sets = choice_sets(n);
-    let mut k = 0;
-    while k < products {
+    for k in 0..scheme.products {
         sets[n + k] = union_of(&sets, scheme.lefts[k], scheme.rights[k]);
-        k += 1;
     }
     sets
 }

@@ -1,26 +1,27 @@
--- By what reading the register by itself and the scheme in a job leads to, and the bytes past its end.
-use mathlib.Core.Path.{◌∙◌}
-use Rattle.register.proofs.Opened.{opened}
-use Rattle.scheme.proofs.Answers.{scheme_refused, scheme_past, scheme_whole}
+-- By what opening the register and reading the scheme lead to.
+use Rattle.std.proofs.Common.{rules}
+use mathlib.Core.Path.{◌≡◌, sym, ◌∙◌}
+use Rattle.wire.specs.Outcome.{refuses, accepts}
+use Rattle.wire.specs.Results.{number_of}
+use Rattle.scheme.specs.Answer.{parts_of}
+use Rattle.scheme.proofs.Answers.{parts_opened}
+use Rattle.register.proofs.Opened.{opened_by}
+use Rattle.scheme.proofs.Opened.{opened}
 use Rattle.scheme.proofs.open_parts.Goals as goal
 
-pub read_scheme-part-requires : goal.read_scheme-part-requires
-read_scheme-part-requires c = let f = c.feedcheck_register-first in (opened _ f.result f.ensures c.if-first_number-ne0.false).valid
+pub read_scheme-requires : goal.read_scheme-requires
+read_scheme-requires c = (opened_by _ _ c.in_ok-register.ensures).valid
 
-pub returns-then-number-ne0 : goal.returns-then-number-ne0
-returns-then-number-ne0 c =
-    let f = c.feedcheck_register-first in
-    let r = c.read_scheme-part in
-    c.refused-then-number-ne0.ensures ∙ scheme_refused _ _ f.result f.ensures c.if-first_number-ne0.false r.result r.ensures c.if-number-ne0.true
-
-pub returns-then-position-scheme : goal.returns-then-position-scheme
-returns-then-position-scheme c =
-    let f = c.feedcheck_register-first in
-    let r = c.read_scheme-part in
-    c.refused-then-position-scheme.ensures ∙ scheme_past _ _ f.result f.ensures c.if-first_number-ne0.false r.result r.ensures c.if-number-ne0.false c.if-position-scheme.true
+pub returns-in_err-scheme : goal.returns-in_err-scheme
+returns-in_err-scheme c =
+    let f = c.in_err-scheme.field-0.0 in
+    let answer : parts_of c.from_residual-in_err-scheme.result ≡ refuses (number_of f.refusal) f.part f.position = search rules in
+    answer ∙ parts_opened _ _ _ c.read_scheme.result (refuses _ _ _) c.in_ok-register.ensures c.read_scheme.ensures c.in_err-scheme.ensures
 
 pub returns : goal.returns
-returns c =
-    let f = c.feedcheck_register-first in
-    let r = c.read_scheme-part in
-    scheme_whole _ _ f.result f.ensures c.if-first_number-ne0.false r.result r.ensures c.if-number-ne0.false c.if-position-scheme.false
+returns c = parts_opened _ _ _ c.read_scheme.result (accepts _) c.in_ok-register.ensures c.read_scheme.ensures c.in_ok-scheme.ensures
+
+pub invariant_of-result : goal.invariant_of-result
+invariant_of-result c =
+    let o = opened c.args.register.now c.args.scheme.now _ _ (sym (parts_opened _ _ _ c.read_scheme.result (accepts _) c.in_ok-register.ensures c.read_scheme.ensures c.in_ok-scheme.ensures)) in
+    record { register_valid = ∣ o.register_valid ∣₁; scheme_valid = o.scheme_valid }

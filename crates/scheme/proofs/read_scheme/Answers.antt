@@ -1,3 +1,4 @@
+use Rattle.std.proofs.Common.{rules}
 use Prim.Native.Nat.{ℕ, ◌+◌, ◌<◌}
 use native.Mathlib.Nat.{add-zero}
 use native.Mathlib.Omega.{arith}
@@ -8,7 +9,9 @@ use mathlib.Core.List.{List, [], ◌∷◌}
 use lib.ListN.{length, get_or}
 use Rattle.wire.specs.Checks.{refusal}
 use Rattle.wire.specs.Number.{nat_at}
-use Rattle.wire.specs.Part.{operands_at, total, checks_at}
+use Rattle.wire.specs.Part.{refused, operands_at, total, checks_at}
+use Rattle.wire.specs.Outcome.{added_by}
+use Rattle.wire.specs.Results.{number_of, number_in, reading_of}
 use Rattle.wire.specs.Rows.{Progress, row_of}
 use Rattle.wire.proofs.Rest.{only_last}
 use Rattle.wire.proofs.Accepting.{reached}
@@ -20,7 +23,8 @@ use Rattle.scheme.specs.declared.Scheme.{Scheme}
 use Rattle.scheme.specs.Scheme.{variables, fresh, with_split}
 use Rattle.scheme.specs.Sets.{SetsBelow}
 use Rattle.scheme.specs.Format.{product_row, split_row, end_row, scheme_rows, scheme_part, scheme_in_job}
-use Rattle.scheme.specs.Answer.{seen_of, scheme_read}
+use Rattle.scheme.specs.Answer.{seen_of}
+use Rattle.wire.proofs.Results.{numbered}
 use Rattle.scheme.proofs.Sets.{sets_same}
 use Rattle.scheme.proofs.Passes.{NextProduct, product_iff, NextSplit, split_iff}
 use Rattle.scheme.proofs.Entries.{lengths_within, grown_sets}
@@ -74,99 +78,115 @@ module _ {bytes : List ℕ} {reg : Register} {previous : ℕ} {s : Scheme} {at :
 
 pub loop-at-init : goal.loop-at-init
 loop-at-init c =
-    let reg = c.args.register in
+    let reg = c.args.register.now in
     rw c.fresh-scheme.ensures (record { going = going_starts fresh (scheme_rows reg) (laws reg c.requires) _; held = first_sets reg (c.choice_sets-sets.ensures fresh) })
 
-pub returns-then-number-ne0 : goal.returns-then-number-ne0
+pub returns-in_err-map_err : goal.returns-in_err-map_err
 unfolding scheme_in_job
-returns-then-number-ne0 c =
-    let reg = c.args.register in
+returns-in_err-map_err c =
+    let reg = c.args.register.now in
     let i = c.loop-at in
-    let n = c.refusal_at-number.ensures reg (reached i.previous i.scheme) (seen_is reg i.previous i.scheme c.entry.ensures) i.invariant.held in
-    c.refused.ensures ∙ ap scheme_read (sym (going_refused fresh (scheme_rows reg) (laws reg c.requires) i.invariant.going _ c.loop-at-test.true n c.if-number-ne0.true))
+    let r = c.in_err-map_err.field-0.0 in
+    let answer : reading_of c.from_residual.result ≡ refused (number_of r.refusal) r.position = search rules in
+    let place : r.position ≡ i.at = search rules in
+    let judged : number_of r.refusal ≡ number_in c.refusal_at.result = search rules in
+    let n = judged ∙ c.refusal_at.ensures reg (reached i.previous i.scheme) (seen_is reg i.previous i.scheme c.entry.ensures) i.invariant.held in
+    answer ∙ ap (refused (number_of r.refusal)) place ∙ ap (added_by (λ s. s)) (sym (going_refused fresh (scheme_rows reg) (laws reg c.requires) i.invariant.going _ c.loop-at-test.true n (numbered r.refusal)))
 
-pub u8_at-l-requires : goal.u8_at-l-requires
+pub read-l-requires : goal.read-l-requires
 unfolding row_of total
-u8_at-l-requires c =
-    let t = turn c.args.bytes.now c.args.register c.loop-at.previous c.loop-at.scheme c.loop-at.at c.loop-at-test.true c.entry.ensures c.loop-at.invariant.held c.refusal_at-number.ensures c.if-number-ne0.false in
+read-l-requires c =
+    let z : number_in c.refusal_at.result ≡ 0 = search rules in
+    let t = turn c.args.bytes.now c.args.register.now c.loop-at.previous c.loop-at.scheme c.loop-at.at c.loop-at-test.true c.entry.ensures c.loop-at.invariant.held c.refusal_at.ensures z in
     omega (arith, (here t 0x21 c.in-33.is).room)
 
-pub u8_at-r-requires : goal.u8_at-r-requires
+pub read-r-requires : goal.read-r-requires
 unfolding row_of total
-u8_at-r-requires c =
-    let t = turn c.args.bytes.now c.args.register c.loop-at.previous c.loop-at.scheme c.loop-at.at c.loop-at-test.true c.entry.ensures c.loop-at.invariant.held c.refusal_at-number.ensures c.if-number-ne0.false in
+read-r-requires c =
+    let z : number_in c.refusal_at.result ≡ 0 = search rules in
+    let t = turn c.args.bytes.now c.args.register.now c.loop-at.previous c.loop-at.scheme c.loop-at.at c.loop-at-test.true c.entry.ensures c.loop-at.invariant.held c.refusal_at.ensures z in
     omega (arith, (here t 0x21 c.in-33.is).room)
 
 pub bounds-sets-n : goal.bounds-sets-n
 bounds-sets-n c =
-    let t = turn c.args.bytes.now c.args.register c.loop-at.previous c.loop-at.scheme c.loop-at.at c.loop-at-test.true c.entry.ensures c.loop-at.invariant.held c.refusal_at-number.ensures c.if-number-ne0.false in
+    let z : number_in c.refusal_at.result ≡ 0 = search rules in
+    let t = turn c.args.bytes.now c.args.register.now c.loop-at.previous c.loop-at.scheme c.loop-at.at c.loop-at-test.true c.entry.ensures c.loop-at.invariant.held c.refusal_at.ensures z in
     omega (arith, c.requires.within.choices.few, (product t c.in-33.is).few)
 
 pub bounds-scheme-k : goal.bounds-scheme-k
 bounds-scheme-k c =
-    let t = turn c.args.bytes.now c.args.register c.loop-at.previous c.loop-at.scheme c.loop-at.at c.loop-at-test.true c.entry.ensures c.loop-at.invariant.held c.refusal_at-number.ensures c.if-number-ne0.false in
+    let z : number_in c.refusal_at.result ≡ 0 = search rules in
+    let t = turn c.args.bytes.now c.args.register.now c.loop-at.previous c.loop-at.scheme c.loop-at.at c.loop-at-test.true c.entry.ensures c.loop-at.invariant.held c.refusal_at.ensures z in
     (product t c.in-33.is).few
 
 pub bounds-scheme-k-in-33 : goal.bounds-scheme-k-in-33
 bounds-scheme-k-in-33 c =
-    let t = turn c.args.bytes.now c.args.register c.loop-at.previous c.loop-at.scheme c.loop-at.at c.loop-at-test.true c.entry.ensures c.loop-at.invariant.held c.refusal_at-number.ensures c.if-number-ne0.false in
+    let z : number_in c.refusal_at.result ≡ 0 = search rules in
+    let t = turn c.args.bytes.now c.args.register.now c.loop-at.previous c.loop-at.scheme c.loop-at.at c.loop-at-test.true c.entry.ensures c.loop-at.invariant.held c.refusal_at.ensures z in
     (product t c.in-33.is).few
 
 pub loop-at-preserved-in-33 : goal.loop-at-preserved-in-33
 unfolding row_of total operands_at
 loop-at-preserved-in-33 c =
-    let reg = c.args.register in
+    let reg = c.args.register.now in
     let i = c.loop-at in
-    let t = turn c.args.bytes.now c.args.register c.loop-at.previous c.loop-at.scheme c.loop-at.at c.loop-at-test.true c.entry.ensures c.loop-at.invariant.held c.refusal_at-number.ensures c.if-number-ne0.false in
+    let z : number_in c.refusal_at.result ≡ 0 = search rules in
+    let t = turn c.args.bytes.now c.args.register.now c.loop-at.previous c.loop-at.scheme c.loop-at.at c.loop-at-test.true c.entry.ensures c.loop-at.invariant.held c.refusal_at.ensures z in
     let f = c.in-33.is in
     let q = product t f in
-    rw (c.union_of.ensures, c.u8_at-r.ensures, c.u8_at-l.ensures, add-one)
+    rw (c.union_of.ensures, c.read-r.ensures, c.read-l.ensures, add-one)
     (record {
       going = on t c.requires i.invariant.going 0x21 f refl;
       held = grown_sets i.scheme _ _ reg.choices (lengths_within i.invariant.going.so_far.holds.within) q.few i.invariant.held (omega (arith, c.requires.within.choices.few, q.few)) (omega (arith, q.fits.ordered, q.fits.falls)) q.fits.falls;
     })
 
-pub u8_at-requires : goal.u8_at-requires
+pub read-requires : goal.read-requires
 unfolding row_of total
-u8_at-requires c =
-    let t = turn c.args.bytes.now c.args.register c.loop-at.previous c.loop-at.scheme c.loop-at.at c.loop-at-test.true c.entry.ensures c.loop-at.invariant.held c.refusal_at-number.ensures c.if-number-ne0.false in
+read-requires c =
+    let z : number_in c.refusal_at.result ≡ 0 = search rules in
+    let t = turn c.args.bytes.now c.args.register.now c.loop-at.previous c.loop-at.scheme c.loop-at.at c.loop-at-test.true c.entry.ensures c.loop-at.invariant.held c.refusal_at.ensures z in
     omega (arith, (here t 0x22 c.in-34.is).room)
 
 pub bounds-scheme-t : goal.bounds-scheme-t
 bounds-scheme-t c =
-    let t = turn c.args.bytes.now c.args.register c.loop-at.previous c.loop-at.scheme c.loop-at.at c.loop-at-test.true c.entry.ensures c.loop-at.invariant.held c.refusal_at-number.ensures c.if-number-ne0.false in
+    let z : number_in c.refusal_at.result ≡ 0 = search rules in
+    let t = turn c.args.bytes.now c.args.register.now c.loop-at.previous c.loop-at.scheme c.loop-at.at c.loop-at-test.true c.entry.ensures c.loop-at.invariant.held c.refusal_at.ensures z in
     omega (arith, c.requires.within.terms.few, (split t c.in-34.is).few)
 
-pub u8_at-requires-in-34 : goal.u8_at-requires-in-34
+pub read-requires-in-34 : goal.read-requires-in-34
 unfolding row_of total
-u8_at-requires-in-34 c =
-    let t = turn c.args.bytes.now c.args.register c.loop-at.previous c.loop-at.scheme c.loop-at.at c.loop-at-test.true c.entry.ensures c.loop-at.invariant.held c.refusal_at-number.ensures c.if-number-ne0.false in
+read-requires-in-34 c =
+    let z : number_in c.refusal_at.result ≡ 0 = search rules in
+    let t = turn c.args.bytes.now c.args.register.now c.loop-at.previous c.loop-at.scheme c.loop-at.at c.loop-at-test.true c.entry.ensures c.loop-at.invariant.held c.refusal_at.ensures z in
     omega (arith, (here t 0x22 c.in-34.is).room)
 
 pub bounds-scheme-t-in-34 : goal.bounds-scheme-t-in-34
 bounds-scheme-t-in-34 c =
-    let t = turn c.args.bytes.now c.args.register c.loop-at.previous c.loop-at.scheme c.loop-at.at c.loop-at-test.true c.entry.ensures c.loop-at.invariant.held c.refusal_at-number.ensures c.if-number-ne0.false in
+    let z : number_in c.refusal_at.result ≡ 0 = search rules in
+    let t = turn c.args.bytes.now c.args.register.now c.loop-at.previous c.loop-at.scheme c.loop-at.at c.loop-at-test.true c.entry.ensures c.loop-at.invariant.held c.refusal_at.ensures z in
     omega (arith, c.requires.within.terms.few, (split t c.in-34.is).few)
 
 pub loop-at-preserved : goal.loop-at-preserved
 unfolding row_of total operands_at
 loop-at-preserved c =
     let i = c.loop-at in
-    let t = turn c.args.bytes.now c.args.register c.loop-at.previous c.loop-at.scheme c.loop-at.at c.loop-at-test.true c.entry.ensures c.loop-at.invariant.held c.refusal_at-number.ensures c.if-number-ne0.false in
-    rw (c.u8_at-in-34.ensures, c.u8_at.ensures, add-one)
+    let z : number_in c.refusal_at.result ≡ 0 = search rules in
+    let t = turn c.args.bytes.now c.args.register.now c.loop-at.previous c.loop-at.scheme c.loop-at.at c.loop-at-test.true c.entry.ensures c.loop-at.invariant.held c.refusal_at.ensures z in
+    rw (c.read-in-34.ensures, c.read.ensures, add-one)
     (record { going = on t c.requires i.invariant.going 0x22 c.in-34.is refl; held = sets_same i.invariant.held (with_split i.scheme _ _) (λ w a b. (refl, refl)) })
 
 pub returns-in_default : goal.returns-in_default
 unfolding scheme_in_job row_of total operands_at
 returns-in_default c =
-    let reg = c.args.register in
+    let reg = c.args.register.now in
     let i = c.loop-at in
-    let t = turn c.args.bytes.now c.args.register c.loop-at.previous c.loop-at.scheme c.loop-at.at c.loop-at-test.true c.entry.ensures c.loop-at.invariant.held c.refusal_at-number.ensures c.if-number-ne0.false in
+    let z : number_in c.refusal_at.result ≡ 0 = search rules in
+    let t = turn c.args.bytes.now c.args.register.now c.loop-at.previous c.loop-at.scheme c.loop-at.at c.loop-at-test.true c.entry.ensures c.loop-at.invariant.held c.refusal_at.ensures z in
     let f = end t (λ e. omega arith) (λ e. omega arith) in
-    ap scheme_read (sym (going_ends fresh (scheme_rows reg) (laws reg c.requires) i.invariant.going t.inside t.judged 0x2F f refl))
+    ap (added_by (λ s. s)) (sym (going_ends fresh (scheme_rows reg) (laws reg c.requires) i.invariant.going t.inside t.judged 0x2F f refl))
 
 pub returns : goal.returns
 unfolding scheme_in_job
 returns c =
-    let reg = c.args.register in
-    c.refused-2.ensures ∙ ap scheme_read (sym (going_missing fresh (scheme_rows reg) (laws reg c.requires) c.loop-at.invariant.going c.loop-at-test.false))
+    let reg = c.args.register.now in
+    ap (added_by (λ s. s)) (sym (going_missing fresh (scheme_rows reg) (laws reg c.requires) c.loop-at.invariant.going c.loop-at-test.false))

@@ -1,11 +1,13 @@
 -- The common checks first, then by the command's byte those of its operands.
 use Prim.Native.Nat.{ℕ, ◌-◌, ◌≤◌}
 use native.Mathlib.Omega.{arith}
+use Rattle.std.proofs.Common.{rules}
 use mathlib.Core.Path.{◌≡◌, refl, ◌∙◌, ap}
 use mathlib.Core.Bool.{Bool}
 use mathlib.Core.List.{List, [], ◌∷◌}
 use lib.ListN.{length, get_or}
 use Rattle.wire.specs.Checks.{refusal, command_checks}
+use Rattle.wire.specs.Results.{number_of, number_in}
 use Rattle.wire.specs.Part.{operands_at, total, size, checks_at}
 use Rattle.wire.specs.Rows.{Progress, is_among, row_of}
 use Rattle.wire.proofs.Checks.{command_room, command_here}
@@ -18,6 +20,7 @@ use Rattle.scheme.specs.declared.Seen.{Seen}
 use Rattle.scheme.specs.Scheme.{fresh}
 use Rattle.scheme.specs.Format.{product_row, split_row, end_row, scheme_rows, scheme_part}
 use Rattle.scheme.specs.Answer.{seen_of}
+use Rattle.wire.proofs.Results.{numbered}
 use Rattle.scheme.proofs.Passes.{product_in, split_in}
 use Rattle.scheme.proofs.checks.refusal_at.Goals as goal
 
@@ -44,49 +47,51 @@ module _ (s : List ℕ) (at : ℕ) (seen : Seen) {placed : ℕ} (h : Judged s at
   end : (reg : Register) → (get_or s at 0 ≡ 0x21 → ⊥) → (get_or s at 0 ≡ 0x22 → ⊥) → get_or s at 0 ≡ 0x2F
   end reg f g = only_last (end_row reg) _ (product_row reg ∷ split_row reg ∷ []) (f, (g, tt)) _ (command_here _ _ _ [] _ (h reg) z)
 
-pub returns-then-placed-ne0 : goal.returns-then-placed-ne0
-returns-then-placed-ne0 c =
-    let j = judged c.args.bytes.now c.args.at c.args.seen.previous c.stands_after.ensures c.command_size.ensures c.command_refusal-placed.ensures in
-    λ reg p f h. common_refused fresh (scheme_rows reg) c.args.bytes.now p c.args.at _ refl _ (rw (ap (λ x. x.previous) f) (j reg)) c.if-placed-ne0.true
+pub returns-in_err-check_command : goal.returns-in_err-check_command
+returns-in_err-check_command c =
+    let r = c.in_err-check_command.field-0.0 in
+    let j = judged c.args.bytes.now c.args.at c.args.seen.previous c.stands_after.ensures c.command_size.ensures c.in_err-check_command.ensures in
+    let e : number_in c.from_residual.result ≡ number_of r = search rules in
+    λ reg p f h. e ∙ common_refused fresh (scheme_rows reg) c.args.bytes.now p c.args.at _ refl _ (rw (ap (λ x. x.previous) f) (j reg)) (numbered r)
 
-pub u8_at-l-requires : goal.u8_at-l-requires
+pub read-l-requires : goal.read-l-requires
 unfolding row_of total
-u8_at-l-requires c =
-    let j = judged c.args.bytes.now c.args.at c.args.seen.previous c.stands_after.ensures c.command_size.ensures c.command_refusal-placed.ensures in
-    omega (arith, room c.args.bytes.now c.args.at c.args.seen j c.if-placed-ne0.false 0x21 3 c.in-33.is refl)
+read-l-requires c =
+    let j = judged c.args.bytes.now c.args.at c.args.seen.previous c.stands_after.ensures c.command_size.ensures c.in_ok-check_command.ensures in
+    omega (arith, room c.args.bytes.now c.args.at c.args.seen j refl 0x21 3 c.in-33.is refl)
 
-pub u8_at-r-requires : goal.u8_at-r-requires
+pub read-r-requires : goal.read-r-requires
 unfolding row_of total
-u8_at-r-requires c =
-    let j = judged c.args.bytes.now c.args.at c.args.seen.previous c.stands_after.ensures c.command_size.ensures c.command_refusal-placed.ensures in
-    omega (arith, room c.args.bytes.now c.args.at c.args.seen j c.if-placed-ne0.false 0x21 3 c.in-33.is refl)
+read-r-requires c =
+    let j = judged c.args.bytes.now c.args.at c.args.seen.previous c.stands_after.ensures c.command_size.ensures c.in_ok-check_command.ensures in
+    omega (arith, room c.args.bytes.now c.args.at c.args.seen j refl 0x21 3 c.in-33.is refl)
 
-pub u8_at-l-requires-in-34 : goal.u8_at-l-requires-in-34
+pub read-l-requires-in-34 : goal.read-l-requires-in-34
 unfolding row_of total
-u8_at-l-requires-in-34 c =
-    let j = judged c.args.bytes.now c.args.at c.args.seen.previous c.stands_after.ensures c.command_size.ensures c.command_refusal-placed.ensures in
-    omega (arith, room c.args.bytes.now c.args.at c.args.seen j c.if-placed-ne0.false 0x22 3 c.in-34.is refl)
+read-l-requires-in-34 c =
+    let j = judged c.args.bytes.now c.args.at c.args.seen.previous c.stands_after.ensures c.command_size.ensures c.in_ok-check_command.ensures in
+    omega (arith, room c.args.bytes.now c.args.at c.args.seen j refl 0x22 3 c.in-34.is refl)
 
-pub u8_at-r-requires-in-34 : goal.u8_at-r-requires-in-34
+pub read-r-requires-in-34 : goal.read-r-requires-in-34
 unfolding row_of total
-u8_at-r-requires-in-34 c =
-    let j = judged c.args.bytes.now c.args.at c.args.seen.previous c.stands_after.ensures c.command_size.ensures c.command_refusal-placed.ensures in
-    omega (arith, room c.args.bytes.now c.args.at c.args.seen j c.if-placed-ne0.false 0x22 3 c.in-34.is refl)
+read-r-requires-in-34 c =
+    let j = judged c.args.bytes.now c.args.at c.args.seen.previous c.stands_after.ensures c.command_size.ensures c.in_ok-check_command.ensures in
+    omega (arith, room c.args.bytes.now c.args.at c.args.seen j refl 0x22 3 c.in-34.is refl)
 
 pub returns-in-33 : goal.returns-in-33
 unfolding row_of operands_at
 returns-in-33 c =
-    let j = judged c.args.bytes.now c.args.at c.args.seen.previous c.stands_after.ensures c.command_size.ensures c.command_refusal-placed.ensures in
-    λ reg p f h. c.product_refusal.ensures ∙ rw (← f, c.u8_at-r.ensures, c.u8_at-l.ensures) (product_in reg.choices p.parsed _ h _ _ ∙ own _ _ c.args.seen j c.if-placed-ne0.false reg p f 0x21 c.in-33.is)
+    let j = judged c.args.bytes.now c.args.at c.args.seen.previous c.stands_after.ensures c.command_size.ensures c.in_ok-check_command.ensures in
+    λ reg p f h. c.product_refusal.ensures ∙ rw (← f, c.read-r.ensures, c.read-l.ensures) (product_in reg.choices p.parsed _ h _ _ ∙ own _ _ c.args.seen j refl reg p f 0x21 c.in-33.is)
 
 pub returns-in-34 : goal.returns-in-34
 unfolding row_of operands_at
 returns-in-34 c =
-    let j = judged c.args.bytes.now c.args.at c.args.seen.previous c.stands_after.ensures c.command_size.ensures c.command_refusal-placed.ensures in
-    λ reg p f h. c.split_refusal.ensures ∙ rw (← f, c.u8_at-r-in-34.ensures, c.u8_at-l-in-34.ensures) (split_in reg.choices p.parsed _ h _ _ _ _ _ ∙ own _ _ c.args.seen j c.if-placed-ne0.false reg p f 0x22 c.in-34.is)
+    let j = judged c.args.bytes.now c.args.at c.args.seen.previous c.stands_after.ensures c.command_size.ensures c.in_ok-check_command.ensures in
+    λ reg p f h. c.split_refusal.ensures ∙ rw (← f, c.read-r-in-34.ensures, c.read-l-in-34.ensures) (split_in reg.choices p.parsed _ h _ _ _ _ _ ∙ own _ _ c.args.seen j refl reg p f 0x22 c.in-34.is)
 
 pub returns-in_default : goal.returns-in_default
 unfolding row_of operands_at
 returns-in_default c =
-    let j = judged c.args.bytes.now c.args.at c.args.seen.previous c.stands_after.ensures c.command_size.ensures c.command_refusal-placed.ensures in
-    λ reg p f h. c.end_refusal.ensures ∙ rw (← f) (own _ _ c.args.seen j c.if-placed-ne0.false reg p f 0x2F (end c.args.bytes.now c.args.at c.args.seen j c.if-placed-ne0.false reg (λ e. omega arith) (λ e. omega arith)))
+    let j = judged c.args.bytes.now c.args.at c.args.seen.previous c.stands_after.ensures c.command_size.ensures c.in_ok-check_command.ensures in
+    λ reg p f h. c.end_refusal.ensures ∙ rw (← f) (own _ _ c.args.seen j refl reg p f 0x2F (end c.args.bytes.now c.args.at c.args.seen j refl reg (λ e. omega arith) (λ e. omega arith)))

@@ -9,12 +9,11 @@ use Rattle.scheme.proofs.Sets.{sets_none, sets_put}
 use Rattle.scheme.proofs.variable_sets.choice_sets.Goals as goal
 
 pub loop-i-init : goal.loop-i-init
-loop-i-init c = record { within = omega arith; so_far = sets_none _ }
+loop-i-init c = record { so_far = sets_none _ }
 
 pub loop-i-preserved : goal.loop-i-preserved
 loop-i-preserved c = record {
-  within = omega arith;
-  so_far = λ s. rw (← (one_shifted w32 c.loop-i.i (omega arith)), add-one) (sets_put (c.loop-i.invariant.so_far s) (2 ^ c.loop-i.i) (omega arith) (sym (E_choice _ s c.loop-i.i c.loop-i-test.true)));
+  so_far = λ s. rw (← (one_shifted w32 c.loop-i.i (omega arith)), add-one) (sets_put (c.loop-i.invariant.so_far s) (2 ^ c.loop-i.i) (omega arith) (sym (E_choice _ s c.loop-i.i (omega arith))));
 }
 
 pub returns : goal.returns

@@ -8,7 +8,7 @@ use Rattle.scheme.proofs.Sets.{left_at, right_at, sets_product}
 use Rattle.scheme.proofs.variable_sets.sets_of.Goals as goal
 
 pub loop-k-init : goal.loop-k-init
-loop-k-init c = record { within = omega arith; so_far = rw add-zero (c.choice_sets-sets.ensures _) }
+loop-k-init c = record { so_far = rw add-zero (c.choice_sets-sets.ensures _) }
 
 pub loop-k-preserved : goal.loop-k-preserved
 loop-k-preserved c =
@@ -18,6 +18,5 @@ loop-k-preserved c =
     let p = c.requires.products (n + k) (omega arith) (omega arith) in
     let l : left n s (n + k) < n + k = left_falls n s c.requires.products (n + k) (omega arith) (omega arith) in
     record {
-      within = omega arith;
       so_far = rw (c.union_of.ensures, ← (add_assoc n k 1), add-one (n + k)) (sets_product c.loop-k.invariant.so_far _ _ (left_at n s k) (right_at n s k) (omega arith) (omega arith) (rw left_at at l) (rw right_at at p.falls));
     }

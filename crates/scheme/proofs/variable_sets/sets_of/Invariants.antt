@@ -1,10 +1,7 @@
 -- The entries passed are the sets of the variables, the others 0.
-use Prim.Native.Nat.{◌+◌, ◌-◌, ◌≤◌}
+use Prim.Native.Nat.{◌+◌}
 use Rattle.scheme.specs.Sets.{SetsBelow}
 use Rattle.scheme.proofs.variable_sets.sets_of.Given as goal
 
 abbrev pub invariant-loop-k : goal.invariant-loop-k
-invariant-loop-k l = record { within : l.k ≤ l.products; so_far : SetsBelow l.n l.scheme (l.n + l.k) l.sets }
-
-abbrev pub decreases-loop-k : goal.decreases-loop-k
-decreases-loop-k l = l.products - l.k
+invariant-loop-k l = record { so_far : SetsBelow l.n l.scheme (l.n + l.k) l.sets }
