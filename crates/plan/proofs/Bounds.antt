@@ -3,6 +3,7 @@ use mathlib.Core.Path.{◌≡◌, refl, sym}
 use mathlib.Core.Bool.{Bool, true, false, cond}
 use Prim.Native.Nat.{ℕ, suc, ◌+◌, ◌*◌, ◌≤◌, ◌<◌}
 use native.Mathlib.Nat.{le_refl}
+use native.Mathlib.Numerals.{add-one}
 use native.Mathlib.Omega.{arith}
 use lib.IntN.{ℤ, pos, nat_abs, ◌+ℤ◌, +ℤ_assoc, +ℤ_idr}
 use Rattle.integers.specs.Sum.{sum_below}
@@ -25,6 +26,9 @@ module _ (r : Register) (plan : ℕ) where
 
   pub cost_to_suc : (i : ℕ) → cost_to (suc i) ≡ cost_to i +ℤ term_cost (coefficient r i) r plan i
   cost_to_suc i = rw sum_below-suc (sym (+ℤ_assoc r.base _ _))
+
+  pub cost_to_next : (i : ℕ) → cost_to (i + 1) ≡ cost_to i +ℤ term_cost (coefficient r i) r plan i
+  cost_to_next i = rw add-one (cost_to_suc i)
 
   pub cost_to_all : cost_to r.terms ≡ cost (coefficient r) r plan
   unfolding cost

@@ -12,9 +12,12 @@ use Rattle.wire.specs.Number.{nat_at}
 use Rattle.wire.specs.Checks.{Check, refusal, command_checks}
 use Rattle.wire.specs.Part.{refused, accepted, operands_at, total, checks_at, after_at, read_part}
 use Rattle.wire.specs.Rows.{row_of}
+use Rattle.wire.specs.Results.{number_of}
+use Rattle.wire.specs.declared.refusals.Refusal.{Refusal}
 use Rattle.wire.proofs.Checks.{Passed, refusal_none}
 use Rattle.wire.proofs.Part.{read_from_missing, read_from_refused, read_from_ends}
 use Rattle.wire.proofs.Accepting.{reached}
+use Rattle.wire.proofs.Results.{numbered}
 use Rattle.register.specs.declared.Register.{Register}
 use Rattle.plan.specs.Fits.{fits}
 use Rattle.plan.specs.Format.{plan_checks, plan_part, plan_in_job}
@@ -43,6 +46,10 @@ module _ (reg : Register) (s : List ℕ) where
   pub plan_refused : (n : ℕ) → (length s ≡ 0 → ⊥) → n ≡ refusal_of reg s → (n ≡ 0 → ⊥) → plan_in_job reg s ≡ refused n 0
   unfolding plan_in_job read_part
   plan_refused n l e h = read_from_refused (plan_part reg) s (plan_part reg).start 0 n (omega arith) (sym (e ∙ refusal_is)) h
+
+  -- a refusal that its checks lead to
+  pub plan_refused_by : (refusal : Refusal) → (length s ≡ 0 → ⊥) → number_of refusal ≡ refusal_of reg s → plan_in_job reg s ≡ refused (number_of refusal) 0
+  plan_refused_by refusal l e = plan_refused (number_of refusal) l e (numbered refusal)
 
   -- where the command is not refused
   module _ (l : length s ≡ 0 → ⊥) (e : refusal_of reg s ≡ 0) where

@@ -1,10 +1,12 @@
 -- Whether a plan fits rows: the test, and that it is decided; sums of fed entries.
-use mathlib.Core.Path.{◌≡◌, refl, sym, ◌∙◌, ap}
-use mathlib.Core.Bool.{Bool, true, false, cond}
+use mathlib.Core.Path.{◌≡◌, refl, sym, ◌∙◌, ap, ap₂}
+use mathlib.Core.Bool.{Bool, true, false, cond, ◌&&◌}
 use mathlib.Core.Logic.{◌↔◌}
-use Prim.Native.Nat.{ℕ, suc, ◌*◌, ◌≤◌, ◌<◌}
+use Prim.Native.Nat.{ℕ, zero, suc, ◌+◌, ◌*◌, ◌≤◌, ◌<◌}
+use native.Mathlib.Numerals.{add-one}
 use native.Mathlib.Omega.{arith}
 use lib.IntN.{ℤ, pos, nat_abs, ◌+ℤ◌}
+use Rattle.std.specs.List.{list_all, range_with_len}
 use Rattle.std.proofs.lemmas.Bool.Decides.{Decides-int_eq}
 use Rattle.integers.specs.Lists.{all_below}
 use Rattle.integers.specs.Sum.{sum_below}
@@ -27,6 +29,9 @@ pub fed_sum-suc : (n : ℕ) (entry : ℕ → ℤ) (plan : ℕ) → fed_sum (suc 
 unfolding fed_sum sum_below
 fed_sum-suc n entry plan = refl
 
+pub fed_sum-next : (n : ℕ) (entry : ℕ → ℤ) (plan : ℕ) → fed_sum (n + 1) entry plan ≡ fed_sum n entry plan +ℤ cond (is_member n plan) (entry n) (pos 0)
+fed_sum-next n entry plan = rw add-one (fed_sum-suc n entry plan)
+
 -- entries within ±c
 pub fed_sum_small : (n : ℕ) (entry : ℕ → ℤ) (plan c : ℕ) → ((j : ℕ) → j < n → nat_abs (entry j) ≤ c) → nat_abs (fed_sum n entry plan) ≤ c * n
 unfolding fed_sum
@@ -45,6 +50,28 @@ fed_sum_cong n entry entry' plan h = sum_below_cong n _ _ (λ j l. ap (λ x. con
 pub fed_sum-set : (n : ℕ) (entry : ℕ → ℤ) (z : ℕ → Bool) → fed_sum n entry (set_of n z) ≡ sum_below n (λ j. cond (z j) (entry j) (pos 0))
 unfolding fed_sum
 fed_sum-set n entry z = sum_below_cong n _ _ (λ j l. ap (λ x. cond x (entry j) (pos 0)) (member_set_of n z j l))
+
+-- ---- a test of every number below a bound, one after the other
+
+all_below-front : (n : ℕ) (f : ℕ → Bool) → all_below (suc n) f ≡ f 0 && all_below n (λ i. f (suc i))
+unfolding all_below
+all_below-front zero f = by (f 0)
+  where
+    by : (b : Bool) → true && b ≡ b && true
+    by true = refl
+    by false = refl
+all_below-front (suc n) f = rw (all_below-front n f) (by (f 0) (all_below n (λ i. f (suc i))) (f (suc n)))
+  where
+    by : (a b c : Bool) → (a && b) && c ≡ a && (b && c)
+    by true b c = refl
+    by false b c = refl
+
+pub list_all_below : (n a : ℕ) (f g : ℕ → Bool) → ((i : ℕ) → i < n → f (a + i) ≡ g i) → list_all f (range_with_len a n) ≡ all_below n g
+unfolding all_below
+list_all_below zero a f g h = refl
+list_all_below (suc n) a f g h =
+    let first : a + 0 ≡ a = omega arith in
+    ap₂ ◌&&◌ (rw first at (h 0 (omega arith))) (list_all_below n (a + 1) f (λ i. g (suc i)) (λ i l. let e : a + 1 + i ≡ a + suc i = omega arith in rw e (h (suc i) (omega arith)))) ∙ sym (all_below-front n g)
 
 -- ---- whether a plan fits
 

@@ -1,25 +1,13 @@
--- What the plan's reader and the cost call answer, by what reading leads to.
+-- What the cost call answers, by what reading leads to.
 use Rattle.std.specs.Prelude.{ℕ, List, ℤ, pos}
-use Rattle.wire.specs.Part.{Reading, refused, accepted}
-use Rattle.wire.specs.Rows.{Progress}
 use Rattle.wire.specs.Outcome.{Outcome, accepts, given, and_then, answer_by}
 use Rattle.register.specs.Register.{coefficient}
 use Rattle.register.specs.Opening.{open_register}
-use Rattle.plan.specs.declared.PlanRead.{PlanRead}
 use Rattle.plan.specs.declared.CostAnswer.{CostAnswer}
 use Rattle.plan.specs.Plan.{cost}
 use Rattle.plan.specs.Format.{plan_by_itself}
 
--- for the reader of a job: a refusal's number and position, or 0, the position past the end and the plan
-
-abbrev pub refused_read : ℕ → ℕ → PlanRead
-refused_read number at = record { number = number; position = at; plan = 0 }
-
-abbrev pub plan_read : Reading (Progress ℕ) → PlanRead
-plan_read (refused number at) = refused_read number at
-plan_read (accepted p end) = record { number = 0; position = end; plan = p.parsed }
-
--- of the cost call: number, part and position of a refusal, other fields 0; or zeros and the cost
+-- number, part and position of a refusal, other fields 0; or zeros and the cost
 
 abbrev pub refused_cost : ℕ → ℕ → ℕ → CostAnswer
 refused_cost number part at = record { number = number; part = part; position = at; cost = pos 0 }
