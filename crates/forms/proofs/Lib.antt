@@ -3,3 +3,4 @@ pub mod Form
 pub mod Table
 pub mod Store
 pub mod Times
+pub mod Added

@@ -1,6 +1,7 @@
 -- What the code stores: a form added into a lent table, monomial by monomial.
-use Rattle.std.specs.Prelude.{ℕ, ◌+◌, ◌*◌, ◌≤◌, ◌<◌, List, [], ◌∷◌, ◌++◌, ℤ, pos, nat_abs, ◌+ℤ◌, length, get_or, set, drop, replicate}
+use Rattle.std.specs.Prelude.{◌≡◌, ℕ, ◌+◌, ◌*◌, ◌≤◌, ◌<◌, List, [], ◌∷◌, ◌++◌, ℤ, pos, nat_abs, ◌+ℤ◌, length, get_or, set, drop, replicate}
 use Rattle.forms.specs.Form.{Form, Monomial}
+use Rattle.forms.specs.declared.SquareTable.{SquareTable}
 
 -- c added to the number at k
 abbrev pub add_at : ℕ → ℤ → List ℤ → List ℤ
@@ -22,6 +23,22 @@ cleared k t = replicate k (pos 0) ++ drop k t
 pub record Bounded (n b : ℕ) (t : List ℤ) : Type 0 where
   pub long : n * n ≤ length t
   pub low : (k : ℕ) → k < n * n → nat_abs (get_or t k (pos 0)) ≤ b
+
+-- a table whose numbers are at most b in absolute value
+abbrev pub Room : ℕ → SquareTable → Type 0
+Room b t = Bounded t.side b t.numbers.now
+
+-- the same table, in the same lent run, which now has these numbers
+pub record Becomes (numbers : List ℤ) (before after : SquareTable) : Type 0 where
+  pub same_reference : after.numbers.ghost_name ≡ before.numbers.ghost_name
+  pub same_side : after.side ≡ before.side
+  pub holds : after.numbers.now ≡ numbers
+
+-- the same table, in the same lent run, with a form added
+pub record Adds (f : Form) (before after : SquareTable) : Type 0 where
+  pub same_reference : after.numbers.ghost_name ≡ before.numbers.ghost_name
+  pub same_side : after.side ≡ before.side
+  pub holds : after.numbers.now ≡ add_form before.side f before.numbers.now
 
 -- ---- how large a table's numbers may be before something is added, so that all sums are within 64 bits
 

@@ -1,8 +1,8 @@
 #![tactic(auto)]
 
-ghost use Rattle.std.specs.Prelude.{◌≡◌, ◌≤◌, ◌<◌, pos, nat_abs, ◌*ℤ◌, length, get_or};
+ghost use Rattle.std.specs.Prelude.{◌≡◌, ◌*◌, ◌≤◌, ◌<◌, pos, nat_abs, ◌*ℤ◌, length, get_or, [], ◌∷◌};
 ghost use Rattle.forms.specs.Form.{mono};
-ghost use Rattle.forms.specs.Store.{add_at, add_monomial, cleared, Bounded, max_added, max_before_number, max_before_monomial};
+ghost use Rattle.forms.specs.Store.{add_at, cleared, Room, Becomes, Adds, max_added, max_before_number, max_before_monomial};
 
 // The lent run of numbers that a call works in.
 #[derive(Clone, Copy)]
@@ -12,16 +12,19 @@ impl WorkingTable {
     pub const NUMBERS: usize = 4_225;
 }
 
+// A table of side `side`, row by row at the front of a lent run of numbers.
+#[derive(Drop)]
+pub struct SquareTable<'a> {
+    pub numbers: &'a mut [i64],
+    pub side: usize,
+}
+
 // Makes the first `n` numbers 0.
-pub fn clear(t: &mut [i64], n: usize)
+fn clear(t: &mut [i64], n: usize)
     requires { n ≤ length t.old }
     ensures { t.new ≡ cleared n t.old }
 {
-    let mut i = 0;
-    while i < n {
-        t[i] = 0;
-        i += 1;
-    }
+    t[..n].fill(0);
 }
 
 // Adds `c` to the number at `at`.
@@ -31,26 +34,39 @@ fn add_at(t: &mut [i64], at: usize, c: i64)
     requires c_bound { nat_abs c ≤ max_added }
     ensures { t.new ≡ add_at at c t.old }
 {
-    t[at] = t[at] + c;
+    t[at] += c;
 }
 
-// Adds the monomial `c` times place `p` times place `q` into a table of side `side`: `c` at (p, q) and `c` at (q, p).
-pub fn add_monomial(t: &mut [i64], side: usize, p: usize, q: usize, c: i64)
-    requires bounded { Bounded side max_before_monomial t.old }
-    requires p_lt_side { (p < side) × (q < side) }
-    requires c_bound { nat_abs c ≤ max_added }
-    ensures { t.new ≡ add_monomial side (mono p q c) t.old }
-{
-    add_at(t, p * side + q, c);
-    add_at(t, q * side + p, c);
-}
+impl<'a> SquareTable<'a> {
+    // Makes the numbers of the table 0.
+    pub fn clear(&mut self)
+        requires { self.old.side * self.old.side ≤ length self.old.numbers.now }
+        ensures { Becomes (cleared (self.old.side * self.old.side) self.old.numbers.now) self.old self.new }
+    {
+        let side = self.side;
+        clear(self.numbers, side * side);
+    }
 
-// Adds the monomial `k` times `c` times place `p` times place `q`.
-pub fn add_multiple(t: &mut [i64], side: usize, p: usize, q: usize, k: i64, c: i64)
-    requires bounded { Bounded side max_before_monomial t.old }
-    requires p_lt_side { (p < side) × (q < side) }
-    requires c_bound { nat_abs (k *ℤ c) ≤ max_added }
-    ensures { t.new ≡ add_monomial side (mono p q (k *ℤ c)) t.old }
-{
-    add_monomial(t, side, p, q, k * c);
+    // Adds the monomial `c` times place `p` times place `q`: `c` at (p, q) and `c` at (q, p).
+    #[tactic(auto, unfolding(crate::specs::Store::add_form))]
+    pub fn add_monomial(&mut self, p: usize, q: usize, c: i64)
+        requires room { Room max_before_monomial self.old }
+        requires p_lt_side { (p < self.old.side) × (q < self.old.side) }
+        requires c_bound { nat_abs c ≤ max_added }
+        ensures { Adds (mono p q c ∷ []) self.old self.new }
+    {
+        let side = self.side;
+        add_at(self.numbers, p * side + q, c);
+        add_at(self.numbers, q * side + p, c);
+    }
+
+    // Adds the monomial `k` times `c` times place `p` times place `q`.
+    pub fn add_multiple(&mut self, p: usize, q: usize, k: i64, c: i64)
+        requires room { Room max_before_monomial self.old }
+        requires p_lt_side { (p < self.old.side) × (q < self.old.side) }
+        requires c_bound { nat_abs (k *ℤ c) ≤ max_added }
+        ensures { Adds (mono p q (k *ℤ c) ∷ []) self.old self.new }
+    {
+        self.add_monomial(p, q, k * c);
+    }
 }

@@ -16,7 +16,7 @@ fn put_byte(out: &mut [u8], at: usize, byte: u8) -> usize
     at + 1
 }
 
-// Writes the decimal digits of a number.
+// Writes the decimal digits of a number, by hand: std's printing goes to a `String`, on the heap, or through a `fmt::Write` that can fail.
 fn put_digits(out: &mut [u8], at: usize, n: u64) -> usize
     requires { at + length (digits n) ≤ length out.old }
     ensures value { result ≡ at + length (digits n) }
@@ -49,7 +49,7 @@ fn put_integer(out: &mut [u8], at: usize, x: i64) -> usize
 {
     let start = put_byte(out, at, 0x20);
     let first = put_sign(out, start, x);
-    put_digits(out, first, wire::magnitude(x))
+    put_digits(out, first, x.unsigned_abs())
 }
 
 // Writes a line: a letter, the numbers and byte 0A.
@@ -58,12 +58,9 @@ pub fn put_line(out: &mut [u8], start: usize, letter: u8, numbers: &[i64]) -> us
     ensures value { result ≡ start + length (line letter numbers.now) }
     ensures out_after { out.new ≡ written out.old start (line letter numbers.now) }
 {
-    let first = put_byte(out, start, letter);
-    let mut at = first;
-    let mut i = 0;
-    while i < numbers.len() {
-        at = put_integer(out, at, numbers[i]);
-        i += 1;
+    let mut at = put_byte(out, start, letter);
+    for number in numbers {
+        at = put_integer(out, at, *number);
     }
     put_byte(out, at, 0x0A)
 }

@@ -23,7 +23,7 @@ put_digits-requires c =
       arith,
       length_integer c.args.x,
       ap (λ z. length (sign z)) (to_z-of_z c.ranges.x),
-      ap (λ k. length (digits k)) (c.magnitude.ensures ∙ ap nat_abs (to_z-of_z c.ranges.x)),
+      ap (λ k. length (digits k)) (c.unsigned_abs.ensures.value ∙ ap nat_abs (to_z-of_z c.ranges.x)),
     )
 
 pub returns : goal.returns
@@ -37,5 +37,5 @@ returns c =
     let second = and_then o a.at (0x20 ∷ []) (sign a.x) (b.value, b.out_after) (same _ _ (ap sign e) (n.value, n.out_after)) in
     let (value, out_after) =
     same o a.at (sym (field_integer a.x))
-    (and_then o a.at ((0x20 ∷ []) ++ sign a.x) (digits (nat_abs a.x)) second (same _ _ (ap digits (c.magnitude.ensures ∙ ap nat_abs e)) (d.value, d.out_after))) in
+    (and_then o a.at ((0x20 ∷ []) ++ sign a.x) (digits (nat_abs a.x)) second (same _ _ (ap digits (c.unsigned_abs.ensures.value ∙ ap nat_abs e)) (d.value, d.out_after))) in
     record { value = value; out_after = out_after }

@@ -17,11 +17,11 @@ use Rattle.text.specs.Fields.{field}
 use Rattle.text.proofs.Lines.{field_of, line-fields, length-line}
 use Rattle.text.proofs.put_line.Goals as goal
 
-pub put_byte-first-requires : goal.put_byte-first-requires
-put_byte-first-requires c = omega (arith, length-line c.args.letter c.args.numbers.now)
+pub put_byte-at-requires : goal.put_byte-at-requires
+put_byte-at-requires c = omega (arith, length-line c.args.letter c.args.numbers.now)
 
-pub loop-i-init : goal.loop-i-init
-loop-i-init c = begins _ _ _ _
+pub loop-number-init : goal.loop-number-init
+loop-number-init c = begins _ _ _ _
 
 -- once the first byte is written, there is room for the others
 fits : (letter : ℕ) (xs : List ℤ) (s out : List ℕ) (start first : ℕ) → start + length (line letter xs) ≤ length s → first ≡ start + 1 → out ≡ written s start (letter ∷ [])
@@ -35,34 +35,34 @@ number z f = ap field (to_z-of_z f)
 pub put_integer-at-requires : goal.put_integer-at-requires
 put_integer-at-requires c =
     let a = c.args in
-    let p = c.put_byte-first in
+    let p = c.put_byte-at in
     let h = fits a.letter a.numbers.now a.out.now p.new.out a.start p.result c.requires p.ensures.value p.ensures.out_after in
     omega (
       arith,
-      ap length (number (get_or a.numbers.now c.loop-i.i (pos 0)) (search rules)),
-      room _ _ _ _ c.loop-i.invariant (omega arith) (omega arith),
+      ap length (number (get_or a.numbers.now c.loop-number.number-index (pos 0)) (search rules)),
+      room _ _ _ _ c.loop-number.invariant (omega arith) (omega arith),
     )
 
-pub loop-i-preserved : goal.loop-i-preserved
-loop-i-preserved c =
+pub loop-number-preserved : goal.loop-number-preserved
+loop-number-preserved c =
     let w = c.put_integer-at.ensures in
-    turn _ _ _ _ c.loop-i.invariant (omega arith)
-    (same _ _ (number (get_or c.args.numbers.now c.loop-i.i (pos 0)) (search rules)) (w.value, w.out_after))
+    turn _ _ _ _ c.loop-number.invariant (omega arith)
+    (same _ _ (number (get_or c.args.numbers.now c.loop-number.number-index (pos 0)) (search rules)) (w.value, w.out_after))
 
 pub put_byte-requires : goal.put_byte-requires
 put_byte-requires c =
     let a = c.args in
-    let p = c.put_byte-first in
+    let p = c.put_byte-at in
     let h = fits a.letter a.numbers.now a.out.now p.new.out a.start p.result c.requires p.ensures.value p.ensures.out_after in
-    omega (arith, (ends _ _ _ _ c.loop-i.invariant (omega arith)).0, length_going _ _ _ _ c.loop-i.invariant)
+    omega (arith, (ends _ _ _ _ c.loop-number.invariant (omega arith)).0, length_going _ _ _ _ c.loop-number.invariant)
 
 pub returns : goal.returns
 returns c =
     let a = c.args in
     let o = a.out.now in
-    let p = c.put_byte-first.ensures in
+    let p = c.put_byte-at.ensures in
     let q = c.put_byte.ensures in
-    let fields = and_then o a.start (a.letter ∷ []) _ (p.value, p.out_after) (ends _ _ _ _ c.loop-i.invariant (omega arith)) in
+    let fields = and_then o a.start (a.letter ∷ []) _ (p.value, p.out_after) (ends _ _ _ _ c.loop-number.invariant (omega arith)) in
     let (value, out_after) =
     same o a.start (sym (line-fields a.letter a.numbers.now)) (and_then o a.start _ (0x0A ∷ []) fields (q.value, q.out_after)) in
     record { value = value; out_after = out_after }
