@@ -1,18 +1,17 @@
 -- What each kind of multiplier command asks, as the code has it: by the sets that it keeps.
-use mathlib.Core.Path.{◌≡◌, refl, sym, ◌∙◌, ap, ap₂}
-use mathlib.Core.Bool.{Bool, true, false, cond, not, ◌&&◌, ◌||◌}
+use mathlib.Core.Path.{◌≡◌, refl, ap, ap₂}
+use mathlib.Core.Bool.{Bool, true, false, ◌&&◌}
 use mathlib.Core.Logic.{inl, inr}
 use mathlib.Core.List.{List, [], ◌∷◌}
 use Prim.Native.Nat.{ℕ, ◌≤◌}
 use native.Mathlib.Omega.{arith}
 use lib.Bits.{bit_or}
 use lib.Dec.{eqb, ltb, leb}
-use lib.IntN.{ℤ, pos, neg_ℤ}
-use lib.Signed.{lt_z}
+use lib.IntN.{pos, neg_ℤ}
 use lib.ListN.{get_or}
 use borrow.Author.Tests.{ltb-true, ne_eqb}
 use Rattle.integers.specs.Lists.{all_below}
-use Rattle.integers.proofs.Lists.{flag, and_both, ◌▹◌}
+use Rattle.integers.proofs.Lists.{and_both, ◌▹◌}
 use Rattle.wire.specs.Checks.{refusal}
 use Rattle.sets.specs.Sets.{is_proper_subset}
 use Rattle.register.specs.declared.Register.{Register}
@@ -24,7 +23,7 @@ use Rattle.certificate.specs.declared.Rule.{Rule as RuleTests}
 use Rattle.certificate.specs.declared.Multiplier.{Multiplier as Named}
 use Rattle.certificate.specs.Certificate.{Multiplier}
 use Rattle.certificate.specs.Rules.{Rule, by_key, no_rule, rules, rule_of}
-use Rattle.certificate.specs.Limits.{max_multipliers, max_multiplier, max_row_multiplier}
+use Rattle.certificate.specs.Limits.{max_multiplier, max_row_multiplier}
 use Rattle.certificate.specs.Format.{multiplier_checks}
 use Rattle.certificate.specs.Answer.{IsMultiplier, named_of, rule_asked, TestsOf}
 use Rattle.certificate.proofs.Ranges.{among_all, in_range}
@@ -37,17 +36,6 @@ row_tests there = record { least = neg_ℤ (pos max_row_multiplier); most = pos 
 
 abbrev pub subtracted_tests : Bool → RuleTests
 subtracted_tests there = record { least = pos 0; most = pos max_multiplier; there = there; ordered = true; fits = true }
-
--- the refusal of a multiplier command after others, by the tests of its rule
-pub tests_refusal : (multipliers : ℕ) (rule : Rule) (r : RuleTests) (m : ℤ) → TestsOf rule r → refusal (multiplier_checks multipliers rule m)
-    ≡ cond (leb max_multipliers multipliers) 3
-    (cond (lt_z m r.least || lt_z r.most m) 4
-    (cond (not r.there) 5 (cond (not r.ordered) 6 (cond (not r.fits) 8 0))))
-unfolding multiplier_checks refusal
-tests_refusal multipliers rule r m h =
-    flag rule.there
-    (λ t. rw (h.fits_is t, h.least_is, h.most_is, h.there_is, h.ordered_is))
-    (λ t. let u : r.there ≡ false = sym h.there_is ∙ t in rw (t, u, h.least_is, h.most_is))
 
 -- the checks of a multiplier command as the code reads it
 pub own_named : (multipliers : ℕ) (reg : Register) (sch : Scheme) (t : Named) (u : Multiplier) → t ≡ named_of u → refusal (multiplier_checks multipliers (rule_asked reg sch t) t.m) ≡ refusal (multiplier_checks multipliers (rule_of reg sch u) u.m)

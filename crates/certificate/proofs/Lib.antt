@@ -3,6 +3,7 @@ pub mod Conditions
 pub mod Commands
 pub mod Operands
 pub mod Filling
+pub mod Within
 pub mod Ranges
 pub mod Asks
 pub mod Sizes

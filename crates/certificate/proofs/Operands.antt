@@ -4,7 +4,10 @@ use mathlib.Core.List.{List, [], ◌∷◌, ◌++◌, map}
 use Prim.Native.Nat.{ℕ, zero, suc, ◌+◌, ◌*◌, ◌<◌, ◌≤◌}
 use native.Mathlib.Nat.{one-mul}
 use native.Mathlib.Omega.{arith}
-use lib.ListN.{length, get_or, replicate, get_or-eq_default}
+use lib.ListN.{length, get_or, take, drop, replicate, get_or-eq_default, length-take}
+use Rattle.std.proofs.lemmas.List.{get_or-take, get_or-drop}
+use native.Mathlib.Decide.{dec_lt}
+use Rattle.wire.proofs.Number.{nat_at_one}
 use lib.IntN.{ℤ, pos}
 use mir.Syntax.{w16}
 use mir.Val.{to_z}
@@ -25,6 +28,16 @@ name_there k s at i l = operand_at k 1 s at i l ∙ ap (λ x. nat_at 1 s (at + x
 pub name_past : (k : ℕ) (s : List ℕ) (at i : ℕ) → k ≤ i → get_or (operands_at (replicate k 1) s at) i 0 ≡ 0
 name_past k s at i l =
     get_or-eq_default (operands_at (replicate k 1) s at) 0 (omega (arith, length_many k 1 s at))
+
+-- and so it is among the bytes that stand there
+pub name_is : (k : ℕ) (s : List ℕ) (at i : ℕ) → at + k ≤ length s → get_or (take k (drop at s)) i 0 ≡ get_or (operands_at (replicate k 1) s at) i 0
+name_is k s at i l = by (dec_lt i k)
+  where
+    by : Dec (i < k) → get_or (take k (drop at s)) i 0 ≡ get_or (operands_at (replicate k 1) s at) i 0
+    by (yes b) =
+        get_or-take k (drop at s) i 0 b ∙ get_or-drop at s i 0
+        ∙ sym (name_there k s at i b ∙ nat_at_one s (at + i) (omega arith))
+    by (no d) = get_or-eq_default (take k (drop at s)) 0 (omega (arith, length-take k (drop at s))) ∙ sym (name_past k s at i (omega arith))
 
 -- the numbers that a multiplier command names, and the multiplier after them
 

@@ -1,7 +1,6 @@
--- What the code keeps of a certificate, what its checks look at, and what the certificate's calls answer, by what reading leads
--- to. The code's records have the paper's names too: here they are Counts, Named, Filled and RuleTests.
-use Rattle.std.specs.Prelude.{ℕ, ◌+◌, ◌≤◌, ◌⊎◌, ◌≡◌, Bool, true, ◌&&◌, ◌||◌, List, leb, ℤ, pos, nat_abs, length, get_or, replicate}
-use Rattle.wire.specs.Part.{Reading, refused, accepted, operands_at}
+-- What the code keeps of a certificate, and what its checks look at. The code's records have the paper's names too: here they are Counts, Named, Filled and RuleTests.
+use Rattle.std.specs.Prelude.{ℕ, ◌+◌, ◌≤◌, ◌⊎◌, ◌≡◌, true, List, pos, length, get_or, replicate}
+use Rattle.wire.specs.Part.{operands_at}
 use Rattle.wire.specs.Rows.{Progress}
 use Rattle.register.specs.declared.Register.{Register}
 use Rattle.scheme.specs.declared.Scheme.{Scheme}
@@ -12,8 +11,7 @@ use Rattle.certificate.specs.declared.Multiplier.{Multiplier as Named}
 use Rattle.certificate.specs.declared.Square.{Square as Filled}
 use Rattle.certificate.specs.declared.Rule.{Rule as RuleTests}
 use Rattle.certificate.specs.declared.Seen.{Seen}
-use Rattle.certificate.specs.declared.CertificateRead.{CertificateRead}
-use Rattle.certificate.specs.Limits.{square_entries, max_entry}
+use Rattle.certificate.specs.Limits.{square_entries}
 use Rattle.certificate.specs.Certificate.{Multiplier, Square, Certificate}
 use Rattle.certificate.specs.Rules.{Rule, by_key, no_rule, rules}
 use Rattle.certificate.specs.Format.{multiplier_widths, square_widths, multiplier_of, square_of}
@@ -50,7 +48,11 @@ filled_of q = record { weight = q.w; entries = q.v }
 abbrev pub square_in : Filled → Square
 square_in q = record { w = q.weight; v = q.entries }
 
--- no square read yet
+-- nothing read yet
+
+abbrev pub fresh_counts : Counts
+fresh_counts = record { scale = 0; target = pos 0; multipliers = 0; squares = 0 }
+
 unfoldable pub fresh_square : Filled
 fresh_square = record { weight = 0; entries = replicate square_entries (pos 0) }
 
@@ -61,12 +63,6 @@ multiplier_at s at = let kind = get_or s at 0 in multiplier_of kind (operands_at
 
 unfoldable pub square_read : List ℕ → ℕ → Square
 square_read s at = square_of (operands_at square_widths s (at + 1))
-
--- an entry of a square is within its range, and past a place at most a limit in magnitude
-abbrev pub small_past : (place limit : ℕ) → List ℤ → ℕ → Bool
-small_past place limit v i =
-    let size = nat_abs (get_or v i (pos 0)) in
-    leb size max_entry && (leb i place || leb size limit)
 
 -- ---- what the checks look at
 
@@ -99,18 +95,3 @@ pub record TestsOf (rule : Rule) (r : RuleTests) : Type 0 where
   pub there_is : rule.there ≡ r.there
   pub ordered_is : rule.ordered ≡ r.ordered
   pub fits_is : rule.there ≡ true → rule.fits ≡ r.fits
-
--- ---- answers
-
--- nothing read
-abbrev pub fresh_counts : Counts
-fresh_counts = record { scale = 0; target = pos 0; multipliers = 0; squares = 0 }
-
--- for the reader of a job: a refusal's number and position, or 0, the position past the end and the certificate's counts
-
-abbrev pub refused_read : ℕ → ℕ → CertificateRead
-refused_read number at = record { number = number; position = at; certificate = fresh_counts }
-
-abbrev pub commands_read : Reading (Progress Certificate) → CertificateRead
-commands_read (refused number at) = refused_read number at
-commands_read (accepted p end) = record { number = 0; position = end; certificate = counts_of p.parsed }

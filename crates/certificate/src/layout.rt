@@ -5,7 +5,9 @@ ghost use Rattle.certificate.specs.Format.{command_size};
 ghost use Rattle.certificate.specs.Answer.{IsMultiplier, named_of, filled_of, multiplier_at, square_read};
 
 use super::{Multiplier, Square};
+use wire::FromBytes;
 
+#[tactic(auto, unfolding(crate::specs::Format::command_size, crate::specs::Rules::by_key, crate::specs::Rules::arity, wire::specs::Part::total))]
 // The bytes of a command: its byte, then a scale u32 and a target i64; or the numbers that it names, u8 each, and m i64; or a weight u32 and entries
 // i16 each; or nothing. 1 where the byte is no command.
 pub fn command_size(command: u8) -> usize
@@ -24,16 +26,11 @@ pub fn command_size(command: u8) -> usize
     }
 }
 
-// The number that the multiplier command at a position names at a place, 0 where it names fewer.
-fn name_at(bytes: &[u8], at: usize, count: usize, place: usize) -> u8
-    requires { at + 1 + count ≤ length bytes.now }
-    ensures { result ≡ get_or (operands_at (replicate count 1) bytes.now (at + 1)) place 0 }
+// The number at a place among those that a multiplier command names, 0 where it names fewer.
+fn name_at(names: &[u8], place: usize) -> u8
+    ensures { result ≡ get_or names.now place 0 }
 {
-    if place < count {
-        wire::u8_at(bytes, at + 1 + place)
-    } else {
-        0
-    }
+    names.get(place).copied().unwrap_or(0)
 }
 
 // The multiplier command at a position.
@@ -45,13 +42,14 @@ pub fn multiplier_at(bytes: &[u8], at: usize) -> Multiplier
     let kind = bytes[at];
     // The numbers named stand between the command's byte and the 8 bytes of m.
     let count = command_size(kind) - 9;
+    let names = &bytes[at + 1..at + 1 + count];
     Multiplier {
-        kind: kind,
-        i: name_at(bytes, at, count, 0),
-        j: name_at(bytes, at, count, 1),
-        k: name_at(bytes, at, count, 2),
-        l: name_at(bytes, at, count, 3),
-        m: wire::i64_at(bytes, at + 1 + count),
+        kind,
+        i: name_at(names, 0),
+        j: name_at(names, 1),
+        k: name_at(names, 2),
+        l: name_at(names, 3),
+        m: i64::read(bytes, at + 1 + count),
     }
 }
 
@@ -61,11 +59,9 @@ pub fn square_at(bytes: &[u8], at: usize) -> Square
     ensures { result ≡ filled_of (square_read bytes.now at) }
 {
     let mut square = Square::fresh();
-    square.weight = wire::u32_at(bytes, at + 1);
-    let mut i = 0;
-    while i < Square::ENTRIES {
-        square.entries[i] = wire::i16_at(bytes, at + 5 + 2 * i);
-        i += 1;
+    square.weight = u32::read(bytes, at + 1);
+    for i in 0..Square::ENTRIES {
+        square.entries[i] = i16::read(bytes, at + 5 + 2 * i);
     }
     square
 }

@@ -2,27 +2,27 @@
 
 #![tactic(auto)]
 
-use register::Register;
-use scheme::Scheme;
+use scheme::{Quadratization, Scheme};
+use wire::{FromBytes, Read, Refusal, Refused};
 
 mod checks;
 mod layout;
 
 ghost use Rattle.std.specs.Prelude.{◌≡◌, true, pos, neg_ℤ};
-ghost use Rattle.register.specs.Valid.{Valid as RegisterValid};
-ghost use Rattle.scheme.specs.Valid.{Valid as SchemeValid};
+ghost use Rattle.wire.specs.Outcome.{added_by};
+ghost use Rattle.wire.specs.Results.{reading_of};
 ghost use Rattle.scheme.specs.Sets.{SetsBelow};
 ghost use Rattle.scheme.specs.Scheme.{variables};
 ghost use Rattle.certificate.specs.Limits.{max_multiplier, max_row_multiplier};
 ghost use Rattle.certificate.specs.Format.{commands_in_job};
-ghost use Rattle.certificate.specs.Answer.{fresh_counts, fresh_square, refused_read, commands_read};
+ghost use Rattle.certificate.specs.Answer.{fresh_counts, fresh_square, counts_of};
 
 use checks::refusal_at;
 pub use layout::{command_size, multiplier_at, square_at};
 
 // A certificate by its counts: scale s, target T, how many multipliers and how many squares.
 #[repr(C)]
-#[derive(Clone, Copy)]
+#[derive(Clone, Copy, Debug, PartialEq, Eq)]
 pub struct Certificate {
     pub scale: u32,
     pub target: i64,
@@ -30,9 +30,9 @@ pub struct Certificate {
     pub squares: usize,
 }
 
-// A multiplier command: its byte, the numbers that it names, 0 where it names fewer, and the multiplier m. They are variables; of `3B`
-// i is a row and j a variable.
-#[derive(Clone, Copy)]
+// A multiplier command: its byte, by which a `match` tells the kinds apart, the numbers that it names, and the multiplier m. They are
+// variables; of `3B` i is a row and j a variable. Numbers that a kind does not name are 0, so that all kinds are one record.
+#[derive(Clone, Copy, Debug, PartialEq, Eq)]
 pub struct Multiplier {
     pub kind: u8,
     pub i: u8,
@@ -43,7 +43,7 @@ pub struct Multiplier {
 }
 
 // A square: its weight w, and its entries v.
-#[derive(Clone, Copy)]
+#[derive(Clone, Copy, Debug, PartialEq, Eq)]
 pub struct Square {
     pub weight: u32,
     pub entries: [i16; Square::ENTRIES],
@@ -51,7 +51,7 @@ pub struct Square {
 
 // What a multiplier command's kind asks: m is from the least to the most; what it names is there; the pairs are in order;
 // the sets fit.
-#[derive(Clone, Copy)]
+#[derive(Clone, Copy, Debug, PartialEq, Eq)]
 pub struct Rule {
     pub least: i64,
     pub most: i64,
@@ -61,7 +61,8 @@ pub struct Rule {
 }
 
 // What the checks of a command look at: the byte of the last command, the counts, and how many choices, variables and rows there are.
-#[derive(Clone, Copy)]
+// Before the first command the byte is 0, which is no command's and stands in the rows as what may stand before the first.
+#[derive(Clone, Copy, Debug, PartialEq, Eq)]
 pub struct Seen {
     pub previous: u8,
     pub multipliers: usize,
@@ -69,15 +70,6 @@ pub struct Seen {
     pub choices: usize,
     pub variables: usize,
     pub rows: usize,
-}
-
-// What reading the commands at the front of a run of bytes leads to: a refusal's number and position, or 0, the position
-// past the end, and the certificate's counts.
-#[derive(Clone, Copy)]
-pub struct CertificateRead {
-    pub number: u8,
-    pub position: usize,
-    pub certificate: Certificate,
 }
 
 impl Certificate {
@@ -117,8 +109,9 @@ impl Square {
     pub const MAX_WEIGHT: u32 = 1_000_000;
 
     // The largest magnitude of an entry.
-    pub const MAX_ENTRY: u64 = 10_000;
+    pub const MAX_ENTRY: u16 = 10_000;
 
+    #[tactic(auto, unfolding(crate::specs::Answer::fresh_square))]
     pub fn fresh() -> Square
         ensures { result ≡ fresh_square }
     {
@@ -129,6 +122,7 @@ impl Square {
     }
 }
 
+// Three rows of a table: one function of their five fields would be the record itself.
 impl Rule {
     fn null_form(there: bool, ordered: bool, fits: bool) -> Rule
         ensures { result ≡ record { least = neg_ℤ (pos max_multiplier); most = pos max_multiplier; there = there; ordered = ordered; fits = fits } }
@@ -136,9 +130,9 @@ impl Rule {
         Rule {
             least: -Multiplier::MAX_MAGNITUDE,
             most: Multiplier::MAX_MAGNITUDE,
-            there: there,
-            ordered: ordered,
-            fits: fits,
+            there,
+            ordered,
+            fits,
         }
     }
 
@@ -148,7 +142,7 @@ impl Rule {
         Rule {
             least: -Multiplier::MAX_ROW_MAGNITUDE,
             most: Multiplier::MAX_ROW_MAGNITUDE,
-            there: there,
+            there,
             ordered: true,
             fits: true,
         }
@@ -160,86 +154,77 @@ impl Rule {
         Rule {
             least: 0,
             most: Multiplier::MAX_MAGNITUDE,
-            there: there,
+            there,
             ordered: true,
             fits: true,
         }
     }
 }
 
-impl CertificateRead {
-    fn refused(number: u8, position: usize) -> CertificateRead
-        ensures { result ≡ refused_read number position }
-    {
-        let certificate = Certificate::fresh();
-        CertificateRead {
-            number: number,
-            position: position,
-            certificate: certificate,
-        }
-    }
-}
-
 // The commands at the front of a run of bytes, checked by refusals 1 to 8, with the sets of the variables.
-fn read_with_sets(bytes: &[u8], sets: &[u32], register: Register, scheme: Scheme) -> CertificateRead
-    requires register_valid { RegisterValid register }
-    requires scheme_valid { SchemeValid register scheme }
-    requires sets_below { SetsBelow register.choices scheme (variables register.choices scheme) sets.now }
-    ensures { result ≡ commands_read (commands_in_job register scheme bytes.now) }
+fn read_with_sets(
+    bytes: &[u8],
+    sets: &[u32],
+    quadratization: &Quadratization,
+) -> Result<Read<Certificate>, Refused>
+    requires { SetsBelow quadratization.now.register.choices quadratization.now.scheme (variables quadratization.now.register.choices quadratization.now.scheme) sets.now }
+    ensures { reading_of result ≡ added_by counts_of (commands_in_job quadratization.now.register quadratization.now.scheme bytes.now) }
 {
+    let register = &quadratization.register;
+    let variables = register.choices + quadratization.scheme.products;
     let mut certificate = Certificate::fresh();
     let mut previous: u8 = 0;
     let mut at: usize = 0;
+    // Commands take different numbers of bytes, so each says where the next one begins.
     while at < bytes.len() {
-        let multipliers = certificate.multipliers;
-        let squares = certificate.squares;
         let seen = Seen {
-            previous: previous,
-            multipliers: multipliers,
-            squares: squares,
+            previous,
+            multipliers: certificate.multipliers,
+            squares: certificate.squares,
             choices: register.choices,
-            variables: register.choices + scheme.products,
+            variables,
             rows: register.rows,
         };
-        let number = refusal_at(bytes, at, seen, sets);
-        if number != 0 {
-            return CertificateRead::refused(number, at);
-        }
+        refusal_at(bytes, at, seen, sets).map_err(|refusal| Refused {
+            refusal,
+            position: at,
+        })?;
         let command = bytes[at];
         previous = command;
-        let size = command_size(command);
+        let end = at + command_size(command);
         match command {
             0x30 => {
-                certificate.scale = wire::u32_at(bytes, at + 1);
-                certificate.target = wire::i64_at(bytes, at + 1 + 4);
-                at += size;
+                certificate.scale = u32::read(bytes, at + 1);
+                certificate.target = i64::read(bytes, at + 1 + 4);
             }
             0x31..=0x39 | 0x3b => {
-                certificate.multipliers = multipliers + 1;
-                at += size;
+                certificate.multipliers += 1;
             }
             0x3a => {
-                certificate.squares = squares + 1;
-                at += size;
+                certificate.squares += 1;
             }
             _ => {
-                return CertificateRead {
-                    number: 0,
-                    position: at + size,
-                    certificate: certificate,
-                };
+                return Ok(Read {
+                    value: certificate,
+                    end,
+                });
             }
         }
+        at = end;
     }
-    CertificateRead::refused(2, at)
+    Err(Refused {
+        refusal: Refusal::CutShort,
+        position: at,
+    })
 }
 
 // The commands at the front of a run of bytes, checked by refusals 1 to 8, with a register and a scheme.
-pub fn read_commands(bytes: &[u8], register: Register, scheme: Scheme) -> CertificateRead
-    requires register_valid { RegisterValid register }
-    requires scheme_valid { SchemeValid register scheme }
-    ensures { result ≡ commands_read (commands_in_job register scheme bytes.now) }
+pub fn read_commands(
+    bytes: &[u8],
+    quadratization: &Quadratization,
+) -> Result<Read<Certificate>, Refused>
+    ensures { reading_of result ≡ added_by counts_of (commands_in_job quadratization.now.register quadratization.now.scheme bytes.now) }
 {
-    let sets = scheme::sets_of(register.choices, scheme);
-    read_with_sets(bytes, &sets, register, scheme)
+    let sets = scheme::sets_of(quadratization.register.choices, quadratization.scheme);
+    read_with_sets(bytes, &sets, quadratization)
 }
