@@ -7,7 +7,7 @@ ghost use Rattle.integers.specs.Integer.{abs};
 ghost use Rattle.integers.specs.Lists.{join_below};
 ghost use Rattle.forms.specs.Form.{times, entry};
 ghost use Rattle.forms.specs.Table.{table_numbers, with_table};
-ghost use Rattle.forms.specs.Store.{add_form, Bounded, max_added, max_before_monomial, max_before_form, max_before_forms};
+ghost use Rattle.forms.specs.Store.{Room, Adds, max_added, max_before_monomial, max_before_form, max_before_forms};
 ghost use Rattle.register.specs.Limits.{max_coefficient};
 ghost use Rattle.register.specs.Register.{coefficient};
 ghost use Rattle.register.specs.Valid.{Valid as ValidRegister};
@@ -19,7 +19,7 @@ ghost use Rattle.penalty.specs.Operands.{Lent, Falling, max_factor};
 ghost use Rattle.penalty.specs.Penalty.{bracket, penalty_of, h};
 ghost use Rattle.penalty.specs.Answer.{penalty_answer, penalty_table};
 
-use forms::{WorkingTable, add_monomial, add_multiple};
+use forms::{SquareTable, WorkingTable};
 use register::Register;
 use scheme::{Scheme, open_parts};
 
@@ -116,85 +116,78 @@ fn weight(register: Register, scheme: Scheme, k: usize) -> u64
 }
 
 // Adds c times variable l times variable r, variable l once when they are one.
-pub fn add_term(table: &mut [i64], side: usize, l: usize, r: usize, c: i64)
-    requires bounded { Bounded side max_before_monomial table.old }
-    requires l_bound { (l + 1 < side) × (r + 1 < side) }
+pub fn add_term(table: &mut SquareTable, l: usize, r: usize, c: i64)
+    requires room { Room max_before_monomial table.old }
+    requires l_bound { (l + 1 < table.old.side) × (r + 1 < table.old.side) }
     requires c_bound { nat_abs c ≤ max_added }
-    ensures { table.new ≡ add_form side (term l r c) table.old }
+    ensures { Adds (term l r c) table.old table.new }
 {
     if l == r {
-        add_monomial(table, side, 0, l + 1, c);
+        table.add_monomial(0, l + 1, c);
     } else {
-        add_monomial(table, side, l + 1, r + 1, c);
+        table.add_monomial(l + 1, r + 1, c);
     }
 }
 
 // Adds each term, its coefficient times a scale.
-pub fn add_terms(register: Register, scheme: Scheme, table: &mut [i64], side: usize, scale: i64)
+pub fn add_terms(register: Register, scheme: Scheme, table: &mut SquareTable, scale: i64)
     requires valid_register { ValidRegister register }
     requires valid { Valid register scheme }
-    requires side_value { side ≡ side_of register.choices scheme }
-    requires bounded { Bounded side max_before_form table.old }
+    requires side_value { table.old.side ≡ side_of register.choices scheme }
+    requires room { Room max_before_form table.old }
     requires scale_bound { nat_abs scale ≤ max_factor }
-    ensures { table.new ≡
-        add_form side (join_below register.terms (term_of (λ t. scale *ℤ coefficient register t) scheme)) table.old }
+    ensures { Adds (join_below register.terms (term_of (λ t. scale *ℤ coefficient register t) scheme)) table.old table.new }
 {
     let terms = register.terms;
-    let mut t = 0;
-    while t < terms {
+    for t in 0..terms {
         let l = scheme.split_lefts[t];
         let r = scheme.split_rights[t];
         let c = register.coefficients[t];
-        add_term(table, side, l as usize, r as usize, scale * (c as i64));
-        t += 1;
+        add_term(table, l as usize, r as usize, scale * (c as i64));
     }
 }
 
 // Adds a scale times g.
-pub fn add_function(register: Register, scheme: Scheme, table: &mut [i64], side: usize, scale: i64)
+pub fn add_function(register: Register, scheme: Scheme, table: &mut SquareTable, scale: i64)
     requires valid_register { ValidRegister register }
     requires valid { Valid register scheme }
-    requires side_value { side ≡ side_of register.choices scheme }
-    requires bounded { Bounded side max_before_forms table.old }
+    requires side_value { table.old.side ≡ side_of register.choices scheme }
+    requires room { Room max_before_forms table.old }
     requires scale_bound { nat_abs scale ≤ max_factor }
-    ensures { table.new ≡ add_form side (times scale (g (coefficient register) register scheme)) table.old }
+    ensures { Adds (times scale (g (coefficient register) register scheme)) table.old table.new }
 {
     let base = register.base;
-    add_monomial(table, side, 0, 0, scale * (base as i64));
-    add_terms(register, scheme, table, side, scale);
+    table.add_monomial(0, 0, scale * (base as i64));
+    add_terms(register, scheme, table, scale);
 }
 
 // Adds w times the bracket of product k, whose operands are l and r.
-fn add_bracket(table: &mut [i64], side: usize, k: usize, l: usize, r: usize, w: i64)
-    requires bounded { Bounded side max_before_form table.old }
-    requires k_bound { (k + 1 < side) × (l < k) × (r < k) }
+fn add_bracket(table: &mut SquareTable, k: usize, l: usize, r: usize, w: i64)
+    requires room { Room max_before_form table.old }
+    requires k_bound { (k + 1 < table.old.side) × (l < k) × (r < k) }
     requires w_bound { nat_abs w ≤ max_product_weight }
-    ensures { table.new ≡ add_form side (times w (bracket k l r)) table.old }
+    ensures { Adds (times w (bracket k l r)) table.old table.new }
 {
-    add_multiple(table, side, 0, k + 1, w, 3);
-    add_multiple(table, side, k + 1, l + 1, w, -2);
-    add_multiple(table, side, k + 1, r + 1, w, -2);
-    add_multiple(table, side, l + 1, r + 1, w, 1);
+    table.add_multiple(0, k + 1, w, 3);
+    table.add_multiple(k + 1, l + 1, w, -2);
+    table.add_multiple(k + 1, r + 1, w, -2);
+    table.add_multiple(l + 1, r + 1, w, 1);
 }
 
 // Adds each product's weight times its bracket.
-fn add_penalties(register: Register, scheme: Scheme, table: &mut [i64], side: usize)
+fn add_penalties(register: Register, scheme: Scheme, table: &mut SquareTable)
     requires valid_register { ValidRegister register }
     requires valid { Valid register scheme }
-    requires side_value { side ≡ side_of register.choices scheme }
-    requires bounded { Bounded side max_before_forms table.old }
-    ensures { table.new ≡
-        add_form side (join_below scheme.products (penalty_of (coefficient register) register scheme)) table.old }
+    requires side_value { table.old.side ≡ side_of register.choices scheme }
+    requires room { Room max_before_forms table.old }
+    ensures { Adds (join_below scheme.products (penalty_of (coefficient register) register scheme)) table.old table.new }
 {
     let n = register.choices;
-    let products = scheme.products;
-    let mut i = 0;
-    while i < products {
+    for i in 0..scheme.products {
         let l = scheme.lefts[i];
         let r = scheme.rights[i];
         let w = weight(register, scheme, n + i);
-        add_bracket(table, side, n + i, l as usize, r as usize, w as i64);
-        i += 1;
+        add_bracket(table, n + i, l as usize, r as usize, w as i64);
     }
 }
 
@@ -206,10 +199,10 @@ pub fn penalty_form(register: Register, scheme: Scheme, table: &mut [i64])
     ensures { table.new ≡
         with_table (side_of register.choices scheme) (entry (h (coefficient register) register scheme)) table.old }
 {
-    let side = register.choices + scheme.products + 1;
-    forms::clear(table, side * side);
-    add_function(register, scheme, table, side, 1);
-    add_penalties(register, scheme, table, side);
+    let mut square = SquareTable { numbers: table, side: register.choices + scheme.products + 1 };
+    square.clear();
+    add_function(register, scheme, &mut square, 1);
+    add_penalties(register, scheme, &mut square);
 }
 
 // The penalty form of a register and a scheme, each as a run of bytes by itself.
