@@ -1,7 +1,7 @@
 -- The scaled base cost is added, and then the scaled terms.
 use mathlib.Core.Path.{◌≡◌}
-use mathlib.Core.List.{List, [], ◌∷◌, ◌++◌}
-use Prim.Native.Nat.{ℕ, ◌*◌, ◌≤◌, ◌<◌}
+use mathlib.Core.List.{[], ◌∷◌}
+use Prim.Native.Nat.{◌*◌, ◌≤◌, ◌<◌}
 use native.Mathlib.Omega.{arith}
 use lib.IntN.{ℤ, nat_abs, ◌*ℤ◌}
 use mir.Syntax.{w64}
@@ -21,6 +21,7 @@ use Rattle.scheme.specs.declared.Scheme.{Scheme}
 use Rattle.scheme.specs.Function.{g}
 use Rattle.penalty.specs.Operands.{max_factor}
 use Rattle.penalty.proofs.Scaled.{Product, product, first_terms, times-g}
+use Rattle.scheme.proofs.Truncated.{valid_register}
 use Rattle.penalty.proofs.add_function.Goals as goal
 
 -- the scaled base cost as the code has it
@@ -37,20 +38,25 @@ module _ (j x : ℤ) (r : Register) (s : Scheme) (e : x ≡ j *ℤ r.base) {t u 
   whole k i p q b = adds_same (adds_then a b) (rw (e, p, q, times-g k (coefficient r) r s))
 
 pub overflow_mul-scale : goal.overflow_mul-scale
-overflow_mul-scale c = (base c.args.scale c.args.register c.requires.scale_bound c.requires.valid_register.within).fits
+overflow_mul-scale c =
+    let q = c.args.quadratization.now in
+    (base c.args.scale q.register c.requires.scale_bound (valid_register q.register_valid).within).fits
 
 pub add_monomial-requires-clause-c_bound : goal.add_monomial-requires-clause-c_bound
 add_monomial-requires-clause-c_bound c =
-    let k = base c.args.scale c.args.register c.requires.scale_bound c.requires.valid_register.within in
+    let q = c.args.quadratization.now in
+    let k = base c.args.scale q.register c.requires.scale_bound (valid_register q.register_valid).within in
     rw k.reads (omega (arith, k.low))
 
 pub add_terms-requires-clause-room : goal.add_terms-requires-clause-room
 add_terms-requires-clause-room c =
-    let k = base c.args.scale c.args.register c.requires.scale_bound c.requires.valid_register.within in
-    room (to_z w64 (of_z w64 c.args.scale)) _ c.args.register c.args.scheme k.reads c.add_monomial.ensures (omega arith) k.low c.requires.room
+    let q = c.args.quadratization.now in
+    let k = base c.args.scale q.register c.requires.scale_bound (valid_register q.register_valid).within in
+    room (to_z w64 (of_z w64 c.args.scale)) _ q.register q.scheme k.reads c.add_monomial.ensures (omega arith) k.low c.requires.room
 
 pub returns : goal.returns
 returns c =
-    let k = base c.args.scale c.args.register c.requires.scale_bound c.requires.valid_register.within in
+    let q = c.args.quadratization.now in
+    let k = base c.args.scale q.register c.requires.scale_bound (valid_register q.register_valid).within in
     let same = read_signed w64 c.args.scale (omega arith) in
-    whole (to_z w64 (of_z w64 c.args.scale)) _ c.args.register c.args.scheme k.reads c.add_monomial.ensures c.args.scale _ same same c.add_terms.ensures
+    whole (to_z w64 (of_z w64 c.args.scale)) _ q.register q.scheme k.reads c.add_monomial.ensures c.args.scale _ same same c.add_terms.ensures

@@ -1,5 +1,4 @@
-use mathlib.Core.Path.{◌≡◌, refl, ◌∙◌}
-use mathlib.Core.List.{List}
+use mathlib.Core.Path.{◌≡◌, ◌∙◌}
 use Prim.Native.Nat.{ℕ, ◌+◌, ◌≤◌, ◌<◌, ◌-◌}
 use native.Mathlib.Omega.{arith}
 use native.Mathlib.Numerals.{add-one}
@@ -22,6 +21,7 @@ use Rattle.penalty.specs.Weights.{weight}
 use Rattle.penalty.specs.Penalty.{bracket, penalty_of}
 use Rattle.penalty.proofs.Penalty.{below_penalties}
 use Rattle.penalty.proofs.Bounds.{penalties_norm, weight_read_small}
+use Rattle.scheme.proofs.Truncated.{valid_register}
 use Rattle.penalty.proofs.add_penalties.Goals as goal
 
 -- the table after i products has room for one more
@@ -52,26 +52,31 @@ pub loop-i-init : goal.loop-i-init
 unfolding join_below
 loop-i-init c = adds_none _
 
-pub overflow_cast-w : goal.overflow_cast-w
-overflow_cast-w c =
-    let l = weight_read_small c.args.register c.args.scheme _ _ c.requires.valid_register.within c.weight-w.ensures in
-    fits_signed w64 (pos c.weight-w.result) (omega (arith, l))
+pub overflow_cast-weight : goal.overflow_cast-weight
+overflow_cast-weight c =
+    let q = c.args.quadratization.now in
+    let l = weight_read_small q.register q.scheme _ _ (valid_register q.register_valid).within c.weight-weight.ensures in
+    fits_signed w64 (pos c.weight-weight.result) (omega (arith, l))
 
 pub add_bracket-requires-clause-room : goal.add_bracket-requires-clause-room
 add_bracket-requires-clause-room c =
-    room c.args.register c.args.scheme c.loop-i.i c.requires.valid_register.within c.requires.valid c.requires.side_value c.requires.room (omega arith) c.loop-i.invariant
+    let q = c.args.quadratization.now in
+    room q.register q.scheme c.loop-i.i (valid_register q.register_valid).within q.scheme_valid c.requires.side_value c.requires.room (omega arith) c.loop-i.invariant
 
 pub add_bracket-requires-clause-k_bound : goal.add_bracket-requires-clause-k_bound
 add_bracket-requires-clause-k_bound c =
-    let o = operands c.args.register c.args.scheme c.loop-i.i c.requires.valid (omega arith) in
+    let q = c.args.quadratization.now in
+    let o = operands q.register q.scheme c.loop-i.i q.scheme_valid (omega arith) in
     (omega (arith, c.loop-i.invariant.same_side), o.0, o.1)
 
 pub add_bracket-requires-clause-w_bound : goal.add_bracket-requires-clause-w_bound
 add_bracket-requires-clause-w_bound c =
-    let w = weight_read_small c.args.register c.args.scheme _ _ c.requires.valid_register.within c.weight-w.ensures in
-    rw (read_unsigned w64 c.weight-w.result (omega (arith, w))) (omega (arith, w))
+    let q = c.args.quadratization.now in
+    let w = weight_read_small q.register q.scheme _ _ (valid_register q.register_valid).within c.weight-weight.ensures in
+    rw (read_unsigned w64 c.weight-weight.result (omega (arith, w))) (omega (arith, w))
 
 pub loop-i-preserved : goal.loop-i-preserved
 loop-i-preserved c =
-    let w = weight_read_small c.args.register c.args.scheme _ _ c.requires.valid_register.within c.weight-w.ensures in
-    turn c.args.register c.args.scheme c.loop-i.i _ (read_unsigned w64 _ (omega (arith, w)) ∙ c.weight-w.ensures) c.loop-i.invariant c.add_bracket.ensures
+    let q = c.args.quadratization.now in
+    let w = weight_read_small q.register q.scheme _ _ (valid_register q.register_valid).within c.weight-weight.ensures in
+    turn q.register q.scheme c.loop-i.i _ (read_unsigned w64 _ (omega (arith, w)) ∙ c.weight-weight.ensures) c.loop-i.invariant c.add_bracket.ensures

@@ -6,4 +6,6 @@ use Rattle.penalty.specs.Penalty.{penalty_of}
 use Rattle.penalty.proofs.add_penalties.Given as goal
 
 abbrev pub invariant-loop-i : goal.invariant-loop-i
-invariant-loop-i l = Adds (join_below l.i (penalty_of (coefficient l.register) l.register l.scheme)) l.fn.table l.table
+invariant-loop-i l =
+    let q = l.quadratization in
+    Adds (join_below l.i (penalty_of (coefficient q.register) q.register q.scheme)) l.fn.table l.table

@@ -11,6 +11,7 @@ use Rattle.register.specs.Register.{coefficient}
 use Rattle.register.specs.Valid.{Within}
 use Rattle.penalty.specs.Operands.{max_factor}
 use Rattle.penalty.proofs.Scaled.{Product, product, terms_room, terms_turn}
+use Rattle.scheme.proofs.Truncated.{valid_register}
 use Rattle.penalty.proofs.add_terms.Goals as goal
 
 -- the scale as the code has it
@@ -28,20 +29,25 @@ unfolding join_below
 loop-t-init c = adds_none _
 
 pub overflow_mul-scale : goal.overflow_mul-scale
-overflow_mul-scale c = (scaled c.args.scale c.args.register c.loop-t.t c.requires.scale_bound c.requires.valid_register.within (omega arith)).fits
+overflow_mul-scale c =
+    let q = c.args.quadratization.now in
+    (scaled c.args.scale q.register c.loop-t.t c.requires.scale_bound (valid_register q.register_valid).within (omega arith)).fits
 
 pub add_term-requires-clause-room : goal.add_term-requires-clause-room
 add_term-requires-clause-room c =
-    terms_room (to_z w64 (of_z w64 c.args.scale)) c.args.register c.args.scheme c.loop-t.t c.loop-t.invariant
-    c.requires.valid_register.within c.requires.valid c.requires.side_value c.requires.room (small c.args.scale c.requires.scale_bound) (omega arith)
+    let q = c.args.quadratization.now in
+    terms_room (to_z w64 (of_z w64 c.args.scale)) q.register q.scheme c.loop-t.t c.loop-t.invariant
+    (valid_register q.register_valid).within q.scheme_valid c.requires.side_value c.requires.room (small c.args.scale c.requires.scale_bound) (omega arith)
 
 pub add_term-requires-clause-c_bound : goal.add_term-requires-clause-c_bound
 add_term-requires-clause-c_bound c =
-    let k = scaled c.args.scale c.args.register c.loop-t.t c.requires.scale_bound c.requires.valid_register.within (omega arith) in
+    let q = c.args.quadratization.now in
+    let k = scaled c.args.scale q.register c.loop-t.t c.requires.scale_bound (valid_register q.register_valid).within (omega arith) in
     rw k.reads (omega (arith, k.low))
 
 pub loop-t-preserved : goal.loop-t-preserved
 loop-t-preserved c =
-    terms_turn (to_z w64 (of_z w64 c.args.scale)) c.args.register c.args.scheme c.loop-t.t c.loop-t.invariant _
-    (scaled c.args.scale c.args.register c.loop-t.t c.requires.scale_bound c.requires.valid_register.within (omega arith)).reads
+    let q = c.args.quadratization.now in
+    terms_turn (to_z w64 (of_z w64 c.args.scale)) q.register q.scheme c.loop-t.t c.loop-t.invariant _
+    (scaled c.args.scale q.register c.loop-t.t c.requires.scale_bound (valid_register q.register_valid).within (omega arith)).reads
     c.add_term.ensures

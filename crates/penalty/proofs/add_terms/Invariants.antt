@@ -4,4 +4,4 @@ use Rattle.penalty.proofs.Scaled.{first_terms}
 use Rattle.penalty.proofs.add_terms.Given as goal
 
 abbrev pub invariant-loop-t : goal.invariant-loop-t
-invariant-loop-t l = Adds (first_terms l.scale l.register l.scheme l.t) l.fn.table l.table
+invariant-loop-t l = Adds (first_terms l.scale l.quadratization.register l.quadratization.scheme l.t) l.fn.table l.table

@@ -1,8 +1,7 @@
 -- The table is cleared, and g and the penalties are added.
 use mathlib.Core.Path.{◌≡◌, ◌∙◌}
 use mathlib.Core.List.{List}
-use Prim.Native.Nat.{ℕ, ◌+◌, ◌*◌, ◌≤◌}
-use native.Mathlib.Numerals.{add-one}
+use Prim.Native.Nat.{◌*◌, ◌≤◌}
 use native.Mathlib.Omega.{arith}
 use lib.IntN.{ℤ, pos}
 use lib.ListN.{length}
@@ -23,6 +22,7 @@ use Rattle.scheme.specs.Scheme.{side}
 use Rattle.scheme.specs.Function.{g}
 use Rattle.scheme.specs.Valid.{Valid}
 use Rattle.scheme.proofs.Table.{g_below}
+use Rattle.scheme.proofs.Truncated.{valid_register}
 use Rattle.penalty.specs.Penalty.{penalty_of, h}
 use Rattle.penalty.proofs.Penalty.{below_h}
 use Rattle.penalty.proofs.Bounds.{g_norm, side_square}
@@ -30,7 +30,7 @@ use Rattle.penalty.proofs.penalty_form.Goals as goal
 
 -- the table t as it is lent, u cleared, v after g, w after the penalties
 module _ (r : Register) (s : Scheme) (within : Within r) (valid : Valid r s) {t u : SquareTable} (is_side : t.side ≡ side r.choices s) (long : table_numbers ≤ length t.numbers.now)
-  (a : Becomes (cleared (t.side * t.side) t.numbers.now) t u) where
+    (a : Becomes (cleared (t.side * t.side) t.numbers.now) t u) where
   square : t.side * t.side ≤ length t.numbers.now
   square = rw is_side (omega (arith, side_square r s within valid))
 
@@ -47,15 +47,15 @@ module _ (r : Register) (s : Scheme) (within : Within r) (valid : Valid r s) {t 
 
 pub add_function-requires-clause-room : goal.add_function-requires-clause-room
 add_function-requires-clause-room c =
-    let v = c.requires.valid_register in
-    room_cleared c.args.register c.args.scheme v.within c.requires.valid (add-one _) c.requires.table_numbers_in_bounds c.clear.ensures
+    let q = c.args.quadratization.now in
+    room_cleared q.register q.scheme (valid_register q.register_valid).within q.scheme_valid c.side.ensures c.requires c.clear.ensures
 
 pub add_penalties-requires-clause-room : goal.add_penalties-requires-clause-room
 add_penalties-requires-clause-room c =
-    let v = c.requires.valid_register in
-    room_function c.args.register c.args.scheme v.within c.requires.valid (add-one _) c.requires.table_numbers_in_bounds c.clear.ensures c.add_function.ensures
+    let q = c.args.quadratization.now in
+    room_function q.register q.scheme (valid_register q.register_valid).within q.scheme_valid c.side.ensures c.requires c.clear.ensures c.add_function.ensures
 
 pub returns : goal.returns
 returns c =
-    let v = c.requires.valid_register in
-    whole c.args.register c.args.scheme v.within c.requires.valid (add-one _) c.requires.table_numbers_in_bounds c.clear.ensures c.add_function.ensures c.add_penalties.ensures (search rules)
+    let q = c.args.quadratization.now in
+    whole q.register q.scheme (valid_register q.register_valid).within q.scheme_valid c.side.ensures c.requires c.clear.ensures c.add_function.ensures c.add_penalties.ensures (search rules)
