@@ -1,9 +1,9 @@
 -- A scale times g, term by term: as a form, how large it is, the table to which it is added, and its numbers as the code has
 -- them.
 use Prim.Native.Nat.{ℕ, ◌+◌, ◌*◌, ◌≤◌, ◌<◌}
-use mathlib.Core.Path.{◌≡◌, refl, sym, ◌∙◌, ap}
+use mathlib.Core.Path.{◌≡◌, refl, ◌∙◌, ap}
 use mathlib.Core.Bool.{Bool, true, false, cond}
-use mathlib.Core.List.{List, [], ◌∷◌}
+use mathlib.Core.List.{[], ◌∷◌}
 use native.Mathlib.Omega.{arith}
 use native.Mathlib.Numerals.{add-one}
 use lib.Dec.{eqb}
@@ -15,8 +15,10 @@ use Rattle.integers.proofs.Join.{join_cong}
 use Rattle.integers.proofs.Order.{nat_abs-*-≤}
 use Rattle.integers.proofs.Machine.{fits_signed, read_signed, cast_read}
 use Rattle.forms.specs.Form.{Form, mono, place, times}
-use Rattle.forms.specs.Store.{add_form, Bounded, max_before_monomial, max_before_form}
-use Rattle.forms.proofs.Store.{norm1, add_form_join, bounded_add_form, bounded_weaken}
+use Rattle.forms.specs.declared.SquareTable.{SquareTable}
+use Rattle.forms.specs.Store.{Room, Adds, max_before_monomial, max_before_form}
+use Rattle.forms.proofs.Store.{norm1}
+use Rattle.forms.proofs.Added.{adds_then, adds_same, room_after}
 use Rattle.forms.proofs.Times.{times_join}
 use Rattle.register.specs.declared.Register.{Register}
 use Rattle.register.specs.Limits.{max_base, max_coefficient}
@@ -62,20 +64,16 @@ module _ (k : ℤ) (r : Register) (s : Scheme) (small : nat_abs k ≤ max_factor
 abbrev pub first_terms : ℤ → Register → Scheme → ℕ → Form
 first_terms k r s t = join_below t (term_of (λ t. k *ℤ coefficient r t) s)
 
--- the table after t terms has room for one more
-pub terms_room : (k : ℤ) (r : Register) (s : Scheme) (n t : ℕ) (table table₀ : List ℤ) → Within r → Valid r s → n ≡ side r.choices s →
-    Bounded n max_before_form table₀ → nat_abs k ≤ max_factor → t ≤ r.terms → table ≡ add_form n (first_terms k r s t) table₀ →
-    Bounded n max_before_monomial table
-terms_room k r s n t table table₀ within valid e h small l d =
-    rw d
-    (bounded_weaken (bounded_add_form (rw e (terms_below (λ t. k *ℤ coefficient r t) r s valid t l)) h)
-    (omega (arith, scaled_norm k r s small within t l, within.terms.few)))
+module _ (k : ℤ) (r : Register) (s : Scheme) (t : ℕ) {before now : SquareTable} (a : Adds (first_terms k r s t) before now) where
+  -- the table after t terms has room for one more
+  pub terms_room : Within r → Valid r s → before.side ≡ side r.choices s → Room max_before_form before → nat_abs k ≤ max_factor → t ≤ r.terms → Room max_before_monomial now
+  terms_room within valid e h small l =
+      room_after h a (rw e (terms_below (λ t. k *ℤ coefficient r t) r s valid t l)) max_before_monomial
+      (omega (arith, scaled_norm k r s small within t l, within.terms.few))
 
-pub terms_turn : (k : ℤ) (r : Register) (s : Scheme) (n t : ℕ) (table table₀ u : List ℤ) (x : ℤ) → x ≡ k *ℤ coefficient r t →
-    table ≡ add_form n (first_terms k r s t) table₀ → u ≡ add_form n (term (split_left s t) (split_right s t) x) table →
-    u ≡ add_form n (first_terms k r s (t + 1)) table₀
-terms_turn k r s n t table table₀ u x e d f =
-    f ∙ rw (d, e, add-one) (sym (add_form_join n t (term_of (λ t. k *ℤ coefficient r t) s) table₀))
+  pub terms_turn : (x : ℤ) {after : SquareTable} → x ≡ k *ℤ coefficient r t → Adds (term (split_left s t) (split_right s t) x) now after → Adds (first_terms k r s (t + 1)) before after
+  unfolding join_below
+  terms_turn x e b = adds_same (adds_then a b) (rw (e, add-one))
 
 -- ---- its numbers as the code has them
 

@@ -2,7 +2,6 @@
 use mathlib.Core.Path.{◌≡◌, refl, sym, ◌∙◌}
 use mathlib.Core.Logic.{◌⊎◌, inl, inr, ⊎_elim, ◌↔◌}
 use mathlib.Core.Bool.{Bool, true, false, cond, ◌||◌}
-use mathlib.Core.List.{List}
 use Prim.Native.Nat.{ℕ, ◌≤◌, ◌<◌}
 use native.Mathlib.Nat.{le_refl}
 use native.Mathlib.Omega.{arith}
@@ -23,7 +22,6 @@ use Rattle.integers.proofs.Lists.{T_or}
 use Rattle.scheme.proofs.Table.{split_of}
 use Rattle.scheme.proofs.Variables.{upward_choice, upward_product, left_falls, variable_ind}
 use Rattle.penalty.specs.Weights.{reaches, uses, contribution, weight, max_product_weight}
-use Rattle.penalty.specs.Operands.{Lent, Falling}
 
 -- ---- which products a variable reaches
 
@@ -148,22 +146,6 @@ uses_iff r s valid t k h a m = (
 
     of_right : T (reaches n s k (split_right s t)) ↔ ((split_right s t ≡ k) ⊎ OperandOf n s (λ j. reaches n s j (split_right s t)) k)
     of_right = reaches_iff n s valid.within.products k (split_right s t) a m split.there
-
--- ---- operands that are lent
-
-pub falling_below : {n v w : ℕ} {ls rs : List ℕ} → Falling n v ls rs → w ≤ v → Falling n w ls rs
-falling_below h l = record { there = omega (arith, h.there); falls = λ u a b. h.falls u a (omega arith) }
-
-pub falling_of : {r : Register} {s : Scheme} → Valid r s → (v : ℕ) → v < variables r.choices s → Falling r.choices v s.lefts s.rights
-falling_of {r} {s} valid v l =
-    let products = valid.within.products in
-    record {
-      there = omega (arith, valid.within.products_within);
-      falls = λ u a b. (left_falls r.choices s products u a (omega arith), (products u a (omega arith)).falls);
-    }
-
-pub lent_of : {r : Register} {s : Scheme} → Valid r s → Lent r.choices s s.lefts s.rights
-lent_of valid = record { lefts_are = refl; rights_are = refl; products = valid.within.products }
 
 -- ---- weights
 

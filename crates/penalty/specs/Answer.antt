@@ -1,6 +1,8 @@
 -- What the penalty call answers and what its lent table then holds, by what reading the two parts leads to.
-use Rattle.std.specs.Prelude.{ℕ, cond, List, ltb, ℤ, length}
+use Rattle.std.specs.Prelude.{ℕ, cond, List, ltb, ℤ, length, Result, Ok, Err}
+use Rattle.wire.specs.declared.refusals.Fault.{Fault}
 use Rattle.wire.specs.Outcome.{answer_by}
+use Rattle.wire.specs.Results.{number_of}
 use Rattle.forms.specs.Form.{entry}
 use Rattle.forms.specs.Table.{table_numbers, with_table}
 use Rattle.register.specs.declared.Register.{Register}
@@ -13,6 +15,11 @@ use Rattle.penalty.specs.Penalty.{h}
 
 abbrev pub answer : ℕ → ℕ → ℕ → PenaltyAnswer
 answer number part at = record { number = number; part = part; position = at }
+
+-- what the code's result answers
+abbrev pub answer_of : Result (Unit {0}) Fault → PenaltyAnswer
+answer_of (Ok a) = answer 0 0 0
+answer_of (Err fault) = answer (number_of fault.refusal) fault.part fault.position
 
 -- number, part and position of a refusal, or zeros, of the bytes of parts 1 and 2 and the lent run: a table below 4,225 numbers
 -- is found before all else

@@ -2,26 +2,23 @@
 
 #![tactic(auto)]
 
-ghost use Rattle.std.specs.Prelude.{◌≡◌, cond, ◌||◌, ℕ, ◌+◌, ◌≤◌, ◌<◌, pos, nat_abs, ◌*ℤ◌, length};
-ghost use Rattle.integers.specs.Integer.{abs};
+ghost use Rattle.std.specs.Prelude.{◌≡◌, ◌+◌, ◌≤◌, ◌<◌, pos, nat_abs, ◌*ℤ◌, length};
 ghost use Rattle.integers.specs.Lists.{join_below};
 ghost use Rattle.forms.specs.Form.{times, entry};
 ghost use Rattle.forms.specs.Table.{table_numbers, with_table};
-ghost use Rattle.forms.specs.Store.{add_form, Bounded, max_added, max_before_monomial, max_before_form, max_before_forms};
-ghost use Rattle.register.specs.Limits.{max_coefficient};
+ghost use Rattle.forms.specs.Store.{Room, Adds, max_added, max_before_monomial, max_before_form, max_before_forms};
 ghost use Rattle.register.specs.Register.{coefficient};
-ghost use Rattle.register.specs.Valid.{Valid as ValidRegister};
 ghost use Rattle.scheme.specs.Scheme.{variables, side as side_of};
 ghost use Rattle.scheme.specs.Function.{term, term_of, g};
-ghost use Rattle.scheme.specs.Valid.{Valid};
-ghost use Rattle.penalty.specs.Weights.{reaches, weight, max_product_weight};
-ghost use Rattle.penalty.specs.Operands.{Lent, Falling, max_factor};
+ghost use Rattle.penalty.specs.Weights.{reaches, contribution, weight, max_product_weight};
+ghost use Rattle.penalty.specs.Operands.{max_factor};
 ghost use Rattle.penalty.specs.Penalty.{bracket, penalty_of, h};
-ghost use Rattle.penalty.specs.Answer.{penalty_answer, penalty_table};
+ghost use Rattle.penalty.specs.Answer.{answer, answer_of, penalty_answer, penalty_table};
+ghost use Rattle.wire.specs.Results.{number_of};
 
-use forms::{WorkingTable, add_monomial, add_multiple};
-use register::Register;
-use scheme::{Scheme, open_parts};
+use forms::{SquareTable, WorkingTable};
+use scheme::{Quadratization, open_parts};
+use wire::{Fault, Refusal};
 
 // The answer of the call: a refusal's number, part and position, or zeros.
 #[repr(C)]
@@ -32,184 +29,164 @@ pub struct PenaltyAnswer {
     pub position: usize,
 }
 
-// Whether variable v is product k, or k is an operand of v, or of an operand of v, and so on down. There are n choices, and the
-// products' operands are lent.
-fn reaches<'a>(
-    lefts: &'a [u8; Scheme::MAX_PRODUCTS],
-    rights: &'a [u8; Scheme::MAX_PRODUCTS],
-    n: usize,
-    k: usize,
-    v: usize,
-) -> bool
-    requires { Falling n v lefts.now rights.now }
-    ensures { (s : Scheme) → Lent n s lefts.now rights.now → v < variables n s → result ≡ reaches n s k v }
-{
-    if v < n {
-        return false;
+impl PenaltyAnswer {
+    fn from_fault(fault: Fault) -> PenaltyAnswer
+        ensures { result ≡ answer (number_of fault.refusal) fault.part fault.position }
+    {
+        PenaltyAnswer {
+            number: fault.refusal.number(),
+            part: fault.part,
+            position: fault.position,
+        }
     }
+}
+
+// Whether variable v is product k, or k is an operand of v, or of an operand of v, and so on down.
+fn reaches(quadratization: &Quadratization, k: usize, v: usize) -> bool
+    requires { v < variables quadratization.now.register.choices quadratization.now.scheme }
+    ensures { result ≡ reaches quadratization.now.register.choices quadratization.now.scheme k v }
+{
+    let n = quadratization.register.choices;
     // Operands are smaller than their product.
-    if v < k {
+    if v < n || v < k {
         return false;
     }
     if v == k {
         return true;
     }
-    let i = v - n;
-    let l = lefts[i];
-    let r = rights[i];
-    if reaches(lefts, rights, n, k, l as usize) {
-        return true;
-    }
-    reaches(lefts, rights, n, k, r as usize)
+    let left = quadratization.scheme.lefts[v - n];
+    let right = quadratization.scheme.rights[v - n];
+    reaches(quadratization, k, left as usize) || reaches(quadratization, k, right as usize)
 }
 
-// The magnitude of a term's coefficient, once, where the left or the right variable of its split reaches the product.
-fn magnitude_if_used(left: bool, right: bool, magnitude: u64) -> u64
-    requires { magnitude ≤ max_coefficient }
-    ensures { result ≡ cond left magnitude (cond right magnitude 0) }
+// What term t adds to the weight of product k: the magnitude of its coefficient, once, where the left or the right variable of its
+// split reaches the product.
+fn contribution(quadratization: &Quadratization, k: usize, t: usize) -> u64
+    requires { t < quadratization.now.register.terms }
+    ensures { pos result ≡
+        contribution (coefficient quadratization.now.register) quadratization.now.register.choices quadratization.now.scheme k t }
 {
-    if left {
-        return magnitude;
+    let left = quadratization.scheme.split_lefts[t];
+    let right = quadratization.scheme.split_rights[t];
+    let used = reaches(quadratization, k, left as usize)
+        || reaches(quadratization, k, right as usize);
+    if used {
+        quadratization.register.coefficients[t].unsigned_abs() as u64
+    } else {
+        0
     }
-    if right { magnitude } else { 0 }
-}
-
-// What a term adds to the weight of product k, by its split l and r and its coefficient c.
-fn contribution<'a>(
-    lefts: &'a [u8; Scheme::MAX_PRODUCTS],
-    rights: &'a [u8; Scheme::MAX_PRODUCTS],
-    n: usize,
-    k: usize,
-    l: u8,
-    r: u8,
-    c: i32,
-) -> u64
-    requires falling { Falling n r lefts.now rights.now }
-    requires l_le_r { l ≤ r }
-    requires c_bound { nat_abs c ≤ max_coefficient }
-    ensures { (s : Scheme) → Lent n s lefts.now rights.now → r < variables n s →
-        pos result ≡ cond (reaches n s k l || reaches n s k r) (abs c) (pos 0) }
-{
-    let left = reaches(lefts, rights, n, k, l as usize);
-    let right = reaches(lefts, rights, n, k, r as usize);
-    magnitude_if_used(left, right, wire::magnitude(c as i64))
 }
 
 // The weight of product k: each term that uses it adds its |coefficient| one time.
-fn weight(register: Register, scheme: Scheme, k: usize) -> u64
-    requires valid_register { ValidRegister register }
-    requires valid { Valid register scheme }
-    ensures { pos result ≡ weight (coefficient register) register scheme k }
+fn weight(quadratization: &Quadratization, k: usize) -> u64
+    ensures { pos result ≡ weight (coefficient quadratization.now.register) quadratization.now.register quadratization.now.scheme k }
 {
-    let n = register.choices;
-    let terms = register.terms;
-    let mut total: u64 = 0;
-    let mut t = 0;
-    while t < terms {
-        let l = scheme.split_lefts[t];
-        let r = scheme.split_rights[t];
-        let c = register.coefficients[t];
-        total += contribution(&scheme.lefts, &scheme.rights, n, k, l, r, c);
-        t += 1;
+    let mut total = 0;
+    for t in 0..quadratization.register.terms {
+        total += contribution(quadratization, k, t);
     }
     total
 }
 
 // Adds c times variable l times variable r, variable l once when they are one.
-pub fn add_term(table: &mut [i64], side: usize, l: usize, r: usize, c: i64)
-    requires bounded { Bounded side max_before_monomial table.old }
-    requires l_bound { (l + 1 < side) × (r + 1 < side) }
+pub fn add_term(table: &mut SquareTable, l: usize, r: usize, c: i64)
+    requires room { Room max_before_monomial table.old }
+    requires l_bound { (l + 1 < table.old.side) × (r + 1 < table.old.side) }
     requires c_bound { nat_abs c ≤ max_added }
-    ensures { table.new ≡ add_form side (term l r c) table.old }
+    ensures { Adds (term l r c) table.old table.new }
 {
     if l == r {
-        add_monomial(table, side, 0, l + 1, c);
+        table.add_monomial(0, l + 1, c);
     } else {
-        add_monomial(table, side, l + 1, r + 1, c);
+        table.add_monomial(l + 1, r + 1, c);
     }
 }
 
 // Adds each term, its coefficient times a scale.
-pub fn add_terms(register: Register, scheme: Scheme, table: &mut [i64], side: usize, scale: i64)
-    requires valid_register { ValidRegister register }
-    requires valid { Valid register scheme }
-    requires side_value { side ≡ side_of register.choices scheme }
-    requires bounded { Bounded side max_before_form table.old }
+pub fn add_terms(quadratization: &Quadratization, table: &mut SquareTable, scale: i64)
+    requires side_value { table.old.side ≡ side_of quadratization.now.register.choices quadratization.now.scheme }
+    requires room { Room max_before_form table.old }
     requires scale_bound { nat_abs scale ≤ max_factor }
-    ensures { table.new ≡
-        add_form side (join_below register.terms (term_of (λ t. scale *ℤ coefficient register t) scheme)) table.old }
+    ensures { Adds (join_below quadratization.now.register.terms (term_of (λ t. scale *ℤ coefficient quadratization.now.register t) quadratization.now.scheme)) table.old table.new }
 {
-    let terms = register.terms;
-    let mut t = 0;
-    while t < terms {
-        let l = scheme.split_lefts[t];
-        let r = scheme.split_rights[t];
-        let c = register.coefficients[t];
-        add_term(table, side, l as usize, r as usize, scale * (c as i64));
-        t += 1;
+    for t in 0..quadratization.register.terms {
+        let left = quadratization.scheme.split_lefts[t];
+        let right = quadratization.scheme.split_rights[t];
+        let coefficient = quadratization.register.coefficients[t];
+        add_term(
+            table,
+            left as usize,
+            right as usize,
+            scale * coefficient as i64,
+        );
     }
 }
 
 // Adds a scale times g.
-pub fn add_function(register: Register, scheme: Scheme, table: &mut [i64], side: usize, scale: i64)
-    requires valid_register { ValidRegister register }
-    requires valid { Valid register scheme }
-    requires side_value { side ≡ side_of register.choices scheme }
-    requires bounded { Bounded side max_before_forms table.old }
+pub fn add_function(quadratization: &Quadratization, table: &mut SquareTable, scale: i64)
+    requires side_value { table.old.side ≡ side_of quadratization.now.register.choices quadratization.now.scheme }
+    requires room { Room max_before_forms table.old }
     requires scale_bound { nat_abs scale ≤ max_factor }
-    ensures { table.new ≡ add_form side (times scale (g (coefficient register) register scheme)) table.old }
+    ensures { Adds (times scale (g (coefficient quadratization.now.register) quadratization.now.register quadratization.now.scheme)) table.old table.new }
 {
-    let base = register.base;
-    add_monomial(table, side, 0, 0, scale * (base as i64));
-    add_terms(register, scheme, table, side, scale);
+    table.add_monomial(0, 0, scale * quadratization.register.base as i64);
+    add_terms(quadratization, table, scale);
 }
 
 // Adds w times the bracket of product k, whose operands are l and r.
-fn add_bracket(table: &mut [i64], side: usize, k: usize, l: usize, r: usize, w: i64)
-    requires bounded { Bounded side max_before_form table.old }
-    requires k_bound { (k + 1 < side) × (l < k) × (r < k) }
+fn add_bracket(table: &mut SquareTable, k: usize, l: usize, r: usize, w: i64)
+    requires room { Room max_before_form table.old }
+    requires k_bound { (k + 1 < table.old.side) × (l < k) × (r < k) }
     requires w_bound { nat_abs w ≤ max_product_weight }
-    ensures { table.new ≡ add_form side (times w (bracket k l r)) table.old }
+    ensures { Adds (times w (bracket k l r)) table.old table.new }
 {
-    add_multiple(table, side, 0, k + 1, w, 3);
-    add_multiple(table, side, k + 1, l + 1, w, -2);
-    add_multiple(table, side, k + 1, r + 1, w, -2);
-    add_multiple(table, side, l + 1, r + 1, w, 1);
+    table.add_multiple(0, k + 1, w, 3);
+    table.add_multiple(k + 1, l + 1, w, -2);
+    table.add_multiple(k + 1, r + 1, w, -2);
+    table.add_multiple(l + 1, r + 1, w, 1);
 }
 
 // Adds each product's weight times its bracket.
-fn add_penalties(register: Register, scheme: Scheme, table: &mut [i64], side: usize)
-    requires valid_register { ValidRegister register }
-    requires valid { Valid register scheme }
-    requires side_value { side ≡ side_of register.choices scheme }
-    requires bounded { Bounded side max_before_forms table.old }
-    ensures { table.new ≡
-        add_form side (join_below scheme.products (penalty_of (coefficient register) register scheme)) table.old }
+fn add_penalties(quadratization: &Quadratization, table: &mut SquareTable)
+    requires side_value { table.old.side ≡ side_of quadratization.now.register.choices quadratization.now.scheme }
+    requires room { Room max_before_forms table.old }
+    ensures { Adds (join_below quadratization.now.scheme.products (penalty_of (coefficient quadratization.now.register) quadratization.now.register quadratization.now.scheme)) table.old table.new }
 {
-    let n = register.choices;
-    let products = scheme.products;
-    let mut i = 0;
-    while i < products {
-        let l = scheme.lefts[i];
-        let r = scheme.rights[i];
-        let w = weight(register, scheme, n + i);
-        add_bracket(table, side, n + i, l as usize, r as usize, w as i64);
-        i += 1;
+    let n = quadratization.register.choices;
+    for i in 0..quadratization.scheme.products {
+        let left = quadratization.scheme.lefts[i];
+        let right = quadratization.scheme.rights[i];
+        let weight = weight(quadratization, n + i);
+        add_bracket(table, n + i, left as usize, right as usize, weight as i64);
     }
 }
 
 // Makes the table hold the penalty form h. The rest of the table is kept.
-pub fn penalty_form(register: Register, scheme: Scheme, table: &mut [i64])
-    requires valid_register { ValidRegister register }
-    requires valid { Valid register scheme }
-    requires table_numbers_in_bounds { table_numbers ≤ length table.old }
+pub fn penalty_form(quadratization: &Quadratization, table: &mut [i64])
+    requires { table_numbers ≤ length table.old }
     ensures { table.new ≡
-        with_table (side_of register.choices scheme) (entry (h (coefficient register) register scheme)) table.old }
+        with_table (side_of quadratization.now.register.choices quadratization.now.scheme) (entry (h (coefficient quadratization.now.register) quadratization.now.register quadratization.now.scheme)) table.old }
 {
-    let side = register.choices + scheme.products + 1;
-    forms::clear(table, side * side);
-    add_function(register, scheme, table, side, 1);
-    add_penalties(register, scheme, table, side);
+    let mut square = SquareTable {
+        numbers: table,
+        side: quadratization.side(),
+    };
+    square.clear();
+    add_function(quadratization, &mut square, 1);
+    add_penalties(quadratization, &mut square);
+}
+
+// Makes the table hold the penalty form of two parts, each by itself.
+fn put_penalty(register: &[u8], scheme: &[u8], table: &mut [i64]) -> Result<(), Fault>
+    ensures value { answer_of result ≡ penalty_answer register.now scheme.now table.old }
+    ensures table_after { table.new ≡ penalty_table register.now scheme.now table.old }
+{
+    if table.len() < WorkingTable::NUMBERS {
+        return Err(Fault::nowhere(Refusal::TooShort));
+    }
+    let quadratization = open_parts(register, scheme)?;
+    penalty_form(&quadratization, table);
+    Ok(())
 }
 
 // The penalty form of a register and a scheme, each as a run of bytes by itself.
@@ -222,26 +199,12 @@ pub extern "C" fn feedcheck_penalty(
     ensures value { result ≡ penalty_answer register.now scheme.now table.old }
     ensures table_after { table.new ≡ penalty_table register.now scheme.now table.old }
 {
-    if table.len() < WorkingTable::NUMBERS {
-        return PenaltyAnswer {
-            number: 11,
+    match put_penalty(register, scheme, table) {
+        Ok(()) => PenaltyAnswer {
+            number: 0,
             part: 0,
             position: 0,
-        };
-    }
-    let parts = open_parts(register, scheme);
-    let number = parts.number;
-    if number != 0 {
-        return PenaltyAnswer {
-            number: number,
-            part: parts.part,
-            position: parts.position,
-        };
-    }
-    penalty_form(parts.register, parts.scheme, table);
-    PenaltyAnswer {
-        number: 0,
-        part: 0,
-        position: 0,
+        },
+        Err(fault) => PenaltyAnswer::from_fault(fault),
     }
 }

@@ -1,4 +1,3 @@
-use mathlib.Core.Path.{refl}
 use Prim.Native.Nat.{ℕ, ◌≤◌, ◌<◌}
 use native.Mathlib.Omega.{arith}
 use lib.IntN.{ℤ, nat_abs}
@@ -6,12 +5,13 @@ use mir.Syntax.{w64}
 use mir.Val.{to_z, of_z}
 use Rattle.integers.specs.Lists.{join_below}
 use Rattle.integers.proofs.Machine.{read_signed}
-use Rattle.forms.specs.Store.{add_form}
+use Rattle.forms.proofs.Added.{adds_none}
 use Rattle.register.specs.declared.Register.{Register}
 use Rattle.register.specs.Register.{coefficient}
 use Rattle.register.specs.Valid.{Within}
 use Rattle.penalty.specs.Operands.{max_factor}
 use Rattle.penalty.proofs.Scaled.{Product, product, terms_room, terms_turn}
+use Rattle.scheme.proofs.Truncated.{valid_register}
 use Rattle.penalty.proofs.add_terms.Goals as goal
 
 -- the scale as the code has it
@@ -25,28 +25,29 @@ scaled z r t h within l =
     product (to_z w64 (of_z w64 z)) (coefficient r t) (small z h) (omega arith)
 
 pub loop-t-init : goal.loop-t-init
-unfolding add_form join_below
-loop-t-init c = record { within = omega arith; so_far = refl }
+unfolding join_below
+loop-t-init c = adds_none _
 
 pub overflow_mul-scale : goal.overflow_mul-scale
-overflow_mul-scale c = (scaled c.args.scale c.args.register c.loop-t.t c.requires.scale_bound c.requires.valid_register.within (omega arith)).fits
+overflow_mul-scale c =
+    let q = c.args.quadratization.now in
+    (scaled c.args.scale q.register c.loop-t.t c.requires.scale_bound (valid_register q.register_valid).within (omega arith)).fits
 
-pub add_term-requires-clause-bounded : goal.add_term-requires-clause-bounded
-add_term-requires-clause-bounded c =
-    terms_room (to_z w64 (of_z w64 c.args.scale)) c.args.register c.args.scheme _ c.loop-t.t _ _
-    c.requires.valid_register.within c.requires.valid c.requires.side_value c.requires.bounded (small c.args.scale c.requires.scale_bound)
-    (omega arith) c.loop-t.invariant.so_far
+pub add_term-requires-clause-room : goal.add_term-requires-clause-room
+add_term-requires-clause-room c =
+    let q = c.args.quadratization.now in
+    terms_room (to_z w64 (of_z w64 c.args.scale)) q.register q.scheme c.loop-t.t c.loop-t.invariant
+    (valid_register q.register_valid).within q.scheme_valid c.requires.side_value c.requires.room (small c.args.scale c.requires.scale_bound) (omega arith)
 
 pub add_term-requires-clause-c_bound : goal.add_term-requires-clause-c_bound
 add_term-requires-clause-c_bound c =
-    let k = scaled c.args.scale c.args.register c.loop-t.t c.requires.scale_bound c.requires.valid_register.within (omega arith) in
+    let q = c.args.quadratization.now in
+    let k = scaled c.args.scale q.register c.loop-t.t c.requires.scale_bound (valid_register q.register_valid).within (omega arith) in
     rw k.reads (omega (arith, k.low))
 
 pub loop-t-preserved : goal.loop-t-preserved
-loop-t-preserved c = record {
-  within = omega arith;
-  so_far =
-      terms_turn (to_z w64 (of_z w64 c.args.scale)) c.args.register c.args.scheme _ c.loop-t.t _ _ _ _
-      (scaled c.args.scale c.args.register c.loop-t.t c.requires.scale_bound c.requires.valid_register.within (omega arith)).reads
-      c.loop-t.invariant.so_far c.add_term.ensures;
-}
+loop-t-preserved c =
+    let q = c.args.quadratization.now in
+    terms_turn (to_z w64 (of_z w64 c.args.scale)) q.register q.scheme c.loop-t.t c.loop-t.invariant _
+    (scaled c.args.scale q.register c.loop-t.t c.requires.scale_bound (valid_register q.register_valid).within (omega arith)).reads
+    c.add_term.ensures

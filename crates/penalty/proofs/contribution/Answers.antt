@@ -1,29 +1,35 @@
--- Both variables of the split can be followed down; the coefficient keeps its magnitude when cast.
-use mathlib.Core.Path.{◌≡◌, refl}
-use mathlib.Core.Bool.{Bool, true, false, cond, ◌||◌}
-use Prim.Native.Nat.{ℕ}
+-- Both variables of the split can be followed down; the coefficient keeps its magnitude.
+use mathlib.Core.Path.{◌≡◌, sym, ◌∙◌}
+use mathlib.Core.Bool.{true, false}
 use native.Mathlib.Omega.{arith}
-use lib.IntN.{pos, nat_abs}
-use mir.Syntax.{w32, w64}
+use mir.Syntax.{w32}
 use Rattle.integers.specs.Integer.{abs}
-use Rattle.integers.proofs.Machine.{fits_signed, cast_read}
-use Rattle.penalty.specs.Weights.{reaches}
+use Rattle.integers.proofs.Machine.{read_signed}
+use Rattle.register.specs.Register.{coefficient}
+use Rattle.scheme.proofs.Truncated.{valid_register}
+use Rattle.penalty.specs.Weights.{uses}
 use Rattle.penalty.proofs.contribution.Goals as goal
+use Rattle.penalty.proofs.contribution.Goals.{then-reaches, else-reaches}
 
--- either, once
-either : (a b : Bool) (x : ℕ) → pos (cond a x (cond b x 0)) ≡ cond (a || b) (pos x) (pos 0)
-either true b x = refl
-either false true x = refl
-either false false x = refl
+pub returns-then-used : goal.returns-then-used
+unfolding uses abs
+returns-then-used c =
+    let q = c.args.quadratization.now in
+    let m = ((valid_register q.register_valid).within.terms.each c.args.t c.requires).coefficient_within in
+    let u : uses q.register.choices q.scheme c.args.k c.args.t ≡ true =
+    elim c.if-reaches.branch [
+      | then-reaches w ↦ rw (sym c.reaches.ensures ∙ w.if-reaches.true)
+      | else-reaches w ↦ rw (sym c.reaches.ensures ∙ w.if-reaches.false, sym w.reaches-used.ensures ∙ sym w.used-is ∙ c.if-used.true)
+    ] in
+    rw (u, c.unsigned_abs.ensures.value, read_signed w32 (coefficient q.register c.args.t) (omega arith))
 
-pub returns : goal.returns
-unfolding abs
-returns c s lent h =
-    rw (
-      c.magnitude_if_used.ensures,
-      c.reaches-left.ensures s lent (omega arith),
-      c.reaches-right.ensures s lent h,
-      c.magnitude.ensures,
-      cast_read w32 w64 c.args.c (omega arith) (fits_signed w32 c.args.c (omega arith)),
-    )
-    (either (reaches c.args.n s c.args.k c.args.l) (reaches c.args.n s c.args.k c.args.r) (nat_abs c.args.c))
+pub returns-else-used : goal.returns-else-used
+unfolding uses
+returns-else-used c =
+    let q = c.args.quadratization.now in
+    let u : uses q.register.choices q.scheme c.args.k c.args.t ≡ false =
+    elim c.if-reaches.branch [
+      | then-reaches w ↦ absurd (cc (w.used-is, c.if-used.false))
+      | else-reaches w ↦ rw (sym c.reaches.ensures ∙ w.if-reaches.false, sym w.reaches-used.ensures ∙ sym w.used-is ∙ c.if-used.false)
+    ] in
+    rw u

@@ -1,17 +1,19 @@
 -- The table is cleared, and g and the penalties are added.
 use mathlib.Core.Path.{◌≡◌, ◌∙◌}
 use mathlib.Core.List.{List}
-use Prim.Native.Nat.{ℕ, ◌+◌, ◌*◌, ◌≤◌}
-use native.Mathlib.Numerals.{add-one}
+use Prim.Native.Nat.{◌*◌, ◌≤◌}
 use native.Mathlib.Omega.{arith}
 use lib.IntN.{ℤ, pos}
 use lib.ListN.{length}
+use borrow.Author.Rules.{rules}
 use Rattle.integers.specs.Lists.{join_below}
+use Rattle.forms.specs.declared.SquareTable.{SquareTable}
 use Rattle.forms.specs.Form.{times, entry}
 use Rattle.forms.specs.Table.{table_numbers, with_table}
-use Rattle.forms.specs.Store.{add_form, cleared, Bounded, max_before_forms}
-use Rattle.forms.proofs.Store.{add_form-append, stored, bounded_cleared, bounded_add_form, bounded_weaken}
+use Rattle.forms.specs.Store.{cleared, Room, Becomes, Adds, max_before_forms}
+use Rattle.forms.proofs.Store.{stored, bounded_cleared, bounded_weaken}
 use Rattle.forms.proofs.Times.{times_one}
+use Rattle.forms.proofs.Added.{adds_then, room_after}
 use Rattle.register.specs.declared.Register.{Register}
 use Rattle.register.specs.Register.{coefficient}
 use Rattle.register.specs.Valid.{Within}
@@ -20,50 +22,40 @@ use Rattle.scheme.specs.Scheme.{side}
 use Rattle.scheme.specs.Function.{g}
 use Rattle.scheme.specs.Valid.{Valid}
 use Rattle.scheme.proofs.Table.{g_below}
+use Rattle.scheme.proofs.Truncated.{valid_register}
 use Rattle.penalty.specs.Penalty.{penalty_of, h}
 use Rattle.penalty.proofs.Penalty.{below_h}
 use Rattle.penalty.proofs.Bounds.{g_norm, side_square}
 use Rattle.penalty.proofs.penalty_form.Goals as goal
 
-module _ (r : Register) (s : Scheme) (within : Within r) (valid : Valid r s) where
-  -- the side as the code has it
-  abbrev n : ℕ
-  n = r.choices + s.products + 1
+-- the table t as it is lent, u cleared, v after g, w after the penalties
+module _ (r : Register) (s : Scheme) (within : Within r) (valid : Valid r s) {t u : SquareTable} (is_side : t.side ≡ side r.choices s) (long : table_numbers ≤ length t.numbers.now)
+    (a : Becomes (cleared (t.side * t.side) t.numbers.now) t u) where
+  square : t.side * t.side ≤ length t.numbers.now
+  square = rw is_side (omega (arith, side_square r s within valid))
 
-  is_side : n ≡ side r.choices s
-  is_side = add-one (r.choices + s.products)
+  room_cleared : Room max_before_forms u
+  room_cleared = rw (a.same_side, a.holds) (bounded_weaken (bounded_cleared t.side t.numbers.now square) (omega arith))
 
-  square : n * n ≤ table_numbers
-  square = rw is_side (side_square r s within valid)
+  module _ {v : SquareTable} (b : Adds (times (pos 1) (g (coefficient r) r s)) u v) where
+    room_function : Room max_before_forms v
+    room_function = room_after {b = 0} (rw (a.same_side, a.holds) (bounded_cleared t.side t.numbers.now square)) b (rw (times_one (g (coefficient r) r s), a.same_side, is_side) (g_below (coefficient r) r s valid)) max_before_forms (rw (times_one (g (coefficient r) r s)) (omega (arith, g_norm r s within)))
 
-  -- the table u after `clear`, v after g, w after the penalties
-  module _ (t u : List ℤ) (l : table_numbers ≤ length t) (d : u ≡ cleared (n * n) t) where
-    room_cleared : Bounded n 0 u
-    room_cleared = rw d (bounded_cleared n t (omega (arith, square)))
+    whole : {w : SquareTable} {x : List ℤ} → Adds (join_below s.products (penalty_of (coefficient r) r s)) v w → x ≡ w.numbers.now → x ≡ with_table (side r.choices s) (entry (h (coefficient r) r s)) t.numbers.now
+    unfolding h
+    whole d e = e ∙ (adds_then b d).holds ∙ rw (times_one (g (coefficient r) r s), a.same_side, a.holds, is_side) (stored (below_h (coefficient r) r s valid) t.numbers.now (rw is_side at square))
 
-    module _ (v : List ℤ) (e : v ≡ add_form n (times (pos 1) (g (coefficient r) r s)) u) where
-      room_function : Bounded n max_before_forms v
-      room_function =
-          rw (e, times_one (g (coefficient r) r s))
-          (bounded_weaken (bounded_add_form (rw is_side (g_below (coefficient r) r s valid)) room_cleared) (omega (arith, g_norm r s within)))
+pub add_function-requires-clause-room : goal.add_function-requires-clause-room
+add_function-requires-clause-room c =
+    let q = c.args.quadratization.now in
+    room_cleared q.register q.scheme (valid_register q.register_valid).within q.scheme_valid c.side.ensures c.requires c.clear.ensures
 
-      fits : side r.choices s * side r.choices s ≤ length t
-      fits = rw (← is_side) (omega (arith, square))
-
-      whole : (w : List ℤ) → w ≡ add_form n (join_below s.products (penalty_of (coefficient r) r s)) v →
-          w ≡ with_table (side r.choices s) (entry (h (coefficient r) r s)) t
-      unfolding h
-      whole w f =
-          f
-          ∙ rw (e, times_one (g (coefficient r) r s), d, ← (add_form-append n (g (coefficient r) r s) (join_below s.products (penalty_of (coefficient r) r s)) (cleared (n * n) t)), is_side)
-          (stored (below_h (coefficient r) r s valid) t fits)
-
-pub add_penalties-requires-clause-bounded : goal.add_penalties-requires-clause-bounded
-add_penalties-requires-clause-bounded c =
-    let v = c.requires.valid_register in
-    room_function c.args.register c.args.scheme v.within c.requires.valid c.args.table.now _ c.requires.table_numbers_in_bounds c.clear.ensures _ c.add_function.ensures
+pub add_penalties-requires-clause-room : goal.add_penalties-requires-clause-room
+add_penalties-requires-clause-room c =
+    let q = c.args.quadratization.now in
+    room_function q.register q.scheme (valid_register q.register_valid).within q.scheme_valid c.side.ensures c.requires c.clear.ensures c.add_function.ensures
 
 pub returns : goal.returns
 returns c =
-    let v = c.requires.valid_register in
-    whole c.args.register c.args.scheme v.within c.requires.valid c.args.table.now _ c.requires.table_numbers_in_bounds c.clear.ensures _ c.add_function.ensures _ c.add_penalties.ensures
+    let q = c.args.quadratization.now in
+    whole q.register q.scheme (valid_register q.register_valid).within q.scheme_valid c.side.ensures c.requires c.clear.ensures c.add_function.ensures c.add_penalties.ensures (search rules)

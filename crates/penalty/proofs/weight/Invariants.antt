@@ -1,6 +1,5 @@
 -- The total is what the terms so far contribute.
 use mathlib.Core.Path.{◌≡◌}
-use Prim.Native.Nat.{◌≤◌, ◌-◌}
 use lib.IntN.{pos}
 use Rattle.integers.specs.Sum.{sum_below}
 use Rattle.register.specs.Register.{coefficient}
@@ -8,10 +7,6 @@ use Rattle.penalty.specs.Weights.{contribution}
 use Rattle.penalty.proofs.weight.Given as goal
 
 abbrev pub invariant-loop-t : goal.invariant-loop-t
-invariant-loop-t l = record {
-  within : l.t ≤ l.register.terms;
-  so_far : pos l.total ≡ sum_below l.t (contribution (coefficient l.register) l.register.choices l.scheme l.k);
-}
-
-abbrev pub decreases-loop-t : goal.decreases-loop-t
-decreases-loop-t l = l.terms - l.t
+invariant-loop-t l =
+    let q = l.quadratization in
+    pos l.total ≡ sum_below l.t (contribution (coefficient q.register) q.register.choices q.scheme l.k)
