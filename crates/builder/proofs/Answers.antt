@@ -1,40 +1,35 @@
--- What the builder's call answers, from what the register's call answers.
-use mathlib.Core.Path.{◌≡◌, sym, ◌∙◌, ap}
+-- What the builder's call answers, from what opening the register leads to.
+use mathlib.Core.Path.{◌≡◌, ◌∙◌, ap}
 use mathlib.Core.List.{List}
 use Prim.Native.Nat.{ℕ}
+use Rattle.wire.specs.Outcome.{Outcome, refuses, accepts, answer_by}
 use Rattle.wire.specs.Writer.{refused_answer, bytes_answer, with_front}
-use Rattle.register.specs.declared.RegisterAnswer.{RegisterAnswer}
-use Rattle.register.specs.Format.{register_by_itself}
-use Rattle.register.specs.Answer.{register_answer}
+use Rattle.register.specs.declared.Register.{Register}
+use Rattle.register.specs.Opening.{open_register}
 use Rattle.register.specs.Position.{term_position}
-use Rattle.register.proofs.Opened.{Opened, opened_refused, opened}
 use Rattle.scheme.specs.declared.Scheme.{Scheme}
 use Rattle.builder.specs.Builder.{stopped, built, build}
 use Rattle.scheme.specs.Encoding.{encode_scheme}
 use Rattle.builder.specs.Answer.{built_answer, built_buffer, build_answer, build_buffer}
 
-module _ (s : List ℕ) where
-  module _ (read : RegisterAnswer) (e : read ≡ register_answer (register_by_itself s)) (buffer : List ℕ) where
-    -- the register is refused
-    pub build_refused : (read.number ≡ 0 → ⊥) → (refused_answer read.number 1 read.position ≡ build_answer s buffer) × (buffer ≡ build_buffer s buffer)
-    build_refused h = let q = opened_refused s read e h in (rw q, rw q)
+module _ (s buffer : List ℕ) where
+  answer_from : (x : Outcome Register) → x ≡ open_register s → answer_by refused_answer (λ reg. built_answer s reg buffer (build reg)) x ≡ build_answer s buffer
+  answer_from x e = ap (answer_by refused_answer (λ reg. built_answer s reg buffer (build reg))) e
 
-    -- it is accepted
-    pub record Taken : Type 0 where
-      pub opens : Opened s read.register
-      pub answer : build_answer s buffer ≡ built_answer s read.register buffer (build read.register)
-      pub rest : build_buffer s buffer ≡ built_buffer read.register buffer (build read.register)
+  buffer_from : (x : Outcome Register) → x ≡ open_register s → answer_by (λ number part at. buffer) (λ reg. built_buffer reg buffer (build reg)) x ≡ build_buffer s buffer
+  buffer_from x e = ap (answer_by (λ number part at. buffer) (λ reg. built_buffer reg buffer (build reg))) e
 
-    pub build_taken : read.number ≡ 0 → Taken
-    build_taken h = let o = opened s read e h in record { opens = o; answer = rw o.reads; rest = rw o.reads }
+  -- the register is refused
+  pub build_refused : (number part at : ℕ) → refuses number part at ≡ open_register s → (refused_answer number part at ≡ build_answer s buffer) × (buffer ≡ build_buffer s buffer)
+  build_refused number part at e = (answer_from (refuses number part at) e, buffer_from (refuses number part at) e)
 
-    module _ (taken : Taken) where
-      -- a product past the limit is needed
-      pub build_full : (t position : ℕ) → stopped t ≡ build read.register → position ≡ term_position s t →
-          (refused_answer 10 1 position ≡ build_answer s buffer) × (buffer ≡ build_buffer s buffer)
-      build_full t position d p = (ap (refused_answer 10 1) p ∙ sym (taken.answer ∙ rw (← d)), sym (taken.rest ∙ rw (← d)))
+  -- it is accepted
+  module _ (reg : Register) (e : accepts reg ≡ open_register s) where
+    -- a product past the limit is needed
+    pub build_full : (t : ℕ) → stopped t ≡ build reg → (refused_answer 10 1 (term_position s t) ≡ build_answer s buffer) × (buffer ≡ build_buffer s buffer)
+    build_full t d = (ap (built_answer s reg buffer) d ∙ answer_from (accepts reg) e, ap (built_buffer reg buffer) d ∙ buffer_from (accepts reg) e)
 
-      -- a scheme is built
-      pub build_whole : (sch : Scheme) → built sch ≡ build read.register →
-          (bytes_answer (encode_scheme read.register.choices sch) buffer ≡ build_answer s buffer) × (with_front (encode_scheme read.register.choices sch) buffer ≡ build_buffer s buffer)
-      build_whole sch d = (sym (taken.answer ∙ rw (← d)), sym (taken.rest ∙ rw (← d)))
+    -- a scheme is built
+    pub build_whole : (sch : Scheme) → built sch ≡ build reg →
+        (bytes_answer (encode_scheme reg.choices sch) buffer ≡ build_answer s buffer) × (with_front (encode_scheme reg.choices sch) buffer ≡ build_buffer s buffer)
+    build_whole sch d = (ap (built_answer s reg buffer) d ∙ answer_from (accepts reg) e, ap (built_buffer reg buffer) d ∙ buffer_from (accepts reg) e)

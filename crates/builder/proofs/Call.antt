@@ -14,6 +14,7 @@ use Rattle.register.specs.Format.{register_by_itself}
 use Rattle.register.specs.Answer.{register_answer}
 use Rattle.register.specs.Opening.{open_register}
 use Rattle.register.specs.Valid as R
+use Rattle.register.proofs.Opened.{Opened, opened}
 use Rattle.scheme.specs.declared.Scheme.{Scheme}
 use Rattle.scheme.specs.Encoding.{encode_scheme}
 use Rattle.scheme.specs.Answer.{scheme_answer}
@@ -23,7 +24,7 @@ use Rattle.scheme.proofs.Canonical.{canonical}
 use Rattle.builder.specs.Builder.{Built, stopped, built, build}
 use Rattle.builder.specs.Answer.{built_room, built_answer, built_buffer, build_answer, build_buffer}
 use Rattle.builder.proofs.Validity.{build_valid, build_size}
-use Rattle.builder.proofs.Answers.{Taken, build_taken, build_whole}
+use Rattle.builder.proofs.Answers.{build_full, build_whole}
 
 module _ (s buffer : List ℕ) where
   abbrev register : Register
@@ -42,11 +43,11 @@ module _ (s buffer : List ℕ) where
     pub reads : scheme_answer s back ≡ answered scheme
 
   -- the register where it is accepted
-  abbrev Read : Type 0
-  Read = Taken s (register_answer (register_by_itself s)) refl buffer
+  read : (register_answer (register_by_itself s)).number ≡ 0 → Opened s register
+  read = opened s (register_answer (register_by_itself s)) refl
 
-  read : (register_answer (register_by_itself s)).number ≡ 0 → Read
-  read = build_taken s (register_answer (register_by_itself s)) refl buffer
+  taken : Opened s register → accepts register ≡ open_register s
+  taken o = rw o.reads
 
   -- where the call answers 0
   pub call_reads : (build_answer s buffer).number ≡ 0 → Wrote
@@ -56,31 +57,31 @@ module _ (s buffer : List ℕ) where
       of_register (refused n at) z = z
       of_register (accepted p end) z = refl
 
-      r : Read
+      r : Opened s register
       r = read (of_register (register_by_itself s) z)
 
       go : (x : Built) → build register ≡ x → Wrote
       go (stopped t) e =
-          let n : ◌≡◌ {A = ℕ} 10 0 = ap (λ a. a.number) (sym (r.answer ∙ ap (built_answer s register buffer) e)) ∙ z in
+          let n : ◌≡◌ {A = ℕ} 10 0 = ap (λ a. a.number) (build_full s buffer register (taken r) t (sym e)).0 ∙ z in
           absurd (omega arith)
       go (built sch) e =
           let bytes = encode_scheme register.choices sch in
-          let w = build_whole s _ refl buffer r sch (sym e) in
+          let w = build_whole s buffer register (taken r) sch (sym e) in
           let h = bytes_back bytes buffer (build_answer s buffer) (build_buffer s buffer) (sym w.0) (sym w.1) z in
           record {
             scheme = sch;
-            valid = r.opens.valid;
+            valid = r.valid;
             builds = e;
             hands_back = h;
-            reads = ap (scheme_answer s) h.front ∙ rw (r.opens.reads, (accepted_iff register r.opens.valid bytes sch).1 (build_valid register r.opens.valid sch e, canonical register sch));
+            reads = ap (scheme_answer s) h.front ∙ rw (r.reads, (accepted_iff register r.valid bytes sch).1 (build_valid register r.valid sch e, canonical register sch));
           }
 
   -- it does where the register is accepted, its scheme is built, and there is room for the longest
   pub enough : (register_answer (register_by_itself s)).number ≡ 0 → (sch : Scheme) → build register ≡ built sch → built_room ≤ length buffer → (build_answer s buffer).number ≡ 0
   enough z sch e l =
       let r = read z in
-      let w = build_whole s _ refl buffer r sch (sym e) in
-      bytes_enough (encode_scheme register.choices sch) buffer (build_answer s buffer) (build_buffer s buffer) (sym w.0) (sym w.1) (omega (arith, build_size register r.opens.valid sch e))
+      let w = build_whole s buffer register (taken r) sch (sym e) in
+      bytes_enough (encode_scheme register.choices sch) buffer (build_answer s buffer) (build_buffer s buffer) (sym w.0) (sym w.1) (omega (arith, build_size register r.valid sch e))
 
   -- bytes past the count are as they were: all of them where the call is refused
   pub call_keeps : drop (build_answer s buffer).count (build_buffer s buffer) ≡ drop (build_answer s buffer).count buffer

@@ -1,6 +1,5 @@
--- The code's joining of a pair, and its choices and splits, by the definition.
+-- The code's joining of a pair, and its splits, by the definition.
 use mathlib.Core.Path.{◌≡◌, refl, sym, ◌∙◌}
-use mathlib.Core.Bool.{true}
 use mathlib.Core.List.{List, [], ◌∷◌}
 use Prim.Native.Nat.{ℕ, zero, suc, ◌+◌, ◌-◌, min, max, ◌≤◌, ◌<◌}
 use native.Mathlib.Omega.{arith}
@@ -13,9 +12,8 @@ use Rattle.scheme.specs.Scheme.{max_products, variables, Lengths, with_product, 
 use Rattle.scheme.specs.Sets.{SetsBelow, first_in, union_in}
 use Rattle.scheme.proofs.Sets.{union_in_lem}
 use Rattle.scheme.proofs.Entries.{grown_sets}
-use Rattle.builder.specs.declared.Work.{Work}
-use Rattle.builder.specs.Builder.{first_with, split_of}
-use Rattle.builder.specs.Work.{Ready, Joins}
+use Rattle.builder.specs.Builder.{full, next, first_with, join_pair, split_of}
+use Rattle.builder.specs.Ready.{Ready}
 use Rattle.builder.proofs.Steps.{found, found_within, join_found, join_full, join_new}
 
 -- the smaller and the larger of two, where their order does not matter
@@ -60,56 +58,32 @@ split_some s [] h f = absurd (omega arith)
 split_some s (a ∷ []) h f = f a a refl
 split_some s (a ∷ b ∷ l) h f = f (min a b) (max a b) refl
 
-module _ {n : ℕ} {w : Work} (ready : Ready n w) {a b : ℕ} (la : a < variables n w.scheme) (lb : b < variables n w.scheme)
-    {union v : ℕ} (union_is : union ≡ union_in w.sets a b)
-    (v_is : v ≡ first_in w.sets (variables n w.scheme) union) where
-  found_is : v ≡ found n w.scheme a b
+module _ {n : ℕ} {s : Scheme} {sets : List ℕ} (ready : Ready n s sets) {a b : ℕ} (la : a < variables n s) (lb : b < variables n s) {union : ℕ} (union_is : union ≡ union_in sets a b) where
+  found_is : first_in sets (variables n s) union ≡ found n s a b
   unfolding first_in first_with
-  found_is = v_is ∙ first_below_same _ _ _ (λ i l. rw (ready.sets_are.below i l, union_is ∙ union_in_lem ready.sets_are a b la lb))
+  found_is = first_below_same _ _ _ (λ i l. rw (ready.sets_are.below i l, union_is ∙ union_in_lem ready.sets_are a b la lb))
 
   -- a variable has the union
-  pub joins_found : v < variables n w.scheme → Joins n w a b (record { full = w.full; scheme = w.scheme; sets = w.sets; list = w.list; count = w.count; variable = v })
-  joins_found l = record {
-    same = rw (ready.not_full, found_is) (sym (join_found n w.scheme a b (rw found_is at l)));
-    ready = λ _. record { few = ready.few; not_full = ready.not_full; within = ready.within; lengths = ready.lengths; long = ready.long; sets_are = ready.sets_are };
-    list_kept = refl;
-    count_kept = refl;
-  }
+  pub joins_found : (v : ℕ) → v < variables n s → v ≡ first_in sets (variables n s) union → next (record { scheme = s; variable = v }) ≡ join_pair n s a b
+  joins_found v l e = let d : v ≡ found n s a b = e ∙ found_is in rw d (sym (join_found n s a b (rw d at l)))
 
-  module _ (l : variables n w.scheme ≤ v) where
-    none : found n w.scheme a b ≡ variables n w.scheme
-    none = omega (arith, found_within n w.scheme a b, found_is)
-
+  module _ (none : first_in sets (variables n s) union ≡ variables n s) where
     -- none has it, and there is no room for a product
-    pub joins_full : max_products ≤ w.scheme.products → Joins n w a b (record { full = true; scheme = w.scheme; sets = w.sets; list = w.list; count = w.count; variable = w.variable })
-    joins_full m = record {
-      same = sym (join_full n w.scheme a b none m);
-      ready = λ e. let z : ◌≡◌ {A = ℕ} 0 1 = cc in absurd (omega arith);
-      list_kept = refl;
-      count_kept = refl;
-    }
+    pub joins_full : max_products ≤ s.products → full ≡ join_pair n s a b
+    joins_full m = sym (join_full n s a b (sym found_is ∙ none) m)
 
     -- the product is made
-    pub joins_new : w.scheme.products < max_products → (made : Scheme) → made ≡ with_product w.scheme (min a b) (max a b) →
-        Joins n w a b (record { full = w.full; scheme = made; sets = set w.sets (variables n w.scheme) union; list = w.list; count = w.count; variable = variables n w.scheme })
-    joins_new m made e = record {
-      same = rw (ready.not_full, e) (sym (join_new n w.scheme a b none m));
-      ready = λ _. rw e (record {
-        few = ready.few;
-        not_full = ready.not_full;
-        within = m;
-        lengths = product_lengths w.scheme _ _ ready.lengths;
-        long = ready.long;
-        sets_are = sets_are;
-      });
-      list_kept = refl;
-      count_kept = refl;
-    }
-      where
-        union_same : union_in w.sets (min a b) (max a b) ≡ union
-        union_same = sorted (union_in w.sets) (λ x y. or_comm (get_or w.sets x 0) (get_or w.sets y 0)) a b ∙ sym union_is
+    module _ (m : s.products < max_products) (made : Scheme) (e : made ≡ with_product s (min a b) (max a b)) where
+      pub joins_new : next (record { scheme = made; variable = variables n s }) ≡ join_pair n s a b
+      joins_new = rw e (sym (join_new n s a b (sym found_is ∙ none) m))
 
-        sets_are : SetsBelow n (with_product w.scheme (min a b) (max a b)) (n + suc w.scheme.products) (set w.sets (variables n w.scheme) union)
-        sets_are =
-            rw (← union_same)
-            (grown_sets w.scheme (min a b) (max a b) n ready.lengths m ready.sets_are (omega (arith, ready.few)) (omega arith) (omega arith))
+      pub new_ready : Ready n made (set sets (variables n s) union)
+      new_ready = rw e (record { few = ready.few; within = m; lengths = product_lengths s _ _ ready.lengths; sets_are = sets_are })
+        where
+          union_same : union_in sets (min a b) (max a b) ≡ union
+          union_same = sorted (union_in sets) (λ x y. or_comm (get_or sets x 0) (get_or sets y 0)) a b ∙ sym union_is
+
+          sets_are : SetsBelow n (with_product s (min a b) (max a b)) (n + suc s.products) (set sets (variables n s) union)
+          sets_are =
+              rw (← union_same)
+              (grown_sets s (min a b) (max a b) n ready.lengths m ready.sets_are (omega (arith, ready.few)) (omega arith) (omega arith))

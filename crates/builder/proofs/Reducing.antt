@@ -1,74 +1,68 @@
 -- Passes of the code while the list has more than two members.
 use mathlib.Core.Path.{◌≡◌, refl, sym, ◌∙◌}
-use mathlib.Core.Bool.{true, false}
+use mathlib.Core.List.{List}
 use Prim.Native.Nat.{ℕ, zero, suc, ◌≤◌, ◌<◌}
 use native.Mathlib.Omega.{arith}
 use lib.ListN.{length}
-use lib.Seq.{length-take-le}
-use Rattle.builder.specs.declared.Work.{Work}
+use Rattle.scheme.specs.declared.Scheme.{Scheme}
+use Rattle.builder.specs.declared.list.Members.{Members}
+use Rattle.builder.specs.declared.state.Work.{Work}
 use Rattle.builder.specs.Builder.{Step, full, next, and_then, WithList, pair_up, reduce}
-use Rattle.builder.specs.Work.{listed, Lists, LeadsTo}
+use Rattle.builder.specs.Work.{listed, Inside}
+use Rattle.builder.proofs.Passing.{length_listed}
+use Rattle.builder.proofs.Steady.{pass_steady}
 use Rattle.builder.proofs.Steps.{pass_halves, reduce_done, reduce_more}
 
-pub listed_length : {n : ℕ} {w : Work} → Lists n w → length (listed w) ≡ w.count
-listed_length {n} {w} h = length-take-le w.count w.list (omega (arith, h.ready.long, h.count_within))
-
 -- the step that all passes lead to
-abbrev pub reduced_step : ℕ → Work → Step WithList
-reduced_step n w = reduce (length (listed w)) n w.scheme (listed w)
+abbrev pub reduced_step : ℕ → Scheme → List ℕ → Step WithList
+reduced_step n s l = reduce (length l) n s l
 
-pub record Reducing (n : ℕ) (w₀ w : Work) : Type 0 where
-  pub lists : Lists n w
+pub record Reducing (n : ℕ) (s : Scheme) (l : List ℕ) (w : Work) (m : Members) : Type 0 where
+  pub choices_kept : w.choices ≡ n
+  pub inside : Inside n w.scheme (listed m)
   pub fuel : ℕ
-  pub enough : w.count ≤ fuel
-  pub same : reduce fuel n w.scheme (listed w) ≡ reduced_step n w₀
+  pub enough : m.count ≤ fuel
+  pub same : reduce fuel n w.scheme (listed m) ≡ reduced_step n s l
 
-pub reducing_starts : {n : ℕ} {w : Work} → Lists n w → Reducing n w w
-reducing_starts {n} {w} h = record { lists = h; fuel = length (listed w); enough = omega (arith, listed_length h); same = refl }
+pub reducing_starts : (w : Work) (m : Members) → Inside w.choices w.scheme (listed m) → Reducing w.choices w.scheme (listed m) w m
+reducing_starts w m h = record { choices_kept = refl; inside = h; fuel = length (listed m); enough = omega (arith, length_listed m); same = refl }
 
-module _ {n : ℕ} {w₀ w : Work} (g : Reducing n w₀ w) where
+module _ {n : ℕ} {s : Scheme} {l : List ℕ} {w : Work} {m : Members} (g : Reducing n s l w m) where
   -- no pass is left
-  pub reduces_end : w.count ≤ 2 → LeadsTo n (reduced_step n w₀) w
-  reduces_end l = record {
-    same = rw g.lists.ready.not_full (sym (reduce_done n g.fuel w.scheme (listed w) (omega (arith, listed_length g.lists))) ∙ g.same);
-    lists = λ _. g.lists;
-  }
+  pub reduces_end : m.count ≤ 2 → next (record { scheme = w.scheme; members = listed m }) ≡ reduced_step n s l
+  reduces_end h = sym (reduce_done n g.fuel w.scheme (listed m) (omega (arith, length_listed m))) ∙ g.same
 
-  module _ (l : 2 < w.count) (r : Work) (j : LeadsTo n (pair_up n w.scheme (listed w)) r) where
-    more : (k : ℕ) → w.count ≤ suc k → reduce (suc k) n w.scheme (listed w) ≡ and_then (pair_up n w.scheme (listed w)) (λ p. reduce k n p.scheme p.members)
-    more k h = reduce_more n k w.scheme (listed w) (omega (arith, listed_length g.lists))
+  module _ (left : 2 < m.count) where
+    more : (k : ℕ) → reduce (suc k) n w.scheme (listed m) ≡ and_then (pair_up n w.scheme (listed m)) (λ p. reduce k n p.scheme p.members)
+    more k = reduce_more n k w.scheme (listed m) (omega (arith, length_listed m))
 
-    pub reduces_full : r.full ≡ true → LeadsTo n (reduced_step n w₀) r
+    pub reduces_full : full ≡ pair_up n w.scheme (listed m) → full ≡ reduced_step n s l
     unfolding and_then
     reduces_full e = go g.fuel g.enough g.same
       where
-        go : (fuel : ℕ) → w.count ≤ fuel → reduce fuel n w.scheme (listed w) ≡ reduced_step n w₀ → LeadsTo n (reduced_step n w₀) r
+        go : (fuel : ℕ) → m.count ≤ fuel → reduce fuel n w.scheme (listed m) ≡ reduced_step n s l → full ≡ reduced_step n s l
         go zero h f = absurd (omega arith)
-        go (suc k) h f =
-            let d : pair_up n w.scheme (listed w) ≡ full = sym (rw e at j.same) in
-            record {
-              same = rw e (sym (more k h ∙ rw d) ∙ f);
-              lists = λ d. let z : ◌≡◌ {A = ℕ} 0 1 = cc in absurd (omega arith);
-            }
+        go (suc k) h f = sym (more k ∙ rw (← e)) ∙ f
 
-    module _ (e : r.full ≡ false) where
-      passed : pair_up n w.scheme (listed w) ≡ next (record { scheme = r.scheme; members = listed r })
-      passed = sym (rw e at j.same)
-
-      pub reduces_less : r.count < w.count
+    module _ (w' : Work) (m' : Members) (passed : next (record { scheme = w'.scheme; members = listed m' }) ≡ pair_up n w.scheme (listed m)) where
+      pub reduces_less : m'.count < m.count
       reduces_less =
-          let h = pass_halves n w.scheme (listed w) _ passed in
-          omega (arith, h.at_most, listed_length g.lists, listed_length (j.lists e))
+          let h = pass_halves n w.scheme (listed m) _ (sym passed) in
+          omega (arith, h.at_most, length_listed m, length_listed m')
 
-      pub reduces_on : Reducing n w₀ r
+      pub reduces_on : w'.choices ≡ n → Reducing n s l w' m'
       unfolding and_then
-      reduces_on = go g.fuel g.enough g.same
+      reduces_on c = go g.fuel g.enough g.same
         where
-          go : (fuel : ℕ) → w.count ≤ fuel → reduce fuel n w.scheme (listed w) ≡ reduced_step n w₀ → Reducing n w₀ r
+          inside : Inside n w'.scheme (listed m')
+          inside = (pass_steady n w.scheme.splits w.scheme (listed m) _ (record { within = w.ready.within; inside = g.inside; splits_kept = refl }) (sym passed)).inside
+
+          go : (fuel : ℕ) → m.count ≤ fuel → reduce fuel n w.scheme (listed m) ≡ reduced_step n s l → Reducing n s l w' m'
           go zero h f = absurd (omega arith)
           go (suc k) h f = record {
-            lists = j.lists e;
+            choices_kept = c;
+            inside = inside;
             fuel = k;
             enough = omega (arith, reduces_less);
-            same = sym (more k h ∙ rw passed) ∙ f;
+            same = sym (more k ∙ rw (← passed)) ∙ f;
           }

@@ -2,91 +2,49 @@
 
 #![tactic(auto)]
 
-use register::Register;
-use scheme::Scheme;
-use wire::WriterAnswer;
-
+mod list;
 mod pairs;
 mod splits;
+mod state;
 mod writing;
 
-ghost use Rattle.std.specs.Prelude.{◌≡◌, ◌≤◌};
-ghost use Rattle.register.specs.Limits.{max_choices};
+ghost use Rattle.std.specs.Prelude.{◌≡◌};
 ghost use Rattle.register.specs.Valid.{Valid};
 ghost use Rattle.builder.specs.Builder.{build};
-ghost use Rattle.builder.specs.Work.{built_of, Starts};
+ghost use Rattle.builder.specs.Work.{built_of, writer_answer};
 ghost use Rattle.builder.specs.Answer.{build_answer, build_buffer};
 
-use splits::with_term;
-use writing::written;
+use register::{Register, open_register};
+use register::walk::term_position;
+use scheme::Scheme;
+use state::Work;
+use wire::{Fault, Refusal, WriterAnswer};
+use writing::write_scheme;
 
-// The scheme so far and the sets of its variables; the list of variables that the choices of a term have been joined to, as
-// the first so many of an array; and the variable that the last pair was joined to. It is full when a product past the limit
-// was needed.
-#[derive(Clone, Copy)]
-pub struct Work {
-    pub full: bool,
-    pub scheme: Scheme,
-    pub sets: [u32; Scheme::MAX_VARIABLES],
-    pub list: [u8; Register::MAX_CHOICES],
-    pub count: usize,
-    pub variable: u8,
-}
-
-// What building leads to: a scheme, or the term that needs a product past the limit.
-#[derive(Clone, Copy)]
-pub struct Construction {
-    pub full: bool,
-    pub term: usize,
-    pub scheme: Scheme,
-}
-
-impl Work {
-    // No product and no split, for n choices.
-    fn fresh(n: usize) -> Work
-        requires { n ≤ max_choices }
-        ensures { Starts n result }
-    {
-        let scheme = Scheme::fresh();
-        let sets = scheme::choice_sets(n);
-        Work {
-            full: false,
-            scheme: scheme,
-            sets: sets,
-            list: [0; Register::MAX_CHOICES],
-            count: 0,
-            variable: 0,
-        }
-    }
-}
-
-// All terms in order.
-pub fn built(register: Register) -> Construction
-    requires { Valid register }
-    ensures { built_of result ≡ build register }
+// The scheme of a register, by its terms in order, or the term that needs a product past the limit.
+pub fn built(register: &Register) -> Result<Scheme, usize>
+    requires { Valid register.now }
+    ensures { built_of result ≡ build register.now }
 {
-    let n = register.choices;
-    let terms = register.terms;
-    let mut work = Work::fresh(n);
-    let mut t = 0;
-    while t < terms {
-        work = with_term(work, n, register.masks[t]);
-        if work.full {
-            let scheme = work.scheme;
-            return Construction {
-                full: true,
-                term: t,
-                scheme: scheme,
-            };
-        }
-        t += 1;
+    let mut work = Work::fresh(register.choices);
+    for t in 0..register.terms {
+        work.add_term(register.masks[t]).map_err(|_| t)?;
     }
-    let scheme = work.scheme;
-    Construction {
-        full: false,
-        term: 0,
-        scheme: scheme,
-    }
+    Ok(work.scheme)
+}
+
+// Builds the scheme of a register and writes its bytes to the front of the buffer. How many there are.
+fn build_into(register: &[u8], out: &mut [u8]) -> Result<usize, Fault>
+    ensures answer { writer_answer result ≡ build_answer register.now out.old }
+    ensures buffer { out.new ≡ build_buffer register.now out.old }
+{
+    let given = open_register(register)?;
+    let scheme = built(&given).map_err(|term| Fault {
+        refusal: Refusal::NoProductLeft,
+        part: 1,
+        position: term_position(register, term),
+    })?;
+    write_scheme(out, &scheme)
 }
 
 // Builds the scheme of a register (part 1 alone) and writes its bytes to the front of the buffer.
@@ -95,16 +53,8 @@ pub extern "C" fn feedcheck_build(register: &[u8], out: &mut [u8]) -> WriterAnsw
     ensures answer { result ≡ build_answer register.now out.old }
     ensures buffer { out.new ≡ build_buffer register.now out.old }
 {
-    let read = register::feedcheck_register(register);
-    let number = read.number;
-    if number != 0 {
-        return WriterAnswer::refused(number, 1, read.position);
+    match build_into(register, out) {
+        Ok(count) => WriterAnswer::written(count),
+        Err(fault) => WriterAnswer::from_fault(fault),
     }
-    let given = read.register;
-    let made = built(given);
-    if made.full {
-        return WriterAnswer::refused(10, 1, register::walk::term_position(register, made.term));
-    }
-    let scheme = made.scheme;
-    written(out, scheme)
 }

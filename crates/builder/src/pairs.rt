@@ -1,23 +1,13 @@
 // Two variables joined to one, and a list of variables joined pair by pair.
-ghost use Rattle.std.specs.Prelude.{◌≡◌, min, max, ◌<◌, ◌≤◌, length};
-ghost use Rattle.scheme.specs.Scheme.{max_products, variables, with_product};
-ghost use Rattle.builder.specs.Builder.{pair_up, reduce};
-ghost use Rattle.builder.specs.Work.{listed, Ready, Lists, Joins, LeadsTo};
+ghost use Rattle.std.specs.Prelude.{◌≡◌, ◌<◌, ◌≤◌, length};
+ghost use Rattle.register.specs.Limits.{max_choices};
+ghost use Rattle.scheme.specs.Scheme.{fresh, max_products, variables, with_product};
+ghost use Rattle.builder.specs.Builder.{join_pair, pair_up, reduce};
+ghost use Rattle.builder.specs.Work.{Inside, listed, joined_step, list_step};
 
-use crate::Work;
+use crate::list::Members;
+use crate::state::{Full, Work};
 use scheme::Scheme;
-
-pub fn smaller(a: u8, b: u8) -> u8
-    ensures { result ≡ min a b }
-{
-    if a < b { a } else { b }
-}
-
-pub fn larger(a: u8, b: u8) -> u8
-    ensures { result ≡ max a b }
-{
-    if a < b { b } else { a }
-}
 
 // One product more.
 fn with_product(mut scheme: Scheme, l: u8, r: u8) -> Scheme
@@ -31,71 +21,72 @@ fn with_product(mut scheme: Scheme, l: u8, r: u8) -> Scheme
     scheme
 }
 
-// Joins two variables to the one whose set is their union, made as the next product if none has it.
-fn joined(mut work: Work, n: usize, a: u8, b: u8) -> Work
-    requires ready { Ready n work }
-    requires a_bound { a < variables n work.scheme }
-    requires b_bound { b < variables n work.scheme }
-    ensures { Joins n work a b result }
-{
-    let products = work.scheme.products;
-    let count = n + products;
-    let union = scheme::union_of(&work.sets, a, b);
-    let v = scheme::lookup::first_with(&work.sets, count, union);
-    if v < count {
-        work.variable = v as u8;
-        return work;
-    }
-    if Scheme::MAX_PRODUCTS <= products {
-        work.full = true;
-        return work;
-    }
-    let scheme = work.scheme;
-    let grown = with_product(scheme, smaller(a, b), larger(a, b));
-    work.scheme = grown;
-    work.sets[count] = union;
-    work.variable = count as u8;
-    work
-}
-
-// One pass over the list: consecutive pairs from the front are joined, and an odd last member stays last.
-fn paired(mut work: Work, n: usize) -> Work
-    requires { Lists n work }
-    ensures { LeadsTo n (pair_up n work.scheme (listed work)) result }
-{
-    let count = work.count;
-    let mut i = 0;
-    while i < count / 2 {
-        let a = work.list[2 * i];
-        let b = work.list[2 * i + 1];
-        work = joined(work, n, a, b);
-        if work.full {
-            return work;
-        }
-        let v = work.variable;
-        work.list[i] = v;
-        i += 1;
-    }
-    if 2 * i < count {
-        let last = work.list[2 * i];
-        work.list[i] = last;
-        work.count = i + 1;
-        return work;
-    }
-    work.count = i;
-    work
-}
-
-// Passes while the list has more than two members.
-pub fn reduced(mut work: Work, n: usize) -> Work
-    requires { Lists n work }
-    ensures { LeadsTo n (reduce (length (listed work)) n work.scheme (listed work)) result }
-{
-    while 2 < work.count {
-        work = paired(work, n);
-        if work.full {
-            return work;
+impl Work {
+    // No product and no split, for n choices.
+    pub fn fresh(n: usize) -> Work
+        requires { n ≤ max_choices }
+        ensures choices { result.choices ≡ n }
+        ensures scheme { result.scheme ≡ fresh }
+    {
+        Work {
+            choices: n,
+            scheme: Scheme::fresh(),
+            sets: scheme::choice_sets(n),
         }
     }
-    work
+
+    // Joins two variables to the one whose set is their union, made as the next product if none has it. There are at most 64
+    // variables, so each has its number in a byte.
+    fn join(&mut self, a: u8, b: u8) -> Result<u8, Full>
+        requires a_bound { a < variables self.old.choices self.old.scheme }
+        requires b_bound { b < variables self.old.choices self.old.scheme }
+        ensures same { joined_step self.new result ≡ join_pair self.old.choices self.old.scheme a b }
+        ensures choices { self.new.choices ≡ self.old.choices }
+    {
+        let products = self.scheme.products;
+        let count = self.choices + products;
+        let union = scheme::union_of(&self.sets, a, b);
+        if let Some(v) = scheme::lookup::first_with(&self.sets, count, union) {
+            return Ok(v as u8);
+        }
+        if Scheme::MAX_PRODUCTS <= products {
+            return Err(Full);
+        }
+        self.scheme = with_product(self.scheme, a.min(b), a.max(b));
+        self.sets[count] = union;
+        Ok(count as u8)
+    }
+
+    // One pass over a list: consecutive pairs from the front are joined, and an odd last member stays last.
+    fn pair_up(&mut self, members: &mut Members) -> Result<(), Full>
+        requires { Inside self.old.choices self.old.scheme (listed members.old) }
+        ensures same { list_step self.new members.new result ≡ pair_up self.old.choices self.old.scheme (listed members.old) }
+        ensures choices { self.new.choices ≡ self.old.choices }
+    {
+        let count = members.count;
+        let pairs = count / 2;
+        for i in 0..pairs {
+            let a = members.entries[2 * i];
+            let b = members.entries[2 * i + 1];
+            members.entries[i] = self.join(a, b)?;
+        }
+        if 2 * pairs < count {
+            members.entries[pairs] = members.entries[2 * pairs];
+        }
+        members.count = count - pairs;
+        Ok(())
+    }
+
+    // Passes while the list has more than two members.
+    pub fn reduce(&mut self, members: &mut Members) -> Result<(), Full>
+        requires { Inside self.old.choices self.old.scheme (listed members.old) }
+        ensures same { list_step self.new members.new result ≡ reduce (length (listed members.old)) self.old.choices self.old.scheme (listed members.old) }
+        ensures choices { self.new.choices ≡ self.old.choices }
+    {
+        // How many passes it takes is not known beforehand.
+        while 2 < members.count {
+            self.pair_up(members)?;
+        }
+        Ok(())
+    }
 }

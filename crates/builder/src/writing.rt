@@ -6,21 +6,22 @@ ghost use Rattle.scheme.specs.Scheme.{max_products, Lengths};
 ghost use Rattle.scheme.specs.Encoding.{encode_scheme};
 ghost use Rattle.wire.specs.Writer.{bytes_answer, with_front};
 ghost use Rattle.builder.specs.Encoding.{encode_pair, encode_pairs};
+ghost use Rattle.builder.specs.Work.{writer_answer};
 
 use scheme::Scheme;
-use wire::WriterAnswer;
+use wire::{Fault, Refusal, ToBytes};
 
-// Writes a command of two operands.
+// Writes a command of two operands. Each place is known beforehand, so no position is kept from one to the next.
 fn put_pair(out: &mut [u8], at: usize, byte: u8, l: u8, r: u8)
     requires { at + 3 ≤ length out.old }
     ensures { out.new ≡ sets out.old at (encode_pair byte l r) }
 {
     out[at] = byte;
-    wire::put_u8(out, at + 1, l);
-    wire::put_u8(out, at + 2, r);
+    l.write(out, at + 1);
+    r.write(out, at + 2);
 }
 
-// Writes commands of two operands, one for each of the first entries of two arrays.
+// Writes commands of two operands, one for each of the first entries of two arrays, which stand apart as C has the scheme.
 fn put_pairs<'a>(
     out: &mut [u8],
     at: usize,
@@ -34,58 +35,45 @@ fn put_pairs<'a>(
     requires count_in_bounds_3 { at + 3 * count ≤ length out.old }
     ensures { out.new ≡ sets out.old at (encode_pairs byte count lefts.now rights.now) }
 {
-    let mut k = 0;
-    while k < count {
+    for k in 0..count {
         put_pair(out, at + 3 * k, byte, lefts[k], rights[k]);
-        k += 1;
     }
 }
 
 // Writes a scheme at the front of a buffer.
-fn put_scheme(out: &mut [u8], scheme: Scheme)
-    requires lengths { Lengths scheme }
-    requires products_le_max_products { scheme.products ≤ max_products }
-    requires splits_le_max_terms { scheme.splits ≤ max_terms }
-    requires splits_in_bounds { 3 * scheme.products + 3 * scheme.splits + 1 ≤ length out.old }
-    ensures { (n : ℕ) → out.new ≡ encode_scheme n scheme ++ drop (length (encode_scheme n scheme)) out.old }
+fn put_scheme(out: &mut [u8], scheme: &Scheme)
+    requires lengths { Lengths scheme.now }
+    requires products_le_max_products { scheme.now.products ≤ max_products }
+    requires splits_le_max_terms { scheme.now.splits ≤ max_terms }
+    requires splits_in_bounds { 3 * scheme.now.products + 3 * scheme.now.splits + 1 ≤ length out.old }
+    ensures { (n : ℕ) → out.new ≡ encode_scheme n scheme.now ++ drop (length (encode_scheme n scheme.now)) out.old }
 {
-    let products = scheme.products;
-    let splits = scheme.splits;
-    let middle = 3 * products;
-    put_pairs(out, 0, 0x21, products, &scheme.lefts, &scheme.rights);
+    let middle = 3 * scheme.products;
+    let end = middle + 3 * scheme.splits;
+    put_pairs(out, 0, 0x21, scheme.products, &scheme.lefts, &scheme.rights);
     put_pairs(
         out,
         middle,
         0x22,
-        splits,
+        scheme.splits,
         &scheme.split_lefts,
         &scheme.split_rights,
     );
-    let end = middle + 3 * splits;
     out[end] = 0x2f;
 }
 
-// The count of a scheme's bytes.
-fn size_of(scheme: Scheme) -> usize
-    requires products_le_max_products { scheme.products ≤ max_products }
-    requires splits_le_max_terms { scheme.splits ≤ max_terms }
-    ensures { result ≡ 3 * scheme.products + 3 * scheme.splits + 1 }
+// Writes a scheme at the front of a buffer, or nothing where it is short. How many bytes it wrote.
+pub fn write_scheme(out: &mut [u8], scheme: &Scheme) -> Result<usize, Fault>
+    requires lengths { Lengths scheme.now }
+    requires products_le_max_products { scheme.now.products ≤ max_products }
+    requires splits_le_max_terms { scheme.now.splits ≤ max_terms }
+    ensures answer { (n : ℕ) → writer_answer result ≡ bytes_answer (encode_scheme n scheme.now) out.old }
+    ensures buffer { (n : ℕ) → out.new ≡ with_front (encode_scheme n scheme.now) out.old }
 {
-    3 * scheme.products + 3 * scheme.splits + 1
-}
-
-// Writes a scheme at the front of a buffer, or nothing where it is short.
-pub fn written(out: &mut [u8], scheme: Scheme) -> WriterAnswer
-    requires lengths { Lengths scheme }
-    requires products_le_max_products { scheme.products ≤ max_products }
-    requires splits_le_max_terms { scheme.splits ≤ max_terms }
-    ensures answer { (n : ℕ) → result ≡ bytes_answer (encode_scheme n scheme) out.old }
-    ensures buffer { (n : ℕ) → out.new ≡ with_front (encode_scheme n scheme) out.old }
-{
-    let count = size_of(scheme);
+    let count = 3 * scheme.products + 3 * scheme.splits + 1;
     if out.len() < count {
-        return WriterAnswer::refused(11, 0, 0);
+        return Err(Fault::nowhere(Refusal::TooShort));
     }
     put_scheme(out, scheme);
-    WriterAnswer::written(count)
+    Ok(count)
 }

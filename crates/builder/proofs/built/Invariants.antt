@@ -1,10 +1,6 @@
 -- What is left leads to what the whole leads to.
-use Prim.Native.Nat.{◌-◌}
 use Rattle.builder.proofs.Terms.{Building}
 use Rattle.builder.proofs.built.Given as goal
 
 abbrev pub invariant-loop-t : goal.invariant-loop-t
-invariant-loop-t l = Building l.register l.work l.t
-
-abbrev pub decreases-loop-t : goal.decreases-loop-t
-decreases-loop-t l = l.terms - l.t
+invariant-loop-t l = Building l.register l.work l.t-counter

@@ -8,6 +8,6 @@ use Rattle.builder.proofs.writing.put_pair.Goals as goal
 
 pub returns : goal.returns
 returns c =
-    c.put_u8-2.ensures
-    ∙ ap (λ (l : List ℕ). put_at 1 l (c.args.at + 2) c.args.r) c.put_u8.ensures
+    c.write-2.ensures
+    ∙ ap (λ (l : List ℕ). put_at 1 l (c.args.at + 2) c.args.r) c.write.ensures
     ∙ pair_put c.args.out.now c.args.at c.args.byte c.args.l c.args.r

@@ -11,11 +11,10 @@ use Rattle.builder.proofs.writing.put_pairs.Goals as goal
 
 pub loop-k-init : goal.loop-k-init
 unfolding join_below
-loop-k-init c = record { within = omega arith; so_far = refl }
+loop-k-init c = record { so_far = refl }
 
 pub loop-k-preserved : goal.loop-k-preserved
 loop-k-preserved c = record {
-  within = omega arith;
   so_far =
       c.put_pair.ensures
       ∙ ap (λ (l : List ℕ). sets l (c.args.at + 3 * c.loop-k.k) (encode_pair c.args.byte (get_or c.args.lefts.now c.loop-k.k 0) (get_or c.args.rights.now c.loop-k.k 0))) c.loop-k.invariant.so_far

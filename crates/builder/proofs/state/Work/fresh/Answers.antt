@@ -1,0 +1,17 @@
+-- By what `fresh` and `choice_sets` ensure.
+use mathlib.Core.Path.{refl}
+use native.Mathlib.Nat.{add-zero}
+use native.Mathlib.Omega.{arith}
+use Rattle.scheme.specs.Scheme.{fresh}
+use Rattle.builder.proofs.state.Work.fresh.Goals as goal
+
+pub invariant_of-result : goal.invariant_of-result
+unfolding fresh
+invariant_of-result c = record {
+  ready = record {
+    few = c.requires;
+    within = rw c.fresh.ensures (omega arith);
+    lengths = rw c.fresh.ensures (record { lefts = refl; rights = refl; split_lefts = refl; split_rights = refl });
+    sets_are = rw (c.fresh.ensures, add-zero) (c.choice_sets.ensures fresh);
+  };
+}

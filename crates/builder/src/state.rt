@@ -1,0 +1,17 @@
+// What the builder has made so far.
+ghost use Rattle.builder.specs.Ready.{Ready};
+
+use scheme::Scheme;
+
+// A product past the limit is needed.
+#[derive(Clone, Copy, Debug, PartialEq, Eq)]
+pub struct Full;
+
+// The scheme so far, for so many choices, and the sets of its variables.
+#[derive(Clone, Copy)]
+pub struct Work {
+    pub choices: usize,
+    pub scheme: Scheme,
+    pub sets: [u32; Scheme::MAX_VARIABLES],
+    ghost ready: { Ready choices scheme sets },
+}
