@@ -13,7 +13,7 @@ use mir.Facts.{to_z-of_z}
 use Rattle.integers.proofs.Machine.{fits_signed, read_signed, cast_fits, cast_read}
 use Rattle.integers.proofs.Diff.{diff₃, diffs}
 use Rattle.register.specs.Limits.{max_base, max_choices, max_terms, max_coefficient}
-use Rattle.search.specs.declared.Change.{Change}
+use Rattle.search.specs.declared.lists.Change.{Change}
 use Rattle.search.specs.Sum.{possible}
 use Rattle.search.specs.Lent.{Terms, Small, sum_to, lent_sum, AllListed, term_lost, term_gained, change_to, change_of, At}
 use Rattle.search.proofs.Sums.{sum_to_small, change_to_small, lost_small, gained_small}

@@ -15,25 +15,13 @@ use Rattle.integers.proofs.Machine.{lt_z-true}
 use Rattle.sets.specs.Sets.{is_subset}
 use Rattle.register.specs.Limits.{max_base, max_terms, max_coefficient}
 use Rattle.search.specs.Sum.{negative, term_sum}
-use Rattle.search.specs.Lent.{Terms, mask_of, coefficient_of, Small, sum_to, positive, term_lost, term_gained, change_to}
+use Rattle.register.specs.declared.Register.{Register}
+use Rattle.register.specs.Register.{coefficient}
+use Rattle.register.specs.Valid.{Within}
+use native.Mathlib.Decide.{dec_lt}
+use Rattle.search.specs.Lent.{Terms, terms_in, mask_of, coefficient_of, Small, sum_to, positive, term_lost, term_gained, change_to}
 
 -- ---- a coefficient by its sign
-
-pub negative_below : (c : ℤ) → lt_z c (pos 0) ≡ true → c ≡ negative c
-negative_below (pos c) e = absurd (clash_ℤ (lt_z-true (pos c) (pos 0) e) (pos_nonneg c))
-negative_below (negsuc c) e = refl
-
-pub negative_above : (c : ℤ) → lt_z c (pos 0) ≡ false → pos 0 ≡ negative c
-negative_above (pos c) e = refl
-negative_above (negsuc c) e = absurd (true≢false e)
-
-pub positive_below : (c : ℤ) → lt_z c (pos 0) ≡ true → pos 0 ≡ positive c
-positive_below (pos c) e = absurd (clash_ℤ (lt_z-true (pos c) (pos 0) e) (pos_nonneg c))
-positive_below (negsuc c) e = refl
-
-pub positive_above : (c : ℤ) → lt_z c (pos 0) ≡ false → c ≡ positive c
-positive_above (pos c) e = refl
-positive_above (negsuc c) e = absurd (true≢false e)
 
 positive_small : (c : ℤ) → nat_abs (positive c) ≤ nat_abs c
 positive_small (pos c) = omega arith
@@ -90,6 +78,15 @@ module _ (base : ℤ) (r : Terms) (fed possible : ℕ) where
 
       each : (t : ℕ) → nat_abs (f t) ≤ max_coefficient
       each t = omega (arith, term_small (coefficient_of r t) (mask_of r t) fed possible, w.coefficients_within t)
+
+-- ---- the terms of a register
+
+pub within_small : (r : Register) → Within r → Small (terms_in r)
+within_small r w = record { count_within = w.terms.few; coefficients_within = λ t. go t (dec_lt t r.terms) }
+  where
+    go : (t : ℕ) → Dec (t < r.terms) → nat_abs (coefficient r t) ≤ max_coefficient
+    go t (yes l) = (w.terms.each t l).coefficient_within
+    go t (no l) = rw (w.coefficients.rest t (omega arith)) (omega arith)
 
 -- ---- a change, place by place
 
