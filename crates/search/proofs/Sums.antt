@@ -1,17 +1,17 @@
 -- The sum at a partial plan and its changes, term by term, and how large they become.
 use mathlib.Core.Path.{◌≡◌, refl, sym, subst}
-use mathlib.Core.Bool.{Bool, true, false, cond, true≢false}
+use mathlib.Core.Bool.{Bool, true, false, cond}
 use mathlib.Core.List.{List}
 use Prim.Native.Nat.{ℕ, suc, ◌+◌, ◌*◌, ◌≤◌, ◌<◌}
+use native.Mathlib.Numerals.{add-one}
 use native.Mathlib.Omega.{arith}
 use lib.ListN.{get_or}
 use lib.IntN.{ℤ, pos, negsuc, nat_abs, ◌+ℤ◌, +ℤ_assoc, +ℤ_idr}
-use lib.Signed.{lt_z, ◌≤ℤ◌, ≤ℤ_refl, clash_ℤ}
+use lib.Signed.{◌≤ℤ◌, ≤ℤ_refl}
 use Rattle.integers.specs.Sum.{sum_below}
 use Rattle.integers.proofs.Parts.{orders}
 use Rattle.integers.proofs.Sum.{sum_below-zero, sum_below-suc, nat_abs-sum}
-use Rattle.integers.proofs.Order.{nat_abs-+, pos_nonneg}
-use Rattle.integers.proofs.Machine.{lt_z-true}
+use Rattle.integers.proofs.Order.{nat_abs-+}
 use Rattle.sets.specs.Sets.{is_subset}
 use Rattle.register.specs.Limits.{max_base, max_terms, max_coefficient}
 use Rattle.search.specs.Sum.{negative, term_sum}
@@ -69,6 +69,9 @@ module _ (base : ℤ) (r : Terms) (fed possible : ℕ) where
   unfolding sum_to
   sum_to-suc i = rw sum_below-suc (sym (+ℤ_assoc base _ _))
 
+  pub sum_to-next : (i : ℕ) → sum_to base r (i + 1) fed possible ≡ sum_to base r i fed possible +ℤ term_sum (coefficient_of r i) (mask_of r i) fed possible
+  sum_to-next i = rw add-one (sum_to-suc i)
+
   pub sum_to_small : nat_abs base ≤ max_base → Small r → (i : ℕ) → i ≤ r.count → nat_abs (sum_to base r i fed possible) ≤ max_base + max_terms * max_coefficient
   unfolding sum_to
   sum_to_small b w i l = omega (arith, nat_abs-+ base (sum_below i f), nat_abs-sum i max_coefficient f (λ t m. each t), w.count_within)
@@ -99,6 +102,10 @@ module _ (adds : ℤ → ℕ → ℕ → ℤ) (masks : List ℕ) (coefficients :
       ≡ change_to adds masks coefficients from set i +ℤ adds (get_or coefficients (from + i) (pos 0)) (get_or masks (from + i) 0) set
   unfolding change_to
   change_to-suc i = sum_below-suc i _
+
+  pub change_to-next : (i : ℕ) → change_to adds masks coefficients from set (i + 1)
+      ≡ change_to adds masks coefficients from set i +ℤ adds (get_or coefficients (from + i) (pos 0)) (get_or masks (from + i) 0) set
+  change_to-next i = rw add-one (change_to-suc i)
 
   pub change_to_small : ((c : ℤ) (m s : ℕ) → nat_abs (adds c m s) ≤ nat_abs c) → (count : ℕ) → ((j : ℕ) → j < count → nat_abs (get_or coefficients (from + j) (pos 0)) ≤ max_coefficient) →
       (i : ℕ) → i ≤ count → nat_abs (change_to adds masks coefficients from set i) ≤ max_coefficient * i

@@ -6,10 +6,9 @@ use native.Mathlib.Nat.{pow-suc}
 use native.Mathlib.Omega.{arith}
 use lib.Pow.{pow_pos}
 use native.Mathlib.Decide.{dec_le}
-use lib.IntN.{ℤ, pos, negsuc, nat_abs}
-use lib.Signed.{le_z}
+use lib.IntN.{ℤ}
 use Rattle.integers.proofs.Lists.{flag}
-use Rattle.search.specs.Walk.{Best, start, visited, better, is_left, walk}
+use Rattle.search.specs.Walk.{Best, visited, better, is_left, walk}
 use Rattle.search.specs.declared.Walked.{Walked}
 use Rattle.search.specs.Lent.{walked_of, is_left_by, UpTo}
 

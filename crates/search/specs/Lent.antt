@@ -1,5 +1,5 @@
 -- What the code is lent of a register, the lists that it keeps, how the sum follows from choice to choice, and where it stops.
-use Rattle.std.specs.Prelude.{ℕ, ◌+◌, ◌-◌, ◌*◌, ◌%◌, ◌^◌, ◌≤◌, ◌<◌, ◌≡◌, Bool, true, false, cond, ◌&&◌, ◌||◌, List, eqb, get_or, ℤ, pos, negsuc, nat_abs, ◌+ℤ◌, Option, Some, None}
+use Rattle.std.specs.Prelude.{ℕ, ◌+◌, ◌*◌, ◌%◌, ◌^◌, ◌≤◌, ◌<◌, ◌≡◌, Bool, false, cond, ◌&&◌, ◌||◌, List, eqb, get_or, ℤ, pos, negsuc, nat_abs, ◌+ℤ◌, Option, Some, None}
 use Rattle.std.specs.Int.Signed.{lt_z, le_z}
 use Rattle.integers.specs.Sum.{sum_below}
 use Rattle.sets.specs.Sets.{is_member, is_subset}

@@ -18,7 +18,7 @@ ghost use Rattle.search.specs.Lent.{lent_sum, At, is_left_by, walked_of, UpTo};
 
 use lists::TermLists;
 use plan::fits_rows;
-use register::Register;
+use register::{Register, open_register};
 use terms::sum_at;
 use wire::{Fault, Refusal};
 
@@ -54,6 +54,21 @@ pub struct SearchAnswer {
     pub plan: u32,
     pub cost: i64,
     pub visits: u32,
+}
+
+impl SearchAnswer {
+    fn from_fault(fault: Fault) -> SearchAnswer
+        ensures { result ≡ refused_search (number_of fault.refusal) fault.part fault.position }
+    {
+        SearchAnswer {
+            number: fault.refusal.number(),
+            part: fault.part,
+            position: fault.position,
+            plan: 0,
+            cost: 0,
+            visits: 0,
+        }
+    }
 }
 
 impl Walked {
@@ -133,4 +148,31 @@ fn search_from(register: &Register, limit: u32) -> Result<Found, Refusal>
         cost: best.cost,
         visits: walked.visits as u32,
     })
+}
+
+// The search of a register, from the bytes of part 1.
+fn search_register(register: &[u8], limit: u32) -> Result<Found, Fault>
+    ensures { answer_by refused_search found_search (outcome_of result) ≡ search_answer register.now limit }
+{
+    let register = open_register(register)?;
+    search_from(&register, limit).map_err(Fault::nowhere)
+}
+
+// The cheapest plan of a register that fits, from the bytes of part 1, or refusal 14 where the visits would pass the limit, and then
+// 16 where no plan fits.
+#[unsafe(no_mangle)]
+pub extern "C" fn feedcheck_search(register: &[u8], limit: u32) -> SearchAnswer
+    ensures { result ≡ search_answer register.now limit }
+{
+    match search_register(register, limit) {
+        Ok(found) => SearchAnswer {
+            number: 0,
+            part: 0,
+            position: 0,
+            plan: found.plan,
+            cost: found.cost,
+            visits: found.visits,
+        },
+        Err(fault) => SearchAnswer::from_fault(fault),
+    }
 }
