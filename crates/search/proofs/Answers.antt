@@ -1,5 +1,6 @@
 -- What the call answers, from what its callees answer.
-use mathlib.Core.Path.{◌≡◌, refl}
+use mathlib.Core.Path.{◌≡◌, refl, sym, ◌∙◌}
+use mathlib.Core.Bool.{Bool, true, false, true≢false}
 use Prim.Native.Nat.{ℕ, ◌≤◌}
 use native.Mathlib.Omega.{arith}
 use native.Mathlib.Decide.{dec_le}
@@ -55,22 +56,22 @@ unfolding search sum sum_to
 search_lent r = refl
 
 -- w is the walk of the rule, and what the code has come to
-module _ (limit : ℕ) (w : Best) (walked : Walked) (number : ℕ) (h : UpTo limit w walked number) where
+module _ (limit : ℕ) (w : Best) (walked : Walked) (ok : Bool) (h : UpTo limit w walked ok) where
   -- the walk is refused
-  pub passes : (number ≡ 0 → ⊥) → refused_search number 0 0 ≡ limited limit w
-  passes some = go (dec_le w.visits limit)
+  pub passes : ok ≡ false → refused_search 14 0 0 ≡ limited limit w
+  passes z = go (dec_le w.visits limit)
     where
-      go : Dec (w.visits ≤ limit) → refused_search number 0 0 ≡ limited limit w
-      go (yes m) = absurd (some (h.same m).1)
-      go (no m) = let e = h.passed (omega arith) in rw (lt-ltb limit w.visits (omega arith), e)
+      go : Dec (w.visits ≤ limit) → refused_search 14 0 0 ≡ limited limit w
+      go (yes m) = absurd (true≢false (sym (h.same m).1 ∙ z))
+      go (no m) = rw (lt-ltb limit w.visits (omega arith))
 
   -- it is not, and what is answered is by the best plan
-  pub answers : number ≡ 0 → best_answer walked.best walked.visits ≡ limited limit w
+  pub answers : ok ≡ true → best_answer walked.best walked.visits ≡ limited limit w
   answers z = go (dec_le w.visits limit)
     where
       go : Dec (w.visits ≤ limit) → best_answer walked.best walked.visits ≡ limited limit w
       go (yes m) = rw ((h.same m).0, le-ltb limit w.visits m) (flag w.met (λ a. rw a) (λ a. rw a))
-      go (no m) = absurd (omega (arith, h.passed (omega arith)))
+      go (no m) = absurd (true≢false (sym z ∙ h.passed (omega arith)))
 
 -- as the code takes the best plan
 

@@ -77,46 +77,42 @@ module _ (sum : ℕ → ℕ → ℤ) (fits : ℕ → Bool) where
 
   module _ (limit : ℕ) where
     -- the first visit passes the limit
-    pub up_to_first : (d fed : ℕ) (w : Best) → w.visits ≤ limit → limit < w.visits + 1 → UpTo limit (walk sum fits d fed w) (walked_of (visited w)) 14
+    pub up_to_first : (d fed : ℕ) (w : Best) → w.visits ≤ limit → limit < w.visits + 1 → UpTo limit (walk sum fits d fed w) (walked_of (visited w)) false
     up_to_first d fed w k l = record { same = λ m. absurd (omega (arith, walk_visits d fed w)); passed = λ m. refl; stops = omega arith }
 
-    pub up_to_left : (d fed : ℕ) (w : Best) → w.visits + 1 ≤ limit → is_left (sum d fed) w ≡ true → UpTo limit (walk sum fits d fed w) (walked_of (visited w)) 0
+    pub up_to_left : (d fed : ℕ) (w : Best) → w.visits + 1 ≤ limit → is_left (sum d fed) w ≡ true → UpTo limit (walk sum fits d fed w) (walked_of (visited w)) true
     up_to_left d fed w l e = rw (walk_left d fed w e) (record { same = λ m. (refl, refl); passed = λ m. absurd (omega arith); stops = omega arith })
 
     pub up_to_full : (fed : ℕ) (w : Best) → w.visits + 1 ≤ limit → is_left (sum 0 fed) w ≡ false → fits fed ≡ true →
-        UpTo limit (walk sum fits 0 fed w) (walked_of (better fed (sum 0 fed) (visited w))) 0
+        UpTo limit (walk sum fits 0 fed w) (walked_of (better fed (sum 0 fed) (visited w))) true
     up_to_full fed w l e f = rw (walk_full fed w e f) (record { same = λ m. (refl, refl); passed = λ m. absurd (omega arith); stops = omega arith })
 
     -- a full plan that does not fit changes nothing
-    pub up_to_unfit : (fed : ℕ) (w : Best) → w.visits + 1 ≤ limit → fits fed ≡ false → UpTo limit (walk sum fits 0 fed w) (walked_of (visited w)) 0
+    pub up_to_unfit : (fed : ℕ) (w : Best) → w.visits + 1 ≤ limit → fits fed ≡ false → UpTo limit (walk sum fits 0 fed w) (walked_of (visited w)) true
     up_to_unfit fed w l f = rw (walk_unfit fed w f) (record { same = λ m. (refl, refl); passed = λ m. absurd (omega arith); stops = omega arith })
 
     -- below the unfed choice the code has come to this
-    module _ (d fed : ℕ) (w : Best) (walked : Walked) (number : ℕ) (e : is_left (sum (suc d) fed) w ≡ false) (h : UpTo limit (walk sum fits d fed (visited w)) walked number) where
+    module _ (d fed : ℕ) (w : Best) (walked : Walked) (ok : Bool) (e : is_left (sum (suc d) fed) w ≡ false) (h : UpTo limit (walk sum fits d fed (visited w)) walked ok) where
       abbrev pub u : Best
       u = walk sum fits d fed (visited w)
 
-      pub up_to_unfed : (number ≡ 0 → ⊥) → UpTo limit (walk sum fits (suc d) fed w) walked number
-      up_to_unfed some = rw (walk_on d fed w e) (record {
-        same = λ m. let k = walk_visits d (fed + 2 ^ d) u in absurd (some (h.same (omega arith)).1);
-        passed = λ m. h.passed (past (dec_le u.visits limit));
+      pub up_to_unfed : ok ≡ false → UpTo limit (walk sum fits (suc d) fed w) walked ok
+      up_to_unfed f = rw (walk_on d fed w e) (record {
+        same = λ m. let k = walk_visits d (fed + 2 ^ d) u in absurd (true≢false (sym (h.same (omega arith)).1 ∙ f));
+        passed = λ m. f;
         stops = h.stops;
       })
-        where
-          past : Dec (u.visits ≤ limit) → limit < u.visits
-          past (yes m) = absurd (some (h.same m).1)
-          past (no m) = omega arith
 
       -- it goes on from there
-      pub up_to_same : number ≡ 0 → walked ≡ walked_of u
+      pub up_to_same : ok ≡ true → walked ≡ walked_of u
       up_to_same z = go (dec_le u.visits limit)
         where
           go : Dec (u.visits ≤ limit) → walked ≡ walked_of u
           go (yes m) = (h.same m).0
-          go (no m) = absurd (omega (arith, h.passed (omega arith)))
+          go (no m) = absurd (true≢false (sym z ∙ h.passed (omega arith)))
 
-      pub up_to_fed : (walked' : Walked) (number' : ℕ) → UpTo limit (walk sum fits d (fed + 2 ^ d) u) walked' number' → UpTo limit (walk sum fits (suc d) fed w) walked' number'
-      up_to_fed walked' number' k = rw (walk_on d fed w e) k
+      pub up_to_fed : (walked' : Walked) (ok' : Bool) → UpTo limit (walk sum fits d (fed + 2 ^ d) u) walked' ok' → UpTo limit (walk sum fits (suc d) fed w) walked' ok'
+      up_to_fed walked' ok' k = rw (walk_on d fed w e) k
 
 -- the test for leaving, by what the code keeps
 pub left_held : (w : Best) (s : ℤ) → is_left_by (walked_of w).best s ≡ is_left s w

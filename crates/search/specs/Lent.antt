@@ -1,5 +1,5 @@
 -- What the code is lent of a register, the lists that it keeps, how the sum follows from choice to choice, and where it stops.
-use Rattle.std.specs.Prelude.{ℕ, ◌+◌, ◌*◌, ◌%◌, ◌^◌, ◌≤◌, ◌<◌, ◌≡◌, Bool, false, cond, ◌&&◌, ◌||◌, List, eqb, get_or, ℤ, pos, negsuc, nat_abs, ◌+ℤ◌, Option, Some, None}
+use Rattle.std.specs.Prelude.{ℕ, ◌+◌, ◌*◌, ◌%◌, ◌^◌, ◌≤◌, ◌<◌, ◌≡◌, Bool, true, false, cond, ◌&&◌, ◌||◌, List, eqb, get_or, ℤ, pos, negsuc, nat_abs, ◌+ℤ◌, Option, Some, None}
 use Rattle.std.specs.Int.Signed.{lt_z, le_z}
 use Rattle.integers.specs.Sum.{sum_below}
 use Rattle.sets.specs.Sets.{is_member, is_subset}
@@ -124,9 +124,9 @@ abbrev pub is_left_by : Option Met → ℤ → Bool
 is_left_by None s = false
 is_left_by (Some best) s = le_z best.cost s
 
--- what the code has come to, where the walk w may pass the limit, and the number that refuses it, or 0: w itself, or refusal 14 with
--- more visits than the limit, by one
-pub record UpTo (limit : ℕ) (w : Best) (walked : Walked) (number : ℕ) : Type 0 where
-  pub same : w.visits ≤ limit → (walked ≡ walked_of w) × (number ≡ 0)
-  pub passed : limit < w.visits → number ≡ 14
+-- what the code has come to, where the walk w may pass the limit, and whether it is not refused: w itself, or the refusal with more
+-- visits than the limit, by one
+pub record UpTo (limit : ℕ) (w : Best) (walked : Walked) (ok : Bool) : Type 0 where
+  pub same : w.visits ≤ limit → (walked ≡ walked_of w) × (ok ≡ true)
+  pub passed : limit < w.visits → ok ≡ false
   pub stops : walked.visits ≤ limit + 1

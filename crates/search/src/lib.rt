@@ -5,9 +5,10 @@
 mod lists;
 mod terms;
 
-ghost use Rattle.std.specs.Prelude.{◌≡◌, ◌^◌, ◌≤◌, ◌<◌, OnOk};
+ghost use Rattle.std.specs.Prelude.{◌≡◌, ◌^◌, ◌≤◌, ◌<◌, OnOk, is_ok};
 ghost use Rattle.wire.specs.Outcome.{answer_by};
-ghost use Rattle.wire.specs.Results.{number_of, number_in, outcome_of};
+ghost use Rattle.wire.specs.Results.{number_of, outcome_of};
+ghost use Rattle.wire.specs.declared.refusals.Refusal.TheVariants.{PastLimit};
 ghost use Rattle.register.specs.Limits.{max_choices, max_rows};
 ghost use Rattle.register.specs.Register.{coefficient};
 ghost use Rattle.register.specs.Valid.{Within};
@@ -56,6 +57,18 @@ pub struct SearchAnswer {
     pub visits: u32,
 }
 
+// More partial plans would be visited than the limit.
+#[derive(Clone, Copy, Debug, PartialEq, Eq)]
+pub struct PastLimit;
+
+impl From<PastLimit> for Refusal {
+    ghost from_gives = { λ _ refusal. refusal ≡ PastLimit };
+
+    fn from(_e: PastLimit) -> Refusal {
+        Refusal::PastLimit
+    }
+}
+
 impl SearchAnswer {
     fn from_fault(fault: Fault) -> SearchAnswer
         ensures { result ≡ refused_search (number_of fault.refusal) fault.part fault.position }
@@ -91,7 +104,7 @@ fn walk(
     fed: u32,
     sum: i64,
     walked: &mut Walked,
-) -> Result<(), Refusal>
+) -> Result<(), PastLimit>
     requires at { At lists.now.masks lists.now.coefficients lists.now.counts undecided fed sum }
     requires choices_within { register.now.choices ≤ max_choices }
     requires rows_within { register.now.rows ≤ max_rows }
@@ -100,11 +113,11 @@ fn walk(
     ensures within { OnOk result (walked.new.visits ≤ limit) }
     ensures reached { (a : At lists.now.masks lists.now.coefficients lists.now.counts undecided fed sum) (w : Best) →
         walked.old ≡ walked_of w →
-        UpTo limit (walk (lent_sum a.base a.terms) (fits register.now) undecided fed w) walked.new (number_in result) }
+        UpTo limit (walk (lent_sum a.base a.terms) (fits register.now) undecided fed w) walked.new (is_ok result) }
 {
     walked.visits += 1;
     if limit < walked.visits {
-        return Err(Refusal::PastLimit);
+        return Err(PastLimit);
     }
     if walked.is_left(sum) {
         return Ok(());
@@ -133,7 +146,8 @@ fn search_from(register: &Register, limit: u32) -> Result<Found, Refusal>
     requires { Within register.now }
     ensures { told_search result ≡ answer_by refused_search accepted_search (within_limit limit (search (coefficient register.now) register.now)) }
 {
-    let lists = TermLists::list_all(register);
+    let mut lists = TermLists::fresh();
+    lists.list_all(register);
     let n = register.choices;
     let possible = ((1u64 << n) - 1) as u32;
     let sum = sum_at(register, 0, possible);

@@ -44,6 +44,14 @@ fn gained_by(mask: u32, coefficient: i32, fed: u32) -> i32
 impl TermLists {
     const PLACES: usize = Register::MAX_CHOICES * Register::MAX_TERMS;
 
+    pub fn fresh() -> TermLists {
+        TermLists {
+            masks: [0; TermLists::PLACES],
+            coefficients: [0; TermLists::PLACES],
+            counts: [0; Register::MAX_CHOICES],
+        }
+    }
+
     // Lists the terms of a register under choice k. Returns how many they are.
     fn list_terms(&mut self, register: &Register, k: usize) -> usize
         requires within { Within register.now }
@@ -66,19 +74,13 @@ impl TermLists {
     }
 
     // Lists the terms of a register under each of its choices.
-    pub fn list_all(register: &Register) -> TermLists
+    pub fn list_all(&mut self, register: &Register)
         requires { Within register.now }
-        ensures { AllListed (terms_in register.now) register.now.choices result.masks result.coefficients result.counts }
+        ensures { AllListed (terms_in register.now) register.now.choices self.new.masks self.new.coefficients self.new.counts }
     {
-        let mut lists = TermLists {
-            masks: [0; TermLists::PLACES],
-            coefficients: [0; TermLists::PLACES],
-            counts: [0; Register::MAX_CHOICES],
-        };
         for k in 0..register.choices {
-            lists.counts[k] = lists.list_terms(register, k);
+            self.counts[k] = self.list_terms(register, k);
         }
-        lists
     }
 
     // What the sum loses where choice k is decided unfed and gains where it is decided fed, by the terms listed under it: by the

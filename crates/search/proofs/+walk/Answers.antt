@@ -12,7 +12,6 @@ use mir.Val.{to_z, of_z}
 use Rattle.std.proofs.Common.{Some}
 use Rattle.std.proofs.lemmas.Result.{err_from_is_err_and}
 use Rattle.integers.proofs.Machine.{one_shifted}
-use Rattle.wire.proofs.Results.{numbered}
 use Rattle.register.specs.Limits.{max_terms}
 use Rattle.search.specs.declared.lists.Change.{Change}
 use Rattle.search.specs.declared.Walked.{Walked}
@@ -31,24 +30,24 @@ visit : (w : Best) {walked : Walked} → walked ≡ walked_of w → record { bes
 visit w e = rw e
 
 -- where choice n − 1 is decided, with n undecided before: what is known where the code has come to this below the unfed choice
-module _ (S : ℕ → ℕ → ℤ) (F : ℕ → Bool) (limit n fed : ℕ) (w : Best) (walked : Walked) (number : ℕ) (l : 1 ≤ n) (e : is_left (S n fed) w ≡ false)
-    (h : UpTo limit (defined S F (n - 1) fed (visited w)) walked number) where
-  stops : (number ≡ 0 → ⊥) → UpTo limit (defined S F n fed w) walked number
-  stops some = let f = (halves n l).0 in rw (← f) (up_to_unfed S F limit (n - 1) fed w walked number (rw f e) h some)
+module _ (S : ℕ → ℕ → ℤ) (F : ℕ → Bool) (limit n fed : ℕ) (w : Best) (walked : Walked) (ok : Bool) (l : 1 ≤ n) (e : is_left (S n fed) w ≡ false)
+    (h : UpTo limit (defined S F (n - 1) fed (visited w)) walked ok) where
+  stops : ok ≡ false → UpTo limit (defined S F n fed w) walked ok
+  stops z = let f = (halves n l).0 in rw (← f) (up_to_unfed S F limit (n - 1) fed w walked ok (rw f e) h z)
 
-  same : number ≡ 0 → walked ≡ walked_of (defined S F (n - 1) fed (visited w))
-  same z = let f = (halves n l).0 in up_to_same S F limit (n - 1) fed w walked number (rw f e) h z
+  same : ok ≡ true → walked ≡ walked_of (defined S F (n - 1) fed (visited w))
+  same z = let f = (halves n l).0 in up_to_same S F limit (n - 1) fed w walked ok (rw f e) h z
 
-  goes_on : (walked' : Walked) (number' : ℕ) → UpTo limit (defined S F (n - 1) (fed + 2 ^ (n - 1)) (defined S F (n - 1) fed (visited w))) walked' number' → UpTo limit (defined S F n fed w) walked' number'
-  goes_on walked' number' k = let f = (halves n l).0 in rw (← f) (up_to_fed S F limit (n - 1) fed w walked number (rw f e) h walked' number' k)
+  goes_on : (walked' : Walked) (ok' : Bool) → UpTo limit (defined S F (n - 1) (fed + 2 ^ (n - 1)) (defined S F (n - 1) fed (visited w))) walked' ok' → UpTo limit (defined S F n fed w) walked' ok'
+  goes_on walked' ok' k = let f = (halves n l).0 in rw (← f) (up_to_fed S F limit (n - 1) fed w walked ok (rw f e) h walked' ok' k)
 
 -- a full plan
 full : (S : ℕ → ℕ → ℤ) (F : ℕ → Bool) (limit n fed : ℕ) (w : Best) {z : ℤ} → w.visits + 1 ≤ limit → n ≡ 0 → z ≡ S n fed → is_left (S n fed) w ≡ false → F fed ≡ true →
-    UpTo limit (defined S F n fed w) (record { best = Some (record { plan = fed; cost = z }); visits = w.visits + 1 }) 0
+    UpTo limit (defined S F n fed w) (record { best = Some (record { plan = fed; cost = z }); visits = w.visits + 1 }) true
 full S F limit n fed w l m e f t = rw (e, m) (up_to_full S F limit fed w l (rw m at f) t)
 
 -- one that does not fit
-unfit : (S : ℕ → ℕ → ℤ) (F : ℕ → Bool) (limit n fed : ℕ) (w : Best) → w.visits + 1 ≤ limit → n ≡ 0 → F fed ≡ false → UpTo limit (defined S F n fed w) (walked_of (visited w)) 0
+unfit : (S : ℕ → ℕ → ℤ) (F : ℕ → Bool) (limit n fed : ℕ) (w : Best) → w.visits + 1 ≤ limit → n ≡ 0 → F fed ≡ false → UpTo limit (defined S F n fed w) (walked_of (visited w)) true
 unfit S F limit n fed w l m t = rw m (up_to_unfit S F limit fed w l t)
 
 module _ {masks : List ℕ} {coefficients : List ℤ} {counts : List ℕ} {n fed : ℕ} {s : ℤ} (a : At masks coefficients counts n fed s) where
@@ -126,8 +125,8 @@ returns-in_err-walk-clause-reached t c =
     let x = lost_said a l c.change_of-change.result (change_is a l c.change_of-change.ensures) c.from.ensures in
     let below = c.in_err-walk.ensures.reached (unfed_next a l x) (visited w) (visit w e) in
     let p = err_from_is_err_and c.from_residual.result c.from_residual.ensures.1 in
-    rw (p.1, p.2)
-    (stops _ _ c.args.limit c.args.undecided c.args.fed w _ _ l (sym (left_is a w e) ∙ sym c.is_left.ensures ∙ c.if-is_left.false) below (numbered c.in_err-walk.field-0.0))
+    rw p.1
+    (stops _ _ c.args.limit c.args.undecided c.args.fed w _ _ l (sym (left_is a w e) ∙ sym c.is_left.ensures ∙ c.if-is_left.false) below refl)
 
 pub walk-requires-2 : goal.walk-requires-2
 walk-requires-2 t c =

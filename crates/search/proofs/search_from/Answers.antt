@@ -7,11 +7,10 @@ use mir.Val.{SFits, to_z, of_z}
 use mir.Facts.{to_z-of_z}
 use Rattle.std.proofs.lemmas.Result.{err_from_is_err_and}
 use Rattle.integers.proofs.Machine.{one_shifted}
-use Rattle.wire.proofs.Results.{numbered}
 use Rattle.register.specs.Limits.{max_choices}
 use mathlib.Core.List.{List}
 use lib.IntN.{ℤ}
-use Rattle.std.proofs.Common.{rules}
+use Rattle.std.proofs.Common.{Bool, rules}
 use Rattle.register.specs.declared.Register.{Register}
 use Rattle.register.specs.Register.{coefficient}
 use Rattle.register.specs.Valid.{Within}
@@ -36,28 +35,28 @@ module _ {r : Register} (w : Within r) {masks : List ℕ} {coefficients : List �
   begins = empty_at r.base (terms_in r) w.base (within_small r w) listed w.choices.few (to_z-of_z fits ∙ is ∙ rw (shifted r.choices w.choices.few) (empty_sum r.base (terms_in r) r.choices))
 
   -- and what the walk has come to
-  came : (limit : ℕ) {l : ℕ} (walked : Walked) (number : ℕ) → l ≡ limit →
-      ((a : At masks coefficients counts r.choices 0 (to_z w64 (of_z w64 s))) (w : Best) → walked_of start ≡ walked_of w → UpTo l (walk (lent_sum a.base a.terms) (fits_test r) r.choices 0 w) walked number) →
-      UpTo limit (rule (coefficient r) r) walked number
-  came limit walked number e h = rw (e, search_lent r) at (h begins start refl)
+  came : (limit : ℕ) {l : ℕ} (walked : Walked) (ok : Bool) → l ≡ limit →
+      ((a : At masks coefficients counts r.choices 0 (to_z w64 (of_z w64 s))) (w : Best) → walked_of start ≡ walked_of w → UpTo l (walk (lent_sum a.base a.terms) (fits_test r) r.choices 0 w) walked ok) →
+      UpTo limit (rule (coefficient r) r) walked ok
+  came limit walked ok e h = rw (e, search_lent r) at (h begins start refl)
 
 pub walk-requires-clause-at : goal.walk-requires-clause-at
-walk-requires-clause-at c = begins c.requires c.list_all-lists.ensures (record { sfits = c.sum_at-sum.type_inv }) c.sum_at-sum.ensures
+walk-requires-clause-at c = begins c.requires c.list_all.ensures (record { sfits = c.sum_at-sum.type_inv }) c.sum_at-sum.ensures
 
 pub returns-in_err-walk : goal.returns-in_err-walk
 returns-in_err-walk c =
-    let u = came c.requires c.list_all-lists.ensures (record { sfits = c.sum_at-sum.type_inv }) c.sum_at-sum.ensures c.args.limit _ _ c.from.ensures c.in_err-walk.ensures.reached in
+    let u = came c.requires c.list_all.ensures (record { sfits = c.sum_at-sum.type_inv }) c.sum_at-sum.ensures c.args.limit _ _ c.from.ensures c.in_err-walk.ensures.reached in
     let p = err_from_is_err_and c.from_residual.result c.from_residual.ensures.1 in
-    rw (p.1, p.2) (passes _ _ _ _ u (numbered c.in_err-walk.field-0.0))
+    rw (p.1, p.2) (passes _ _ _ _ u refl)
 
 pub returns-in_err-best : goal.returns-in_err-best
 returns-in_err-best c =
-    let u = came c.requires c.list_all-lists.ensures (record { sfits = c.sum_at-sum.type_inv }) c.sum_at-sum.ensures c.args.limit _ _ c.from.ensures c.in_ok-walk.ensures.reached in
+    let u = came c.requires c.list_all.ensures (record { sfits = c.sum_at-sum.type_inv }) c.sum_at-sum.ensures c.args.limit _ _ c.from.ensures c.in_ok-walk.ensures.reached in
     let p = err_from_is_err_and c.from_residual-in_err-best.result c.from_residual-in_err-best.ensures.1 in
     rw (p.1, p.2) (best_err _ _ c.in_err-best.ensures.value ∙ answers _ _ _ _ u refl)
 
 pub returns : goal.returns
 returns c =
-    let u = came c.requires c.list_all-lists.ensures (record { sfits = c.sum_at-sum.type_inv }) c.sum_at-sum.ensures c.args.limit _ _ c.from.ensures c.in_ok-walk.ensures.reached in
+    let u = came c.requires c.list_all.ensures (record { sfits = c.sum_at-sum.type_inv }) c.sum_at-sum.ensures c.args.limit _ _ c.from.ensures c.in_ok-walk.ensures.reached in
     let read : to_z w64 (of_z w64 c.in_ok-best.best.cost) ≡ c.in_ok-best.best.cost = to_z-of_z {w = w64} (search rules) in
     rw read (best_ok _ _ c.in_ok-best.ensures.value ∙ answers _ _ _ _ u refl)
