@@ -21,8 +21,8 @@ use rows::put_entries;
 use windows::pass_windows;
 use wire::{Fault, FromBytes, Read, Refusal, Refused, by_itself};
 
-// The record that the register's bytes give, laid out for C: arrays, each with its count. Entries past the counts are 0. The entries of all rows stand one after the other, those
-// of each row by choice.
+// The record that the register's bytes give, laid out for C: arrays, each with its count. Entries past the counts are 0. The entries
+// of all rows stand one after the other, those of each row by choice.
 #[repr(C)]
 #[derive(Clone, Copy, Debug, PartialEq, Eq)]
 pub struct Register {
@@ -121,7 +121,8 @@ impl RegisterAnswer {
     }
 }
 
-// The register at the front of a run of bytes.
+// The register at the front of a run of bytes. The reader of each part has a loop of its own, with a `match` on the command's byte; the
+// laws of such a loop stand once, in `wire`.
 pub fn read_register(bytes: &[u8]) -> Result<Read<Register>, Refused>
     ensures { reading_of result ≡ added_by (λ r. r) (register_in_job bytes.now) }
 {
