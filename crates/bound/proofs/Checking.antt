@@ -1,11 +1,11 @@
 -- What the check comes to: by the commands' reading, the table that holds R, and the first row that falls short.
 use Prim.Native.Nat.{ℕ, ◌-◌, ◌≤◌, ◌<◌}
-use mathlib.Core.Path.{◌≡◌, refl, sym, ◌∙◌}
+use mathlib.Core.Path.{◌≡◌, sym, ◌∙◌}
 use mathlib.Core.Bool.{Bool, true, false, cond}
 use mathlib.Core.List.{List}
 use native.Mathlib.Omega.{arith}
 use lib.Dec.{eqb}
-use lib.IntN.{ℤ, nat_abs}
+use lib.IntN.{ℤ}
 use lib.ListN.{length}
 use borrow.Author.Tests.{eqb-true, eqb-false}
 use Rattle.integers.proofs.Lists.{flag}
@@ -23,7 +23,7 @@ use Rattle.scheme.specs.declared.Scheme.{Scheme}
 use Rattle.scheme.specs.Scheme.{side}
 use Rattle.scheme.specs.Valid.{Valid}
 use Rattle.penalty.proofs.Bounds.{side_square}
-use Rattle.certificate.specs.Limits.{max_scale, max_target, square_entries}
+use Rattle.certificate.specs.Limits.{square_entries}
 use Rattle.residual.specs.Limits.{max_r}
 use Rattle.certificate.specs.Certificate.{Certificate}
 use Rattle.residual.specs.Residual.{R}

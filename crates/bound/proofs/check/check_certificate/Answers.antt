@@ -1,10 +1,10 @@
 -- By the commands' reading, then by the first row that falls short.
-use Prim.Native.Nat.{ℕ, ◌-◌, ◌≤◌, ◌<◌}
+use Prim.Native.Nat.{ℕ, ◌≤◌, ◌<◌}
 use mathlib.Core.Path.{◌≡◌, sym, ◌∙◌, ap}
 use mathlib.Core.Bool.{true, false}
 use mathlib.Core.List.{List}
 use native.Mathlib.Omega.{arith}
-use lib.IntN.{ℤ, nat_abs}
+use lib.IntN.{nat_abs}
 use mir.Syntax.{w64}
 use mir.Val.{to_z, of_z}
 use mir.Facts.{to_z-of_z}
@@ -14,7 +14,7 @@ use Rattle.std.specs.Option.{is_some, unwrap_or, IfSome}
 use Rattle.integers.specs.CeilDiv.{ceil_div}
 use Rattle.integers.proofs.Machine.{read_signed}
 use Rattle.wire.specs.declared.refusals.Read.{Read}
-use Rattle.wire.specs.Part.{Reading, refused, accepted}
+use Rattle.wire.specs.Part.{refused, accepted}
 use Rattle.wire.specs.Rows.{Progress}
 use Rattle.wire.specs.Results.{number_of, reading_of}
 use Rattle.wire.proofs.Results.{read_ok, read_err}
@@ -34,7 +34,7 @@ use Rattle.residual.proofs.ByCommand.{holds_r}
 use Rattle.bound.specs.Bound.{bound}
 use Rattle.bound.specs.Check.{with_residual}
 use Rattle.scheme.proofs.Truncated.{valid_register}
-use Rattle.bound.proofs.Checking.{commands_refused, within, past_0, table_after, side_small, bounded_after, falls_short, holds_all}
+use Rattle.bound.proofs.Checking.{commands_refused, within, past_0, table_after, bounded_after, falls_short, holds_all}
 use Rattle.bound.proofs.check.check_certificate.Goals as goal
 use Rattle.bound.proofs.check.check_certificate.Goals.{After-put_residual}
 
@@ -134,10 +134,10 @@ returns-clause-value c =
     let first = rw c.side.ensures at c.first_short.ensures.first in
     let none = rw c.side.ensures at (no_row c.first_short.result n (sym c.is_some.ensures ∙ c.if-is_some.false)) in
     let b : to_z w64 (of_z w64 c.ceil_div.result) ≡ bound (whole k).0.parsed =
-        to_z-of_z {w = w64} (record { sfits = c.ceil_div.type_inv })
-        ∙ c.ceil_div.ensures
-        ∙ ap (λ t. ceil_div t (read k).value.scale) (read_signed w64 (read k).value.target (omega (arith, (in_range k).0)))
-        ∙ ap (λ (r : Counts). ceil_div r.target r.scale) (sym (whole k).1.1) in
+    to_z-of_z {w = w64} (record { sfits = c.ceil_div.type_inv })
+    ∙ c.ceil_div.ensures
+    ∙ ap (λ t. ceil_div t (read k).value.scale) (read_signed w64 (read k).value.target (omega (arith, (in_range k).0)))
+    ∙ ap (λ (r : Counts). ceil_div r.target r.scale) (sym (whole k).1.1) in
     ap (λ b. accepted b (read k).end) b
     ∙ holds_all (reg k) (sch k) (s k) (whole k).0 (read k).end (reads k) (reg_within k) k.args.quadratization.now.scheme_valid k.args.table.now _ k.requires.table_numbers_in_bounds (filled k) _ first none
 

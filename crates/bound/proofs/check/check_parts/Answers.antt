@@ -1,5 +1,5 @@
 -- By the table's length, what opening the first two parts leads to, and what the check of the third does.
-use mathlib.Core.Path.{◌≡◌, sym, ◌∙◌, ap}
+use mathlib.Core.Path.{◌≡◌, ◌∙◌, ap}
 use native.Mathlib.Omega.{arith}
 use borrow.Author.Rules.{rules}
 use Rattle.wire.specs.Part.{by_itself}
