@@ -27,8 +27,8 @@ module _ (bytes lent : List ℕ) where
   pub no_room : length lent < length bytes → Leaves (refused_answer 11 0 0) lent
   no_room l = bytes_short bytes lent l
 
-  pub copied : (front : List ℕ) → front ≡ bytes → length bytes ≤ length lent → Leaves (written_answer (length bytes)) (front ++ drop (length bytes) lent)
-  copied front e fit = let w = bytes_fit bytes lent fit in (w.0, rw e (sym (written_front lent bytes fit) ∙ w.1))
+  pub copied : length bytes ≤ length lent → Leaves (written_answer (length bytes)) (bytes ++ drop (length bytes) lent)
+  copied fit = let w = bytes_fit bytes lent fit in (w.0, sym (written_front lent bytes fit) ∙ w.1)
 
 -- ---- the call
 

@@ -13,7 +13,7 @@ use Rattle.text.specs.Text.{line}
 use Rattle.listing.specs.Listing.{choice_line, fed_line, supplier_line, bound_line}
 
 -- where a number was passed on as the signed one that it is
-signed : (x : ℤ) (n : ℕ) → x ≡ pos n → mag x < 2 ^ 63 → to_z w64 (of_z w64 x) ≡ pos n
+pub signed : (x : ℤ) (n : ℕ) → x ≡ pos n → mag x < 2 ^ 63 → to_z w64 (of_z w64 x) ≡ pos n
 signed x n e l = to_z-of_z {w = w64} (record { sfits = l }) ∙ e
 
 pub choice_bits : (i tank minute : ℕ) (t m : ℤ) → i < 2 ^ 63 → t ≡ pos tank → mag t < 2 ^ 63 → m ≡ pos minute → mag m < 2 ^ 63 →

@@ -2,7 +2,7 @@
 
 #![tactic(auto)]
 
-ghost use Rattle.std.specs.Prelude.{◌≡◌, [], ◌++◌, ◌+◌, ◌^◌, ◌≤◌, ◌<◌, length};
+ghost use Rattle.std.specs.Prelude.{◌≡◌, [], ◌++◌, ◌+◌, ◌^◌, ◌≤◌, ◌<◌, length, drop};
 ghost use Rattle.forms.specs.Table.{table_numbers};
 ghost use Rattle.job.specs.Outcome.{outcome, table_after};
 ghost use Rattle.sets.specs.Sets.{is_member};
@@ -60,12 +60,23 @@ impl Listing {
         }
     }
 
-    // The bytes of the lines.
-    pub fn as_slice(&self) -> &[u8]
-        ensures value { result.now ≡ self.now }
-        ensures within { length self.now ≤ listing_room }
+    // The count of bytes.
+    pub fn len(&self) -> usize
+        ensures value { result ≡ length self.now }
+        ensures within { result ≤ listing_room }
     {
-        &self.bytes[..self.count]
+        self.count
+    }
+
+    // Writes the lines at the front of a buffer. Returns their count of bytes.
+    pub fn write_to(&self, buffer: &mut [u8]) -> usize
+        requires { length self.now ≤ length buffer.old }
+        ensures value { result ≡ length self.now }
+        ensures buffer_after { buffer.new ≡ self.now ++ drop result buffer.old }
+        ensures within { result ≤ length buffer.new }
+    {
+        buffer[..self.count].copy_from_slice(&self.bytes[..self.count]);
+        self.len()
     }
 
     // Puts a line: a letter and the numbers.
@@ -192,12 +203,10 @@ fn put_listing(
         return Err(Fault::nowhere(Refusal::TooShort));
     }
     let listing = listing_of(job, table, reader);
-    let bytes = listing.as_slice();
-    if buffer.len() < bytes.len() {
+    if buffer.len() < listing.len() {
         return Err(Fault::nowhere(Refusal::TooShort));
     }
-    buffer[..bytes.len()].copy_from_slice(bytes);
-    Ok(bytes.len())
+    Ok(listing.write_to(buffer))
 }
 
 // The answer of the call for a reader.
