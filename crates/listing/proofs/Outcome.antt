@@ -7,7 +7,6 @@ use lib.ListN.{length}
 use Rattle.integers.proofs.Order.{nat_abs_sub}
 use Rattle.wire.specs.Outcome.{Outcome, refuses, accepts}
 use Rattle.register.specs.Valid.{Within}
-use Rattle.register.proofs.Entries.{fresh_within}
 use Rattle.plan.proofs.Bounds.{cost_small}
 use Rattle.bound.proofs.Bound.{bound_small}
 use Rattle.job.specs.declared.JobRead.{JobRead}
@@ -22,38 +21,44 @@ use Rattle.listing.specs.Readers.{lines_for}
 use Rattle.listing.specs.Answer.{longest_listing, listing_room}
 use Rattle.listing.proofs.Lengths.{accepted_short, refusal_short, longest_fits}
 
--- by what reading the job gave, as it is refused or accepted
-module _ (s : List ℕ) (read : JobRead) (e : read ≡ job_read (outcome s)) where
-  pub read_within : Within read.register
-  read_within = subst (λ (r : JobRead). Within r.register) (sym e) (by (outcome s) (outcome_sound s))
-    where
-      by : (o : Outcome Parts) → Sound o → Within (job_read o).register
-      by (refuses number part at) h = fresh_within
-      by (accepts p) h = h.register.within
-
-  pub read_position : read.position < 2 ^ 63
-  read_position = subst (λ (r : JobRead). r.position < 2 ^ 63) (sym e) (by (outcome s) (outcome_ranged s))
-    where
-      by : (o : Outcome Parts) → Ranged job_reach o → (job_read o).position < 2 ^ 63
-      by (refuses number part at) k = omega (arith, k.1, reach_is)
-      by (accepts p) k = omega arith
-
-  module _ (lines : PlanLines) where
-    pub refused_lines : (read.number ≡ 0 → ⊥) → refusal_line read.number read.position ≡ listed lines (outcome s)
-    unfolding listed
-    refused_lines z = by (outcome s) e
+module _ (s : List ℕ) where
+  -- a job that is accepted
+  module _ (read : JobRead) (e : accepts read ≡ job_read (outcome s)) where
+    pub read_within : Within read.register
+    read_within = by (outcome s) (outcome_sound s) e
       where
-        by : (o : Outcome Parts) → read ≡ job_read o → refusal_line read.number read.position ≡ listed lines o
-        by (refuses number part at) d = rw d
-        by (accepts p) d = absurd (z (ap (λ (r : JobRead). r.number) d))
+        by : (o : Outcome Parts) → Sound o → accepts read ≡ job_read o → Within read.register
+        by (refuses number part at) h d = absurd cc
+        by (accepts p) h d =
+            let r : read.register ≡ p.register = cc in
+            rw r h.register.within
 
-    pub read_lines : read.number ≡ 0 → accepted_lines lines read.register read.plan read.bound read.cost read.gap ≡ listed lines (outcome s)
+    pub read_lines : (lines : PlanLines) → accepted_lines lines read.register read.plan read.bound read.cost read.gap ≡ listed lines (outcome s)
     unfolding listed
-    read_lines z = by (outcome s) (outcome_sound s) e
+    read_lines lines = by (outcome s) e
       where
-        by : (o : Outcome Parts) → Sound o → read ≡ job_read o → accepted_lines lines read.register read.plan read.bound read.cost read.gap ≡ listed lines o
-        by (refuses number part at) h d = absurd (h (sym (ap (λ (r : JobRead). r.number) d) ∙ z))
-        by (accepts p) h d = rw d
+        by : (o : Outcome Parts) → accepts read ≡ job_read o → accepted_lines lines read.register read.plan read.bound read.cost read.gap ≡ listed lines o
+        by (refuses number part at) d = absurd cc
+        by (accepts p) d = cc
+
+  -- a job that is refused
+  module _ (number part at : ℕ) (e : refuses number part at ≡ job_read (outcome s)) where
+    pub refused_position : at < 2 ^ 63
+    refused_position = by (outcome s) (outcome_ranged s) e
+      where
+        by : (o : Outcome Parts) → Ranged job_reach o → refuses number part at ≡ job_read o → at < 2 ^ 63
+        by (refuses n p a) k d =
+            let q : at ≡ a = cc in
+            omega (arith, k.1, reach_is)
+        by (accepts p) k d = absurd cc
+
+    pub refused_lines : (lines : PlanLines) → refusal_line number at ≡ listed lines (outcome s)
+    unfolding listed
+    refused_lines lines = by (outcome s) e
+      where
+        by : (o : Outcome Parts) → refuses number part at ≡ job_read o → refusal_line number at ≡ listed lines o
+        by (refuses n p a) d = cc
+        by (accepts p) d = absurd cc
 
 -- the lines of every job, whoever reads them, are no longer than the longest
 pub listing_longest : (reader : Reader) (s : List ℕ) → length (listed (lines_for reader) (outcome s)) ≤ longest_listing

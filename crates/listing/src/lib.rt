@@ -5,7 +5,6 @@
 ghost use Rattle.std.specs.Prelude.{◌≡◌, [], ◌++◌, ◌+◌, ◌^◌, ◌≤◌, ◌<◌, length, drop};
 ghost use Rattle.forms.specs.Table.{table_numbers};
 ghost use Rattle.job.specs.Outcome.{outcome, table_after};
-ghost use Rattle.sets.specs.Sets.{is_member};
 ghost use Rattle.register.specs.Limits.{max_choices};
 ghost use Rattle.text.specs.Text.{line};
 ghost use Rattle.wire.specs.Outcome.{answer_by};
@@ -17,6 +16,7 @@ ghost use Rattle.listing.specs.Answer.{listing_room, answer_with, buffer_with, l
 
 use forms::WorkingTable;
 use job::{JobRead, read_job};
+use plan::choice_sets::has;
 use register::Register;
 use std::marker::Model;
 use wire::{Fault, Refusal, WriterAnswer};
@@ -163,15 +163,6 @@ impl Listing {
     }
 }
 
-// A set has choice i.
-#[tactic(auto, unfolding(sets::specs::Sets::is_member))]
-pub fn has(set: u32, i: usize) -> bool
-    requires { i < max_choices }
-    ensures { result ≡ is_member i set }
-{
-    (set >> i) % 2 == 1
-}
-
 // Reads a job and lists its lines, as a reader has them. The table is as after the job.
 fn listing_of(job: &[u8], table: &mut [i64], reader: Reader) -> Listing
     requires { table_numbers ≤ length table.old }
@@ -179,11 +170,9 @@ fn listing_of(job: &[u8], table: &mut [i64], reader: Reader) -> Listing
     ensures table_after { table.new ≡ table_after job.now table.old }
 {
     let mut listing = Listing::empty();
-    let read = read_job(job, table);
-    if read.number == 0 {
-        listing.put_accepted(read, reader);
-    } else {
-        listing.put_refusal(read.number, read.position);
+    match read_job(job, table) {
+        Ok(read) => listing.put_accepted(read, reader),
+        Err(fault) => listing.put_refusal(fault.refusal.number(), fault.position),
     }
     listing
 }
