@@ -26,7 +26,7 @@ pub const MAX_VISITS: u32 = 100_000_000;
 pub const SUPPLIER: u8 = 0;
 
 // What `feedcheck` makes of a job: the count of the bytes of its lines, and the tally with it counted, which nothing shows.
-#[derive(Clone, Copy)]
+#[derive(Clone, Copy, Debug, PartialEq, Eq)]
 pub struct Checked {
     pub count: usize,
     pub tally: Tally,
@@ -66,7 +66,8 @@ pub const INPUT: usize = 65_536;
 
 pub const TEXT: usize = 4_096;
 
-// Reads until the buffer is full or nothing is left. Returns the count of bytes read.
+// Reads until the buffer is full or nothing is left. Returns the count of bytes read. A read gives as many as it likes, so no `for`
+// goes over the reads.
 fn read_full<R: Read>(input: &mut R, buffer: &mut [u8]) -> io::Result<usize>
     ensures { IfOk result (λ n. n ≤ length buffer.new) }
 {

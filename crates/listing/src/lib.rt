@@ -21,7 +21,8 @@ use register::Register;
 use std::marker::Model;
 use wire::{Fault, Refusal, WriterAnswer};
 
-// A listing: lines put one after the other at the front of an array.
+// A listing: lines put one after the other at the front of an array. An `ArrayVec` lends no room past its end, where
+// `text::put_line` writes.
 #[derive(Drop)]
 pub struct Listing {
     bytes: [u8; Listing::MAX_BYTES],

@@ -1,12 +1,6 @@
 use native.Mathlib.Omega.{arith}
-use mathlib.Core.Path.{◌≡◌, ◌∙◌, ap}
-use mathlib.Core.List.{◌++◌}
+use mathlib.Core.Path.{◌∙◌, ap}
 use lib.ListN.{length}
-use Rattle.wire.specs.Outcome.{Outcome, refuses, accepts}
-use Rattle.wire.specs.Results.{number_of}
-use Rattle.job.specs.declared.JobRead.{JobRead}
-use Rattle.job.specs.Answer.{job_read}
-use Rattle.job.specs.Outcome.{outcome}
 use Rattle.listing.specs.Readers.{lines_for}
 use Rattle.listing.proofs.Outcome.{read_within, read_lines, refused_position, refused_lines, listing_short}
 use Rattle.listing.proofs.listing_of.Goals as goal
