@@ -9,7 +9,7 @@ fn moved(before: &Tally, after: &Tally) -> usize {
         .pairs
         .iter()
         .zip(&after.pairs)
-        .filter(|(old, new)| old.accepted != new.accepted || old.refused != new.refused)
+        .filter(|(old, new)| old != new)
         .count()
 }
 

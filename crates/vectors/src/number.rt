@@ -2,7 +2,8 @@
 ghost use Rattle.std.specs.Prelude.{◌≡◌, List, ℕ, Option};
 ghost use Rattle.vectors.specs.Said.{and_digit, decimal, of_bits, integer, of_signed_bits};
 
-// A number that a field may say.
+// A number that a field may say. Fields without a sign and with one are read apart, so no one impl over `TryFrom` serves all
+// types.
 pub trait Number: Copy + PartialEq {
     // The number that a field says, where it says one of the type.
     ghost said: { List ℕ → Option Self };
