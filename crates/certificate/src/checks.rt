@@ -19,8 +19,8 @@ use super::{Certificate, Multiplier, Rule, Seen, Square};
 use scheme::Scheme;
 use wire::{FromBytes, Refusal, check_command, refuse_if};
 
-#[tactic(auto, unfolding(crate::specs::Format::scale_checks, wire::specs::Checks::refusal))]
 // The refusal of a scale and a target.
+#[tactic(auto, unfolding(crate::specs::Format::scale_checks, wire::specs::Checks::refusal))]
 fn scale_refusal(scale: u32, target: i64) -> Result<(), Refusal>
     ensures { number_in result ≡ refusal (scale_checks scale target) }
 {
@@ -77,8 +77,8 @@ fn rule_of(sets: &[u32], n: usize, count: usize, rows: usize, t: Multiplier) -> 
     }
 }
 
-#[tactic(auto, unfolding(crate::specs::Format::multiplier_checks, wire::specs::Checks::refusal))]
 // The refusal of a multiplier command after others.
+#[tactic(auto, unfolding(crate::specs::Format::multiplier_checks, wire::specs::Checks::refusal))]
 fn multiplier_refusal(multipliers: usize, rule: Rule, m: i64) -> Result<(), Refusal>
     ensures { (whole : Ruled) → TestsOf whole rule → number_in result ≡ refusal (multiplier_checks multipliers whole m) }
 {
@@ -111,8 +111,8 @@ fn are_zero_past(entries: &[i16], place: usize) -> bool
         .all(|(i, entry)| (i <= place) | (*entry == 0))
 }
 
-#[tactic(auto, unfolding(crate::specs::Format::square_checks, wire::specs::Checks::refusal))]
 // The refusal of a square after others, where there are count variables.
+#[tactic(auto, unfolding(crate::specs::Format::square_checks, wire::specs::Checks::refusal))]
 fn square_refusal(squares: usize, count: usize, square: Square) -> Result<(), Refusal>
     ensures { number_in result ≡ refusal (square_checks squares count (square_in square)) }
 {
@@ -130,8 +130,8 @@ fn after_scale(previous: u8) -> bool
     matches!(previous, 0x30..=0x3b)
 }
 
-#[tactic(auto, using(crate::proofs::Rows::row_other, crate::proofs::Rows::stands_between), unfolding(wire::specs::Rows::row_of))]
 // A command may stand directly after another, or first where that is 0.
+#[tactic(auto, using(crate::proofs::Rows::row_other, crate::proofs::Rows::stands_between), unfolding(wire::specs::Rows::row_of))]
 fn stands_after(previous: u8, command: u8) -> bool
     ensures { (reg : Register) (sch : Scheme) → result ≡ is_among previous (row_of (certificate_rows reg sch) command).follows }
 {

@@ -7,9 +7,9 @@ ghost use Rattle.certificate.specs.Answer.{IsMultiplier, named_of, filled_of, mu
 use super::{Multiplier, Square};
 use wire::FromBytes;
 
-#[tactic(auto, unfolding(crate::specs::Format::command_size, crate::specs::Rules::by_key, crate::specs::Rules::arity, wire::specs::Part::total))]
 // The bytes of a command: its byte, then a scale u32 and a target i64; or the numbers that it names, u8 each, and m i64; or a weight u32 and entries
 // i16 each; or nothing. 1 where the byte is no command.
+#[tactic(auto, unfolding(crate::specs::Format::command_size, crate::specs::Rules::by_key, crate::specs::Rules::arity, wire::specs::Part::total))]
 pub fn command_size(command: u8) -> usize
     ensures { result ≡ command_size command }
 {

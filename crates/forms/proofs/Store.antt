@@ -8,8 +8,8 @@ use native.Mathlib.Omega.{arith}
 use native.Mathlib.Decide.{ℕ_discrete}
 use lib.Arith.{digits_div, digits_mod, digits_lt}
 use lib.Dec.{eqb}
-use lib.ListN.{length, get_or, set, drop, replicate, length-set, length-append, length-replicate, length-drop, get_or-replicate}
-use lib.Seq.{drop-cons, set-append_seam, get_or-set_same, get_or-set_other, ext_get_or}
+use lib.ListN.{length, get_or, drop, replicate, length-set, length-append, length-replicate, length-drop, get_or-replicate}
+use lib.Seq.{get_or-set_same, get_or-set_other, ext_get_or}
 use lib.IntN.{ℤ, pos, nat_abs, ◌+ℤ◌, +ℤ_assoc, +ℤ_idl, +ℤ_idr}
 use borrow.Author.Tests.{eq-eqb, ne_eqb}
 use Rattle.integers.specs.Lists.{All, join_below}
@@ -82,11 +82,6 @@ unfolding add_form
 add_form-append n [] g t = refl
 add_form-append n (m ∷ f) g t = add_form-append n f g _
 
--- one more turn of a loop that adds a form in each
-pub add_form_join : (n i : ℕ) (f : ℕ → Form) (t : List ℤ) → add_form n (join_below (suc i) f) t ≡ add_form n (f i) (add_form n (join_below i f) t)
-unfolding join_below
-add_form_join n i f t = add_form-append n (join_below i f) (f i) t
-
 pub length-add_form : (n : ℕ) (f : Form) (t : List ℤ) → length (add_form n f t) ≡ length t
 unfolding add_form
 length-add_form n [] t = refl
@@ -127,17 +122,6 @@ add_form-with_table {n} {g} h a t l =
 
 pub length-cleared : (k : ℕ) (t : List ℤ) → k ≤ length t → length (cleared k t) ≡ length t
 length-cleared k t l = simp (length-append, length-replicate, length-drop) (omega arith)
-
-pub cleared-suc : (k : ℕ) (t : List ℤ) → k < length t → set (cleared k t) k (pos 0) ≡ cleared (suc k) t
-cleared-suc k t l =
-    ap (λ x. set (replicate k (pos 0) ++ x) k (pos 0)) (drop-cons t k (pos 0) l)
-    ∙ ap (λ x. set (replicate k (pos 0) ++ get_or t k (pos 0) ∷ drop (suc k) t) x (pos 0)) (sym (length-replicate k (pos 0)))
-    ∙ set-append_seam (replicate k (pos 0)) _ (drop (suc k) t) (pos 0)
-    ∙ shift k (drop (suc k) t)
-  where
-    shift : (k : ℕ) (r : List ℤ) → replicate k (pos 0) ++ pos 0 ∷ r ≡ replicate (suc k) (pos 0) ++ r
-    shift zero r = refl
-    shift (suc k) r = ap (λ x. pos 0 ∷ x) (shift k r)
 
 pub cleared-with_table : (n : ℕ) (t : List ℤ) → cleared (n * n) t ≡ with_table n (λ i j. pos 0) t
 unfolding with_table
@@ -226,17 +210,6 @@ bounded_entry n f t l = bounded_with_table n (norm1 f) (entry f) t l (λ i j u v
 
 pub bounded_cleared : (n : ℕ) (t : List ℤ) → n * n ≤ length t → Bounded n 0 (cleared (n * n) t)
 bounded_cleared n t l = rw (cleared-with_table n t) (bounded_with_table n 0 (λ i j. pos 0) t l (λ i j u v. omega arith))
-
-pub bounded_add_monomial : {n b : ℕ} {t : List ℤ} (m : Monomial) → m.p < n → m.q < n → Bounded n b t → Bounded n (b + nat_abs m.c * 2) (add_monomial n m t)
-bounded_add_monomial {n} {b} {t} m x y r = record {
-  long = rw (length-add_monomial n m t) r.long;
-  low = by_place n _ small;
-}
-  where
-    small : (i j : ℕ) → i < n → j < n → nat_abs (get_or (add_monomial n m t) (i * n + j) (pos 0)) ≤ b + nat_abs m.c * 2
-    small i j v w =
-        rw (add_monomial_at n m x y t r.long i j w)
-        (omega (arith, nat_abs-+ (get_or t (i * n + j) (pos 0)) (entry_of i j m), entry_of_small m i j, r.low (i * n + j) (place_inside n i j v w)))
 
 pub bounded_add_form : {n b : ℕ} {f : Form} {t : List ℤ} → Below n f → Bounded n b t → Bounded n (b + norm1 f) (add_form n f t)
 bounded_add_form {n} {b} {f} {t} h r = record {

@@ -10,13 +10,13 @@ use Rattle.std.specs.List.{list_all, range_with_len}
 use Rattle.std.proofs.lemmas.Bool.Decides.{Decides-int_eq}
 use Rattle.integers.specs.Lists.{all_below}
 use Rattle.integers.specs.Sum.{sum_below}
-use Rattle.integers.proofs.Lists.{flag, T_true, all_below_at, all_below_by}
+use Rattle.integers.proofs.Lists.{T_true, all_below_at, all_below_by}
 use Rattle.integers.proofs.Sum.{sum_below_cong, nat_abs-sum}
 use Rattle.sets.specs.Sets.{is_member, set_of}
 use Rattle.sets.proofs.Sets.{member_set_of}
 use Rattle.register.specs.declared.Register.{Register}
 use Rattle.register.specs.Register.{total_in, entry_in}
-use Rattle.plan.specs.Fits.{Fits, fits, fed_sum, FitsRow, FitsRows, fits_rows}
+use Rattle.plan.specs.Fits.{Fits, fits, fed_sum, FitsRows, fits_rows}
 
 -- ---- the sum of the fed entries
 
@@ -98,25 +98,10 @@ module _ (n count : ℕ) (entry : ℕ → ℕ → ℤ) (total : ℕ → ℤ) whe
       go true e = yes ((fits_iff plan).0 e)
       go false e = no (fits_not plan e)
 
--- without rows every plan fits
-pub fits_none : (n : ℕ) (entry : ℕ → ℕ → ℤ) (total : ℕ → ℤ) (plan : ℕ) → fits_rows n 0 entry total plan ≡ true
-unfolding fits_rows all_below
-fits_none n entry total plan = refl
-
 -- by the entries and the sums alone
 pub fits_cong : (n count : ℕ) (entry entry' : ℕ → ℕ → ℤ) (total total' : ℕ → ℤ) (plan : ℕ) → ((k j : ℕ) → k < count → j < n → entry k j ≡ entry' k j) → ((k : ℕ) → k < count → total k ≡ total' k) →
     FitsRows n count entry total plan → FitsRows n count entry' total' plan
 fits_cong n count entry entry' total total' plan h g f k l = sym (fed_sum_cong n (entry k) (entry' k) plan (λ j m. h k j l m)) ∙ f k l ∙ g k l
-
--- one row more, which the plan fits
-pub fits_suc : (n count : ℕ) (entry : ℕ → ℕ → ℤ) (total : ℕ → ℤ) (plan : ℕ) → fits_rows n count entry total plan ≡ true → FitsRow n (entry count) (total count) plan →
-    fits_rows n (suc count) entry total plan ≡ true
-unfolding fits_rows all_below
-fits_suc n count entry total plan e f = rw (e, (Decides-int_eq _ _).1 f)
-
--- a row that the plan does not fit
-pub fits_broken : (n count : ℕ) (entry : ℕ → ℕ → ℤ) (total : ℕ → ℤ) (plan k : ℕ) → k < count → (FitsRow n (entry k) (total k) plan → ⊥) → fits_rows n count entry total plan ≡ false
-fits_broken n count entry total plan k l d = flag (fits_rows n count entry total plan) (λ e. absurd (d ((fits_iff n count entry total plan).0 e k l))) (λ e. e)
 
 -- ---- the rows of a register
 

@@ -9,10 +9,9 @@ use mathlib.Core.List.{List, [], ◌∷◌}
 use lib.ListN.{length, get_or, set, replicate}
 use lib.Seq.{sets, get_or-set_same}
 use lib.IntN.{ℤ, pos, nat_abs}
-use mir.Syntax.{w8, w16}
+use mir.Syntax.{w8}
 use mir.Val.{SFits}
 use Rattle.integers.specs.Lists.{Column}
-use Rattle.integers.proofs.Machine.{fits_signed}
 use Rattle.integers.proofs.Join.{join_cong}
 use Rattle.integers.proofs.Blocks.{ones_at, ones_are, sets_other, sets_in, column_block, column_unblock, sets_back}
 use Rattle.integers.proofs.Entries.{below_or_last, each_more, kept_set, column_none, column_empty, column_more, column_less, set_back, table_none, table_more, table_less}
@@ -420,11 +419,8 @@ module _ (r : Register) (w : Within r) (k : ℕ) (e : r.rows ≡ suc k) where
     record { few = enough; fits = same_row refl (λ j h. ones_at (row_entry r k) row_entries j (pos 0) h) (w.rows.each k (omega arith)) },
   )
 
--- the total and the entries of a row fit 16 and 8 bits
+-- the entries of a row fit 8 bits
 module _ (r : Register) (w : Within r) (k : ℕ) (l : k < r.rows) where
-  pub total_fits : SFits w16 (row_total r k)
-  total_fits = fits_signed w16 (row_total r k) (omega (arith, (w.rows.each k l).total_within))
-
   pub entry_fits : (j : ℕ) → j < row_entries → SFits w8 (row_entry r k j)
   entry_fits j h = let f = w.rows.each k l in within_byte (row_entry r k j) (f.entry_above j h) (f.entry_below j h)
 

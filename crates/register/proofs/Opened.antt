@@ -5,10 +5,10 @@ use Prim.Native.Nat.{ℕ}
 use lib.ListN.{length}
 use Rattle.wire.specs.Part.{Reading, refused, accepted}
 use Rattle.wire.specs.Rows.{Progress}
-use Rattle.wire.specs.Outcome.{refuses, accepts, given}
+use Rattle.wire.specs.Outcome.{accepts, given}
 use Rattle.wire.proofs.Part.{NumberedReading, read_part_numbered, by_itself_numbered}
 use Rattle.wire.proofs.Encoding.{by_itself_end}
-use Rattle.wire.proofs.Outcome.{accepts_one, not_both, given_refuses}
+use Rattle.wire.proofs.Outcome.{accepts_one, not_both}
 use Rattle.register.specs.declared.Register.{Register}
 use Rattle.register.specs.declared.RegisterAnswer.{RegisterAnswer}
 use Rattle.register.specs.Format.{register_part, register_in_job, register_by_itself}
@@ -36,9 +36,6 @@ opened_by s r e = go (register_by_itself s) refl e
         let (in_job, whole) = by_itself_end register_part s p end q in
         let (v, l) = valid_accepted s p end in_job in
         record { reads = q ∙ ap₂ accepted (rw (same, ← l)) whole; valid = rw same v }
-
-pub refused_by : (s : List ℕ) {n part at : ℕ} → refuses n part at ≡ open_register s → (register_by_itself s ≡ refused n at) × (part ≡ 1)
-refused_by s e = given_refuses 1 (register_by_itself s) (sym e)
 
 -- by the answer of the call
 module _ (s : List ℕ) (first : RegisterAnswer) (e : first ≡ register_answer (register_by_itself s)) where

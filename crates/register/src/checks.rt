@@ -16,8 +16,8 @@ use super::rows::past_zero;
 use super::windows::may_feed;
 use wire::{FromBytes, Refusal, check_command, refuse_if};
 
-#[tactic(auto, unfolding(wire::specs::Checks::refusal, crate::specs::Format::base_checks))]
 // A base cost.
+#[tactic(auto, unfolding(wire::specs::Checks::refusal, crate::specs::Format::base_checks))]
 fn base_refusal(base: i32) -> Result<(), Refusal>
     ensures { number_in result ≡ refusal (base_checks base) }
 {
@@ -27,16 +27,16 @@ fn base_refusal(base: i32) -> Result<(), Refusal>
     )
 }
 
-#[tactic(auto, unfolding(integers::specs::Lists::comes_before))]
 // A tank with a second number does not come after the last of n others: by tank, then by the second number.
+#[tactic(auto, unfolding(integers::specs::Lists::comes_before))]
 fn pair_falls(n: usize, tank0: u16, second0: u16, tank: u16, second: u16) -> bool
     ensures { result ≡ not (eqb n 0 || comes_before (tank0 ∷ second0 ∷ []) (tank ∷ second ∷ [])) }
 {
     !((n == 0) | ((tank0, second0) < (tank, second)))
 }
 
-#[tactic(auto, unfolding(wire::specs::Checks::refusal, crate::specs::Format::choice_checks))]
 // A choice after those of the register; `may` where its tank may be fed then.
+#[tactic(auto, unfolding(wire::specs::Checks::refusal, crate::specs::Format::choice_checks))]
 fn choice_refusal(register: &Register, tank: u16, minute: u16, may: bool) -> Result<(), Refusal>
     requires { register.now.choices ≤ max_choices }
     ensures { let r = register.now in let i = r.choices - 1 in number_in result ≡ refusal (choice_checks r.day_length r.choices (get_or r.tanks i 0) (get_or r.minutes i 0) tank minute may) }
@@ -51,8 +51,8 @@ fn choice_refusal(register: &Register, tank: u16, minute: u16, may: bool) -> Res
     refuse_if(!may, Refusal::OutsideWindows)
 }
 
-#[tactic(auto, unfolding(wire::specs::Checks::refusal, crate::specs::Format::term_checks))]
 // A term after those of the register.
+#[tactic(auto, unfolding(wire::specs::Checks::refusal, crate::specs::Format::term_checks))]
 fn term_refusal(register: &Register, mask: u32, coefficient: i32) -> Result<(), Refusal>
     requires { (register.now.choices ≤ max_choices) × (register.now.terms ≤ max_terms) }
     ensures { let r = register.now in number_in result ≡ refusal (term_checks r.choices r.terms (get_or r.masks (r.terms - 1) 0) mask coefficient) }
@@ -68,8 +68,8 @@ fn term_refusal(register: &Register, mask: u32, coefficient: i32) -> Result<(), 
     refuse_if(falls, Refusal::NotRising)
 }
 
-#[tactic(auto, unfolding(wire::specs::Checks::refusal, crate::specs::Format::window_checks))]
 // A window after those of the register.
+#[tactic(auto, unfolding(wire::specs::Checks::refusal, crate::specs::Format::window_checks))]
 fn window_refusal(register: &Register, tank: u16, from: u16, to: u16) -> Result<(), Refusal>
     requires { register.now.windows ≤ max_windows }
     ensures { let r = register.now in let j = r.windows - 1 in number_in result ≡ refusal (window_checks r.day_length r.windows (window_tank r j) (window_from r j) tank from to) }
@@ -91,8 +91,8 @@ fn window_refusal(register: &Register, tank: u16, from: u16, to: u16) -> Result<
     refuse_if(falls, Refusal::NotRising)
 }
 
-#[tactic(auto, unfolding(wire::specs::Checks::refusal, crate::specs::Format::row_checks))]
 // A row after k others; `zeros` where its entries past the choices are 0.
+#[tactic(auto, unfolding(wire::specs::Checks::refusal, crate::specs::Format::row_checks))]
 fn row_refusal(k: usize, total: i16, zeros: bool) -> Result<(), Refusal>
     ensures { number_in result ≡ refusal (row_checks k total zeros) }
 {
@@ -102,8 +102,8 @@ fn row_refusal(k: usize, total: i16, zeros: bool) -> Result<(), Refusal>
     refuse_if(!zeros, Refusal::NotThere)
 }
 
-#[tactic(auto, unfolding(wire::specs::Checks::refusal, crate::specs::Format::length_checks))]
 // A day length.
+#[tactic(auto, unfolding(wire::specs::Checks::refusal, crate::specs::Format::length_checks))]
 fn length_refusal(length: u16) -> Result<(), Refusal>
     ensures { number_in result ≡ refusal (length_checks length) }
 {
@@ -113,16 +113,16 @@ fn length_refusal(length: u16) -> Result<(), Refusal>
     refuse_if(!known, Refusal::OutOfRange)
 }
 
-#[tactic(auto, unfolding(wire::specs::Checks::refusal, crate::specs::Format::end_checks))]
 // The end after n choices.
+#[tactic(auto, unfolding(wire::specs::Checks::refusal, crate::specs::Format::end_checks))]
 fn end_refusal(n: usize) -> Result<(), Refusal>
     ensures { number_in result ≡ refusal (end_checks n) }
 {
     refuse_if(n == 0, Refusal::TooMany)
 }
 
-#[tactic(auto, unfolding(wire::specs::Rows::row_of))]
 // A command may stand directly after another, or first where that is 0.
+#[tactic(auto, unfolding(wire::specs::Rows::row_of))]
 fn stands_after(previous: u8, command: u8) -> bool
     ensures { result ≡ is_among previous (row_of register_rows command).follows }
 {
@@ -137,8 +137,8 @@ fn stands_after(previous: u8, command: u8) -> bool
     }
 }
 
-#[tactic(auto, unfolding(wire::specs::Rows::row_of, wire::specs::Part::total))]
 // The bytes of a command.
+#[tactic(auto, unfolding(wire::specs::Rows::row_of, wire::specs::Part::total))]
 pub fn command_size(command: u8) -> usize
     ensures { result ≡ size register_part command }
 {

@@ -3,7 +3,7 @@ use mathlib.Core.Path.{◌≡◌, refl, sym, ◌∙◌, ap₂, subst}
 use mathlib.Core.List.{List}
 use Prim.Native.Nat.{ℕ}
 use lib.ListN.{length}
-use Rattle.std.specs.Prelude.{Ok, Err}
+use Rattle.std.specs.Prelude.{Err}
 use Rattle.wire.specs.declared.refusals.Fault.{Fault}
 use Rattle.wire.specs.Results.{number_of}
 use Rattle.wire.specs.Number.{Bytes}
@@ -22,7 +22,6 @@ use Rattle.register.specs.Encoding as RE
 use Rattle.register.proofs.Accept as A
 use Rattle.wire.proofs.Accepting.{reached}
 use Rattle.scheme.specs.declared.Scheme.{Scheme}
-use Rattle.scheme.specs.declared.parts.Quadratization.{Quadratization}
 use Rattle.scheme.specs.Format.{scheme_part, scheme_in_job, scheme_by_itself}
 use Rattle.scheme.specs.Answer.{open_parts, parts_of, refused_answer, accepted_answer, scheme_answer}
 use Rattle.scheme.specs.Valid.{Valid}
@@ -98,9 +97,6 @@ module _ (t s : List ℕ) (reg : Register) (sch : Scheme) (o : Opened t s reg sc
 module _ (t s : List ℕ) where
   pub opened_refused : (fault : Fault) → parts_of (Err fault) ≡ open_parts t s → open_parts t s ≡ refuses (number_of fault.refusal) fault.part fault.position
   opened_refused fault e = sym e
-
-  pub opened_accepted : (q : Quadratization) → parts_of (Ok q) ≡ open_parts t s → Opened t s q.register q.scheme
-  opened_accepted q e = opened t s q.register q.scheme (sym e)
 
 -- the scheme's call answers 0, and the register's call answers the register
 pub answer_opened : (t s : List ℕ) → (scheme_answer t s).number ≡ 0 → Opened t s (register_answer (register_by_itself t)).register (scheme_answer t s).scheme

@@ -2,8 +2,8 @@
 ghost use Rattle.std.specs.Prelude.{◌≡◌, ◌<◌, ◌≤◌, length, take, IfSome, option_map};
 ghost use Rattle.vectors.specs.Said.{digit, byte, bytes, at_most};
 
-#[tactic(auto, unfolding(crate::specs::Said::digit))]
 // The value of a hexadecimal digit.
+#[tactic(auto, unfolding(crate::specs::Said::digit))]
 fn digit(b: u8) -> Option<u8>
     ensures value { result ≡ digit b }
     ensures within { IfSome result (λ d. d < 16) }
@@ -15,8 +15,8 @@ fn digit(b: u8) -> Option<u8>
     }
 }
 
-#[tactic(auto, unfolding(crate::specs::Said::byte))]
 // The byte of two digits.
+#[tactic(auto, unfolding(crate::specs::Said::byte))]
 fn byte(high: u8, low: u8) -> Option<u8>
     ensures { result ≡ byte high low }
 {

@@ -12,8 +12,8 @@ pub trait Number: Copy + PartialEq {
         ensures { result ≡ said field.now };
 }
 
-#[tactic(auto, unfolding(crate::specs::Said::and_digit))]
 // The number with one more decimal digit. Numbers of 20 digits are not read.
+#[tactic(auto, unfolding(crate::specs::Said::and_digit))]
 fn and_digit(value: u64, digit: u8) -> Option<u64>
     ensures { result ≡ and_digit value digit }
 {

@@ -1,12 +1,11 @@
 -- Parts read in turn: what an outcome or an answer says of the parts.
-use Prim.Native.Nat.{ℕ, ◌+◌, ◌≤◌, ◌<◌}
+use Prim.Native.Nat.{ℕ, ◌+◌}
 use native.Mathlib.Omega.{arith}
-use mathlib.Core.Path.{◌≡◌, refl, sym, ◌∙◌, ap, subst}
+use mathlib.Core.Path.{◌≡◌, refl, sym, subst}
 use mathlib.Core.Bool.{Bool, true, false, cond}
 use mathlib.Core.List.{List}
 use lib.Dec.{ltb}
 use lib.ListN.{length}
-use borrow.Author.Tests.{lt-ltb, le-ltb}
 use Rattle.wire.specs.Part.{Reading, refused, accepted, by_itself}
 use Rattle.wire.specs.Rows.{Progress}
 use Rattle.wire.specs.Outcome.{Outcome, refuses, accepts, next, given, and_then, starting_at, added_by}
@@ -61,11 +60,7 @@ pub given_refuses : {A : Type 0} (k : ℕ) (x : Reading (Progress A)) {n part at
 given_refuses k (refused i j) e = let (a, (b, c)) = refuses_same e in (rw (a, c), sym b)
 given_refuses k (accepted p end) e = absurd (not_both (sym e))
 
--- ---- a part's reader, that answers number and position of a refusal, or 0 and the position past the end
-
-abbrev pub number_of : {S : Type 0} → Reading S → ℕ
-number_of (refused number at) = number
-number_of (accepted read end) = 0
+-- ---- where a reading stops
 
 abbrev pub position_of : {S : Type 0} → Reading S → ℕ
 position_of (refused number at) = at
@@ -74,43 +69,11 @@ position_of (accepted read end) = end
 pub refused_numbered : {S : Type 0} {x : Reading S} {n at : ℕ} → NumberedReading x → x ≡ refused n at → n ≡ 0 → ⊥
 refused_numbered d e = subst NumberedReading e d
 
-module _ {S R : Type 0} (answer : Reading S → R) (number position : R → ℕ) where
-  pub record Tells : Type 0 where
-    pub refusals : (n at : ℕ) → (number (answer (refused n at)) ≡ n) × (position (answer (refused n at)) ≡ at)
-    pub readings : (read : S) (end : ℕ) → (number (answer (accepted read end)) ≡ 0) × (position (answer (accepted read end)) ≡ end)
-
-  module _ (tells : Tells) (part : R) where
-    pub told_position : (x : Reading S) → part ≡ answer x → position part ≡ position_of x
-    told_position (refused n at) e = ap position e ∙ (tells.refusals n at).1
-    told_position (accepted read end) e = ap position e ∙ (tells.readings read end).1
-
-    pub told_refused : (x : Reading S) → part ≡ answer x → (number part ≡ 0 → ⊥) → x ≡ refused (number part) (position part)
-    told_refused (refused n at) e h = rw (e, (tells.refusals n at).0, (tells.refusals n at).1)
-    told_refused (accepted read end) e h = absurd (h (ap number e ∙ (tells.readings read end).0))
-
-    pub told_accepted : (x : Reading S) → part ≡ answer x → NumberedReading x → number part ≡ 0 → (read : S) × (x ≡ accepted read (position part))
-    told_accepted (refused n at) e d h = absurd (d (sym (tells.refusals n at).0 ∙ sym (ap number e) ∙ h))
-    told_accepted (accepted read end) e d h = (read, rw (e, (tells.readings read end).1))
-
--- and that answers what the commands gave
-pub told_read : {A R : Type 0} (answer : Reading (Progress A) → R) (number position : R → ℕ) (gave : R → A) → Tells answer number position → ((p : Progress A) (end : ℕ) → gave (answer (accepted p end)) ≡ p.parsed) →
-    (part : R) (x : Reading (Progress A)) → part ≡ answer x → NumberedReading x → number part ≡ 0 → (previous : ℕ) × (x ≡ accepted (record { previous = previous; parsed = gave part }) (position part))
-told_read answer number position gave tells g part (refused n at) e d h = absurd (d (sym (tells.refusals n at).0 ∙ sym (ap number e) ∙ h))
-told_read answer number position gave tells g part (accepted p end) e d h = (p.previous, rw (e, (tells.readings p end).1, g p end))
-
 -- a part by itself, from the part in a job
 module _ {S : Type 0} (s : List ℕ) {x : Reading S} where
   pub itself_refused : {n at : ℕ} → x ≡ refused n at → by_itself s x ≡ refused n at
   unfolding by_itself
   itself_refused e = rw e
-
-  pub itself_past : {read : S} {end : ℕ} → x ≡ accepted read end → end < length s → by_itself s x ≡ refused 12 end
-  unfolding by_itself
-  itself_past {read} {end} e l = rw (e, lt-ltb end (length s) l)
-
-  pub itself_whole : {read : S} {end : ℕ} → x ≡ accepted read end → length s ≤ end → by_itself s x ≡ accepted read end
-  unfolding by_itself
-  itself_whole {read} {end} e l = rw (e, le-ltb end (length s) l)
 
 -- a refusal by itself is that in a job, but for 12
 pub refused_itself : {S : Type 0} (s : List ℕ) (x : Reading S) {n at : ℕ} → (n ≡ 12 → ⊥) → by_itself s x ≡ refused n at → x ≡ refused n at

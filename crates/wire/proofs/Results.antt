@@ -10,12 +10,11 @@ use Rattle.std.proofs.Common.{Result, Ok, Err}
 use Rattle.wire.specs.declared.refusals.Refusal.{Refusal}
 use Rattle.wire.specs.declared.refusals.Refusal.TheVariants.{NoCommand, CutShort, TooMany, OutOfRange, NotThere, Misordered, NotRising, SetsUnfit, FallsShort, NoProductLeft, TooShort, PastEnd, OutsideWindows, PastLimit, Misfit, NoneFits, UnknownSupplier}
 use Rattle.wire.specs.declared.refusals.Refused.{Refused}
-use Rattle.wire.specs.declared.refusals.Fault.{Fault}
 use Rattle.wire.specs.declared.refusals.Read.{Read}
 use Rattle.wire.specs.Part.{Reading, refused, accepted, by_itself}
 use Rattle.wire.specs.Rows.{Progress}
-use Rattle.wire.specs.Outcome.{Outcome, refuses, accepts, given, added_by}
-use Rattle.wire.specs.Results.{number_of, reading_of, whole_of, outcome_of}
+use Rattle.wire.specs.Outcome.{given, added_by}
+use Rattle.wire.specs.Results.{number_of, reading_of, whole_of}
 
 -- no refusal has the number 0
 pub numbered : (refusal : Refusal) → number_of refusal ≡ 0 → ⊥
@@ -64,12 +63,3 @@ whole_added {A} part s (accepted p end) = by (ltb end (length s))
     by : (t : Bool) → whole_of {A = A} part (cond t (refused 12 end) (accepted p.parsed end)) ≡ given part (cond t (refused 12 end) (accepted p end))
     by true = refl
     by false = refl
-
--- ---- parts
-
-module _ {A : Type 0} {x : Outcome A} {result : Result A Fault} (e : outcome_of result ≡ x) where
-  pub outcome_ok : {a : A} → result ≡ Ok a → x ≡ accepts a
-  outcome_ok was = sym e ∙ ap outcome_of was
-
-  pub outcome_err : {fault : Fault} → result ≡ Err fault → x ≡ refuses (number_of fault.refusal) fault.part fault.position
-  outcome_err was = sym e ∙ ap outcome_of was
