@@ -1,7 +1,8 @@
 // The fields that several kinds of answer have.
 use vectors::{Differs, Fields, Number};
 
-// The next three fields are the refusal's number, part and position, or zeros.
+// The next three fields are the refusal's number, part and position, or zeros. Each kind of answer is a C record of its own, so
+// they come one by one.
 pub fn refusal(fields: &mut Fields, number: u8, part: u8, position: usize) -> Result<(), Differs> {
     fields.is(number)?;
     fields.is(part)?;

@@ -4,7 +4,7 @@ use register::{Register, feedcheck_register};
 use scheme::{Scheme, feedcheck_scheme};
 use vectors::{Differs, Fields};
 
-// The set of a variable.
+// The set of a variable, empty where there is no such variable.
 fn set_of(sets: &[u32], v: u8) -> u32 {
     sets.get(usize::from(v)).copied().unwrap_or(0)
 }

@@ -25,7 +25,7 @@ fn numbers(fields: &mut Fields, table: &[i64], count: usize) -> Result<(), Diffe
     Ok(())
 }
 
-// The number CHECK, of the bytes of each number, the lowest first.
+// The number CHECK, of the bytes of each number, the lowest first, modulo 2³¹ − 1.
 fn check(table: &[i64]) -> u32 {
     table
         .iter()

@@ -1,6 +1,6 @@
 -- A line's fields, one at a time.
-use Rattle.std.proofs.Common.{◌≡◌, ◌≢◌, ℕ, zero, suc, ◌+◌, ◌-◌, ◌<◌, List, [], ◌∷◌, length, get_or, take, drop, refl, ap, sym, ◌∙◌, arith, Bool, true, false, not, cond, eqb, Bor, add-one}
-use Rattle.std.specs.Prelude.{Option, Some, None, is_some, option_copied}
+use Rattle.std.proofs.Common.{◌≡◌, ◌≢◌, ℕ, zero, suc, ◌+◌, ◌-◌, ◌<◌, List, [], ◌∷◌, length, get_or, take, drop, refl, ap, ◌∙◌, arith, true, false, cond, eqb, Bor, add-one}
+use Rattle.std.specs.Prelude.{Option, Some, option_copied}
 use Rattle.std.proofs.lemmas.Bool.{eq-eqb, ne_eqb}
 use Rattle.std.proofs.lemmas.List.{take_rest}
 use Rattle.vectors.specs.Line.{fields_of, fields_left, in_front}
@@ -36,13 +36,6 @@ pub has_field : (xs : List ℕ) → 0 < length (fields_of xs)
 unfolding fields_of
 has_field [] = omega arith
 has_field (b ∷ bs) = some_left (eqb b 32) b (fields_of bs) (has_field bs)
-
--- what is left starts with it
-pub is_field_left : (left : Option (Bor (List ℕ))) (none : Bool) → is_some left ≡ not none → none ≡ eqb (length (fields_left (option_copied left))) 0
-is_field_left None true e = refl
-is_field_left None false e = e
-is_field_left (Some left) true e = e ∙ sym (ne_eqb _ 0 (omega (arith, has_field left.now)))
-is_field_left (Some left) false e = sym (ne_eqb _ 0 (omega (arith, has_field left.now)))
 
 module _ (old : Option (Bor (List ℕ))) (left : Bor (List ℕ)) (same : old ≡ Some left) where
   pub first_at : (i : ℕ) → i < length left.now → get_or left.now i 0 ≡ 32 → ((k : ℕ) → k < i → get_or left.now k 0 ≢ 32)

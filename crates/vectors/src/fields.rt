@@ -105,10 +105,14 @@ impl<'a> Fields<'a> {
         Differs::unless(self.number::<T>()? == answered)
     }
 
+    #[tactic(auto, using(crate::proofs::Line::has_field))]
     // No field is left.
     pub fn end(&self) -> Result<(), Differs>
         ensures { is_ok result ≡ eqb (length (left_in self.now)) 0 }
     {
-        Differs::unless(self.left.is_none())
+        match self.left {
+            None => Ok(()),
+            Some(_) => Err(Differs),
+        }
     }
 }
