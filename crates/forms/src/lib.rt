@@ -43,8 +43,7 @@ impl<'a> SquareTable<'a> {
         requires { self.old.side * self.old.side ≤ length self.old.numbers.now }
         ensures { Becomes (cleared (self.old.side * self.old.side) self.old.numbers.now) self.old self.new }
     {
-        let side = self.side;
-        clear(self.numbers, side * side);
+        clear(self.numbers, self.side * self.side);
     }
 
     // Adds the monomial `c` times place `p` times place `q`: `c` at (p, q) and `c` at (q, p).
@@ -55,9 +54,8 @@ impl<'a> SquareTable<'a> {
         requires c_bound { nat_abs c ≤ max_added }
         ensures { Adds (mono p q c ∷ []) self.old self.new }
     {
-        let side = self.side;
-        add_at(self.numbers, p * side + q, c);
-        add_at(self.numbers, q * side + p, c);
+        add_at(self.numbers, p * self.side + q, c);
+        add_at(self.numbers, q * self.side + p, c);
     }
 
     // Adds the monomial `k` times `c` times place `p` times place `q`.

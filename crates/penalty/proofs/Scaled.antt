@@ -77,26 +77,21 @@ module _ (k : ℤ) (r : Register) (s : Scheme) (t : ℕ) {before now : SquareTab
 
 -- ---- its numbers as the code has them
 
--- a scale times a number of 32 bits
-pub record Product (k x : ℤ) : Type 0 where
-  pub narrow : SFits w32 x
-  pub fits : SFits w64 (k *ℤ to_z w64 (of_z w64 (to_z w32 (of_z w32 x))))
-  pub reads : to_z w64 (of_z w64 (k *ℤ to_z w64 (of_z w64 (to_z w32 (of_z w32 x))))) ≡ k *ℤ x
+-- a scale times a number of 32 bits, which the code has as y
+pub record Product (k x y : ℤ) : Type 0 where
+  pub fits : SFits w64 (k *ℤ to_z w64 (of_z w64 y))
+  pub reads : to_z w64 (of_z w64 (k *ℤ to_z w64 (of_z w64 y))) ≡ k *ℤ x
   pub low : nat_abs (k *ℤ x) ≤ max_factor * max_base
 
-pub product : (k x : ℤ) → nat_abs k ≤ max_factor → nat_abs x ≤ max_base → Product k x
-product k x a b = record {
-  narrow = narrow;
+pub product : (k x y : ℤ) → y ≡ to_z w32 (of_z w32 x) → nat_abs k ≤ max_factor → nat_abs x ≤ max_base → Product k x y
+product k x y e a b = record {
   fits = rw same (fits_signed w64 (k *ℤ x) (omega (arith, low)));
   reads = rw same (read_signed w64 (k *ℤ x) (omega (arith, low)));
   low = low;
 }
   where
-    narrow : SFits w32 x
-    narrow = fits_signed w32 x (omega arith)
-
     low : nat_abs (k *ℤ x) ≤ max_factor * max_base
     low = nat_abs-*-≤ k x max_factor max_base a b
 
-    same : k *ℤ to_z w64 (of_z w64 (to_z w32 (of_z w32 x))) ≡ k *ℤ x
-    same = ap (λ y. k *ℤ y) (cast_read w32 w64 x (omega arith) narrow)
+    same : k *ℤ to_z w64 (of_z w64 y) ≡ k *ℤ x
+    same = ap (λ z. k *ℤ to_z w64 (of_z w64 z)) e ∙ ap (λ z. k *ℤ z) (cast_read w32 w64 x (omega arith) (fits_signed w32 x (omega arith)))

@@ -22,7 +22,7 @@ use wire::{Fault, Refusal};
 
 // The answer of the call: a refusal's number, part and position, or zeros.
 #[repr(C)]
-#[derive(Clone, Copy)]
+#[derive(Clone, Copy, Debug, PartialEq, Eq)]
 pub struct PenaltyAnswer {
     pub number: u8,
     pub part: u8,
@@ -56,7 +56,7 @@ fn reaches(quadratization: &Quadratization, k: usize, v: usize) -> bool
     }
     let left = quadratization.scheme.lefts[v - n];
     let right = quadratization.scheme.rights[v - n];
-    reaches(quadratization, k, left as usize) || reaches(quadratization, k, right as usize)
+    reaches(quadratization, k, usize::from(left)) || reaches(quadratization, k, usize::from(right))
 }
 
 // What term t adds to the weight of product k: the magnitude of its coefficient, once, where the left or the right variable of its
@@ -68,10 +68,10 @@ fn contribution(quadratization: &Quadratization, k: usize, t: usize) -> u64
 {
     let left = quadratization.scheme.split_lefts[t];
     let right = quadratization.scheme.split_rights[t];
-    let used = reaches(quadratization, k, left as usize)
-        || reaches(quadratization, k, right as usize);
+    let used = reaches(quadratization, k, usize::from(left))
+        || reaches(quadratization, k, usize::from(right));
     if used {
-        quadratization.register.coefficients[t].unsigned_abs() as u64
+        u64::from(quadratization.register.coefficients[t].unsigned_abs())
     } else {
         0
     }
@@ -115,9 +115,9 @@ pub fn add_terms(quadratization: &Quadratization, table: &mut SquareTable, scale
         let coefficient = quadratization.register.coefficients[t];
         add_term(
             table,
-            left as usize,
-            right as usize,
-            scale * coefficient as i64,
+            usize::from(left),
+            usize::from(right),
+            scale * i64::from(coefficient),
         );
     }
 }
@@ -129,7 +129,7 @@ pub fn add_function(quadratization: &Quadratization, table: &mut SquareTable, sc
     requires scale_bound { nat_abs scale ≤ max_factor }
     ensures { Adds (times scale (g (coefficient quadratization.now.register) quadratization.now.register quadratization.now.scheme)) table.old table.new }
 {
-    table.add_monomial(0, 0, scale * quadratization.register.base as i64);
+    table.add_monomial(0, 0, scale * i64::from(quadratization.register.base));
     add_terms(quadratization, table, scale);
 }
 
@@ -157,7 +157,13 @@ fn add_penalties(quadratization: &Quadratization, table: &mut SquareTable)
         let left = quadratization.scheme.lefts[i];
         let right = quadratization.scheme.rights[i];
         let weight = weight(quadratization, n + i);
-        add_bracket(table, n + i, left as usize, right as usize, weight as i64);
+        add_bracket(
+            table,
+            n + i,
+            usize::from(left),
+            usize::from(right),
+            weight as i64,
+        );
     }
 }
 

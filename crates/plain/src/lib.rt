@@ -41,7 +41,7 @@ fn sum_of<F: Fn(usize) -> u64>(n: usize, term: F) -> u64
 }
 
 // A multiplier command that names one variable. There is none where the multiplier is 0.
-#[derive(Clone, Copy)]
+#[derive(Clone, Copy, Debug, PartialEq, Eq)]
 struct Command {
     kind: u8,
     name: u8,
@@ -239,7 +239,7 @@ fn plain_certificate(quadratization: &Quadratization, out: &mut [u8]) -> Result<
     if out.len() < count {
         return Err(Fault::nowhere(Refusal::TooShort));
     }
-    put_certificate(&table, quadratization.register.base as i64, out);
+    put_certificate(&table, i64::from(quadratization.register.base), out);
     Ok(count)
 }
 

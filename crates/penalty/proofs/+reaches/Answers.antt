@@ -1,5 +1,5 @@
 -- A product is followed down to its operands, which are there and smaller.
-use mathlib.Core.Path.{◌≡◌, refl, sym, ◌∙◌}
+use mathlib.Core.Path.{◌≡◌, refl, sym, ◌∙◌, ap}
 use mathlib.Core.Bool.{Bool, true, false, ◌||◌}
 use native.Mathlib.Omega.{arith}
 use Prim.Native.Nat.{ℕ, ◌≤◌, ◌<◌}
@@ -42,9 +42,9 @@ returns-then-v-k-2 t c =
 pub returns-then-reaches : goal.returns-then-reaches
 returns-then-reaches t c =
     let q = c.args.quadratization.now in
-    first q.register.choices q.scheme q.scheme_valid.within.products c.args.k c.args.v (omega arith) c.requires c.if-v-k-2.false _ c.if-reaches.true c.reaches.ensures
+    first q.register.choices q.scheme q.scheme_valid.within.products c.args.k c.args.v (omega arith) c.requires c.if-v-k-2.false _ c.if-reaches.true (c.reaches.ensures ∙ ap (defined q.register.choices q.scheme c.args.k) c.from.ensures)
 
 pub returns-else-reaches : goal.returns-else-reaches
 returns-else-reaches t c =
     let q = c.args.quadratization.now in
-    second q.register.choices q.scheme q.scheme_valid.within.products c.args.k c.args.v (omega arith) c.requires c.if-v-k-2.false _ _ c.if-reaches.false c.reaches.ensures c.reaches-else-reaches.ensures
+    second q.register.choices q.scheme q.scheme_valid.within.products c.args.k c.args.v (omega arith) c.requires c.if-v-k-2.false _ _ c.if-reaches.false (c.reaches.ensures ∙ ap (defined q.register.choices q.scheme c.args.k) c.from.ensures) (c.reaches-else-reaches.ensures ∙ ap (defined q.register.choices q.scheme c.args.k) c.from-else-reaches.ensures)

@@ -4,7 +4,7 @@ use mathlib.Core.List.{[], ◌∷◌}
 use Prim.Native.Nat.{◌*◌, ◌≤◌, ◌<◌}
 use native.Mathlib.Omega.{arith}
 use lib.IntN.{ℤ, nat_abs, ◌*ℤ◌}
-use mir.Syntax.{w64}
+use mir.Syntax.{w32, w64}
 use mir.Val.{to_z, of_z}
 use Rattle.integers.proofs.Machine.{read_signed}
 use Rattle.forms.specs.declared.SquareTable.{SquareTable}
@@ -25,8 +25,8 @@ use Rattle.scheme.proofs.Truncated.{valid_register}
 use Rattle.penalty.proofs.add_function.Goals as goal
 
 -- the scaled base cost as the code has it
-base : (z : ℤ) (r : Register) → nat_abs z ≤ max_factor → Within r → Product (to_z w64 (of_z w64 z)) r.base
-base z r h within = product (to_z w64 (of_z w64 z)) r.base (rw (read_signed w64 z (omega arith)) h) within.base
+base : (z : ℤ) (r : Register) (y : ℤ) → y ≡ to_z w32 (of_z w32 r.base) → nat_abs z ≤ max_factor → Within r → Product (to_z w64 (of_z w64 z)) r.base y
+base z r y e h within = product (to_z w64 (of_z w64 z)) r.base y e (rw (read_signed w64 z (omega arith)) h) within.base
 
 -- the table after the base cost, and after the terms: x is the scaled base cost and j and i the scale, as the code has them
 module _ (j x : ℤ) (r : Register) (s : Scheme) (e : x ≡ j *ℤ r.base) {t u : SquareTable} (a : Adds (mono 0 0 x ∷ []) t u) where
@@ -40,23 +40,23 @@ module _ (j x : ℤ) (r : Register) (s : Scheme) (e : x ≡ j *ℤ r.base) {t u 
 pub overflow_mul-scale : goal.overflow_mul-scale
 overflow_mul-scale c =
     let q = c.args.quadratization.now in
-    (base c.args.scale q.register c.requires.scale_bound (valid_register q.register_valid).within).fits
+    (base c.args.scale q.register _ c.from.ensures c.requires.scale_bound (valid_register q.register_valid).within).fits
 
 pub add_monomial-requires-clause-c_bound : goal.add_monomial-requires-clause-c_bound
 add_monomial-requires-clause-c_bound c =
     let q = c.args.quadratization.now in
-    let k = base c.args.scale q.register c.requires.scale_bound (valid_register q.register_valid).within in
+    let k = base c.args.scale q.register _ c.from.ensures c.requires.scale_bound (valid_register q.register_valid).within in
     rw k.reads (omega (arith, k.low))
 
 pub add_terms-requires-clause-room : goal.add_terms-requires-clause-room
 add_terms-requires-clause-room c =
     let q = c.args.quadratization.now in
-    let k = base c.args.scale q.register c.requires.scale_bound (valid_register q.register_valid).within in
+    let k = base c.args.scale q.register _ c.from.ensures c.requires.scale_bound (valid_register q.register_valid).within in
     room (to_z w64 (of_z w64 c.args.scale)) _ q.register q.scheme k.reads c.add_monomial.ensures (omega arith) k.low c.requires.room
 
 pub returns : goal.returns
 returns c =
     let q = c.args.quadratization.now in
-    let k = base c.args.scale q.register c.requires.scale_bound (valid_register q.register_valid).within in
+    let k = base c.args.scale q.register _ c.from.ensures c.requires.scale_bound (valid_register q.register_valid).within in
     let same = read_signed w64 c.args.scale (omega arith) in
     whole (to_z w64 (of_z w64 c.args.scale)) _ q.register q.scheme k.reads c.add_monomial.ensures c.args.scale _ same same c.add_terms.ensures

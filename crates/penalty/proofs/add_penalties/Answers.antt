@@ -67,7 +67,7 @@ pub add_bracket-requires-clause-k_bound : goal.add_bracket-requires-clause-k_bou
 add_bracket-requires-clause-k_bound c =
     let q = c.args.quadratization.now in
     let o = operands q.register q.scheme c.loop-i.i q.scheme_valid (omega arith) in
-    (omega (arith, c.loop-i.invariant.same_side), o.0, o.1)
+    (omega (arith, c.loop-i.invariant.same_side), rw c.from.ensures o.0, rw c.from-in-loop-i.ensures o.1)
 
 pub add_bracket-requires-clause-w_bound : goal.add_bracket-requires-clause-w_bound
 add_bracket-requires-clause-w_bound c =
@@ -79,4 +79,4 @@ pub loop-i-preserved : goal.loop-i-preserved
 loop-i-preserved c =
     let q = c.args.quadratization.now in
     let w = weight_read_small q.register q.scheme _ _ (valid_register q.register_valid).within c.weight-weight.ensures in
-    turn q.register q.scheme c.loop-i.i _ (read_unsigned w64 _ (omega (arith, w)) ∙ c.weight-weight.ensures) c.loop-i.invariant c.add_bracket.ensures
+    turn q.register q.scheme c.loop-i.i _ (read_unsigned w64 _ (omega (arith, w)) ∙ c.weight-weight.ensures) c.loop-i.invariant (rw (c.from.ensures, c.from-in-loop-i.ensures) at c.add_bracket.ensures)

@@ -88,7 +88,7 @@ put_certificate-requires c =
     let q = c.args.quadratization.now in
     let v = valid_register q.register_valid in
     let f = c.function_table-numbers.ensures in
-    let same = base_same q.register q.scheme v q.scheme_valid _ f in
+    let same = ap (λ z. to_z w64 (of_z w64 z)) c.from.ensures ∙ base_same q.register q.scheme v q.scheme_valid _ f in
     record {
       base_bound = rw same v.within.base;
       table_in_bounds = omega (arith, ap length (encoded q.register q.scheme v q.scheme_valid _ f _ same), bytes_total q.register q.scheme v q.scheme_valid _ f _ c.command_count.ensures, c.if-out-count.false);
@@ -99,9 +99,10 @@ returns c =
     let q = c.args.quadratization.now in
     let v = valid_register q.register_valid in
     let f = c.function_table-numbers.ensures in
+    let same = ap (λ z. to_z w64 (of_z w64 z)) c.from.ensures ∙ base_same q.register q.scheme v q.scheme_valid _ f in
     let e = bytes_total q.register q.scheme v q.scheme_valid _ f _ c.command_count.ensures in
     let y = bytes_fit (own_bytes q.register q.scheme) c.args.out.now (rw (← e) c.if-out-count.false) in
     record {
       value = ap written_answer e ∙ y.0;
-      out_after = c.put_certificate.ensures ∙ ap (written c.args.out.now 0) (encoded q.register q.scheme v q.scheme_valid _ f _ (base_same q.register q.scheme v q.scheme_valid _ f)) ∙ y.1;
+      out_after = c.put_certificate.ensures ∙ ap (written c.args.out.now 0) (encoded q.register q.scheme v q.scheme_valid _ f _ same) ∙ y.1;
     }
