@@ -2,7 +2,7 @@
 use mathlib.Core.Path.{◌≡◌, ◌∙◌, ap}
 use mathlib.Core.List.{List}
 use Prim.Native.Nat.{ℕ}
-use Rattle.wire.specs.Outcome.{Outcome, refuses, accepts, answer_by}
+use Rattle.wire.specs.Outcome.{Outcome, accepts, answer_by}
 use Rattle.wire.specs.Writer.{refused_answer, bytes_answer, with_front}
 use Rattle.register.specs.declared.Register.{Register}
 use Rattle.register.specs.Opening.{open_register}
@@ -18,10 +18,6 @@ module _ (s buffer : List ℕ) where
 
   buffer_from : (x : Outcome Register) → x ≡ open_register s → answer_by (λ number part at. buffer) (λ reg. built_buffer reg buffer (build reg)) x ≡ build_buffer s buffer
   buffer_from x e = ap (answer_by (λ number part at. buffer) (λ reg. built_buffer reg buffer (build reg))) e
-
-  -- the register is refused
-  pub build_refused : (number part at : ℕ) → refuses number part at ≡ open_register s → (refused_answer number part at ≡ build_answer s buffer) × (buffer ≡ build_buffer s buffer)
-  build_refused number part at e = (answer_from (refuses number part at) e, buffer_from (refuses number part at) e)
 
   -- it is accepted
   module _ (reg : Register) (e : accepts reg ≡ open_register s) where

@@ -14,7 +14,7 @@ use Rattle.scheme.proofs.Sets.{union_in_lem}
 use Rattle.scheme.proofs.Entries.{grown_sets}
 use Rattle.builder.specs.Builder.{full, next, first_with, join_pair, split_of}
 use Rattle.builder.specs.Ready.{Ready}
-use Rattle.builder.proofs.Steps.{found, found_within, join_found, join_full, join_new}
+use Rattle.builder.proofs.Steps.{found, join_found, join_full, join_new}
 
 -- the smaller and the larger of two, where their order does not matter
 pub sorted : {A : Type 0} (f : ℕ → ℕ → A) → ((x y : ℕ) → f x y ≡ f y x) → (a b : ℕ) → f (min a b) (max a b) ≡ f a b

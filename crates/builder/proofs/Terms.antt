@@ -14,13 +14,13 @@ use Rattle.scheme.specs.Scheme.{max_products, variables, fresh, with_split}
 use Rattle.scheme.proofs.Sets.{sets_same}
 use Rattle.builder.specs.declared.list.Members.{Members}
 use Rattle.builder.specs.declared.state.Work.{Work}
-use Rattle.builder.specs.Builder.{full, next, and_then, stopped, built, follow, choices_of, split_of, reduce, build_term, build_from, build}
+use Rattle.builder.specs.Builder.{full, next, and_then, stopped, built, follow, choices_of, split_of, build_term, build_from, build}
 use Rattle.builder.specs.Ready.{Ready}
 use Rattle.builder.specs.Work.{listed, Inside}
 use Rattle.builder.proofs.Steps.{reduce_ends}
 use Rattle.builder.proofs.Joining.{split_lengths, split_some}
 use Rattle.builder.proofs.Passing.{length_listed}
-use Rattle.builder.proofs.Steady.{Steady, reduce_steady}
+use Rattle.builder.proofs.Steady.{reduce_steady}
 use Rattle.builder.proofs.Reducing.{reduced_step}
 use Rattle.builder.proofs.Covers.{choices_below, choices_some}
 

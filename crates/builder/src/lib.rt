@@ -14,8 +14,8 @@ ghost use Rattle.builder.specs.Builder.{build};
 ghost use Rattle.builder.specs.Work.{built_of, writer_answer};
 ghost use Rattle.builder.specs.Answer.{build_answer, build_buffer};
 
-use register::{Register, open_register};
 use register::walk::term_position;
+use register::{Register, open_register};
 use scheme::Scheme;
 use state::Work;
 use wire::{Fault, Refusal, WriterAnswer};

@@ -9,7 +9,7 @@ use crate::list::Members;
 use crate::state::{Full, Work};
 use scheme::Scheme;
 
-// One split more.
+// One split more. Its arrays are longer than those of the products, so the two are filled by a function each.
 fn with_split(mut scheme: Scheme, l: u8, r: u8) -> Scheme
     requires { scheme.splits < max_terms }
     ensures { result ≡ with_split scheme l r }

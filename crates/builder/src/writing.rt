@@ -11,7 +11,8 @@ ghost use Rattle.builder.specs.Work.{writer_answer};
 use scheme::Scheme;
 use wire::{Fault, Refusal, ToBytes};
 
-// Writes a command of two operands. Each place is known beforehand, so no position is kept from one to the next.
+// Writes a command of two operands, with its byte as the format has it. Each place is known beforehand, so no position is kept
+// from one to the next.
 fn put_pair(out: &mut [u8], at: usize, byte: u8, l: u8, r: u8)
     requires { at + 3 ≤ length out.old }
     ensures { out.new ≡ sets out.old at (encode_pair byte l r) }

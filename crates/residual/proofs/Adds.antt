@@ -1,20 +1,18 @@
 -- What a multiplier command adds: places of the table only, and numbers that are small.
-use Prim.Native.Nat.{ℕ, ◌+◌, ◌*◌, ◌≤◌, ◌<◌}
+use Prim.Native.Nat.{ℕ, ◌≤◌, ◌<◌}
 use mathlib.Core.Path.{◌≡◌, refl, sym, ◌∙◌, ap, subst}
 use mathlib.Core.Bool.{◌&&◌}
-use mathlib.Core.List.{List, [], ◌∷◌}
+use mathlib.Core.List.{[], ◌∷◌}
 use native.Mathlib.Omega.{arith}
 use lib.Dec.{T, leb, ltb}
-use lib.IntN.{ℤ, pos, neg_ℤ, nat_abs, ◌-ℤ◌, +ℤ_idl}
+use lib.IntN.{ℤ, pos, neg_ℤ, nat_abs, ◌-ℤ◌, ◌*ℤ◌, +ℤ_idl}
 use lib.ListN.{get_or}
 use mir.Syntax.{w64}
 use mir.Val.{SFits, to_z, of_z}
-use Rattle.integers.proofs.Order.{nat_abs_neg}
+use Rattle.integers.proofs.Order.{nat_abs_neg, nat_abs-*-≤}
 use Rattle.integers.proofs.Machine.{fits_signed, read_signed}
-use Rattle.forms.specs.Form.{mono, times}
-use Rattle.forms.specs.Store.{add_monomial, Bounded}
+use Rattle.forms.specs.Form.{times}
 use Rattle.forms.proofs.Form.{Below}
-use Rattle.forms.proofs.Store.{bounded_add_monomial, bounded_weaken}
 use Rattle.register.specs.declared.Register.{Register}
 use Rattle.scheme.specs.declared.Scheme.{Scheme}
 use Rattle.scheme.specs.Scheme.{variables, side}
@@ -32,10 +30,12 @@ use Rattle.certificate.proofs.Asks.{tests_product}
 use Rattle.residual.proofs.Rules.{IsProduct, is_product, rule_sound}
 use Rattle.residual.proofs.Table.{signed, signed_form}
 
--- one more monomial
-pub step : {n b p q : ℕ} (x : ℤ) {t : List ℤ} (u : List ℤ) → Bounded n b t → p < n → q < n → u ≡ add_monomial n (mono p q x) t → nat_abs x ≤ max_multiplier →
-    Bounded n (b + 2 * max_multiplier) u
-step x u h a b e l = rw e (bounded_weaken (bounded_add_monomial (mono _ _ x) a b h) (omega arith))
+-- a multiplier as the code has it, times a coefficient of a form
+pub multiple_read : (k : ℤ) → nat_abs k ≤ max_multiplier → to_z w64 (of_z w64 k) ≡ k
+multiple_read k l = read_signed w64 k (omega arith)
+
+pub multiple_small : (k a : ℤ) → nat_abs k ≤ max_multiplier → nat_abs a ≤ 1 → nat_abs (to_z w64 (of_z w64 k) *ℤ a) ≤ max_multiplier
+multiple_small k a l o = omega (arith, nat_abs-*-≤ (to_z w64 (of_z w64 k)) a max_multiplier 1 (rw (multiple_read k l) l) o)
 
 -- a multiplier as the code has it, and its negation
 pub record Negated (m : ℤ) : Type 0 where
@@ -46,16 +46,13 @@ pub record Negated (m : ℤ) : Type 0 where
 
 pub negated : (m : ℤ) → nat_abs m ≤ max_multiplier → Negated m
 negated m l =
-    let same : pos 0 -ℤ to_z w64 (of_z w64 m) ≡ neg_ℤ m = ap (λ x. pos 0 -ℤ x) read ∙ +ℤ_idl (neg_ℤ m) in
+    let same : pos 0 -ℤ to_z w64 (of_z w64 m) ≡ neg_ℤ m = ap (λ x. pos 0 -ℤ x) (multiple_read m l) ∙ +ℤ_idl (neg_ℤ m) in
     record {
-      read = read;
+      read = multiple_read m l;
       less_fits = rw same (fits_signed w64 (neg_ℤ m) (omega (arith, nat_abs_neg m)));
       less_read = rw same (read_signed w64 (neg_ℤ m) (omega (arith, nat_abs_neg m)));
       less_small = rw (nat_abs_neg m) l;
     }
-  where
-    read : to_z w64 (of_z w64 m) ≡ m
-    read = read_signed w64 m (omega arith)
 
 module _ (r : Register) (s : Scheme) where
   abbrev n : ℕ

@@ -1,10 +1,9 @@
 -- The table while commands that are accepted are read: it holds R of those read so far.
 use Prim.Native.Nat.{ℕ, ◌+◌, ◌*◌, ◌≤◌}
-use mathlib.Core.Path.{◌≡◌, sym, ◌∙◌, ap}
+use mathlib.Core.Path.{◌≡◌, ◌∙◌, ap}
 use mathlib.Core.Bool.{true}
 use mathlib.Core.Logic.{inl, inr}
 use mathlib.Core.List.{List}
-use native.Mathlib.Numerals.{add-one}
 use native.Mathlib.Omega.{arith}
 use lib.IntN.{ℤ}
 use lib.ListN.{length, get_or}
@@ -55,15 +54,8 @@ pub record Ready (reg : Register) (sch : Scheme) (s : List ℕ) : Type 0 where
   pub scheme : Valid reg sch
   pub reads : Reads reg sch s
 
--- the side as the code has it
-abbrev pub side_in : Register → Scheme → ℕ
-side_in reg sch = reg.choices + sch.products + 1
-
-pub is_side : (reg : Register) (sch : Scheme) → side_in reg sch ≡ side reg.choices sch
-is_side reg sch = add-one (reg.choices + sch.products)
-
 module _ {reg : Register} {sch : Scheme} {s : List ℕ} (h : Ready reg sch s) where
-  pub side_small : side_in reg sch ≤ square_entries
+  pub side_small : side reg.choices sch ≤ square_entries
   side_small = omega (arith, h.register.choices.few, h.scheme.within.products_within)
 
   module _ (lent : List ℤ) (l : table_numbers ≤ length lent) where
@@ -78,47 +70,43 @@ module _ {reg : Register} {sch : Scheme} {s : List ℕ} (h : Ready reg sch s) wh
       pub first_under : (k : Certificate) → holds_r (coefficient reg) reg sch k u ≡ holds_r (coefficient reg) reg sch k lent
       first_under k = ap (holds_r (coefficient reg) reg sch k) d ∙ with_table_again (side reg.choices sch) _ _ lent fits
 
-      pub first_filled : Filled reg sch s u u (command_size 0x30)
-      first_filled = record {
-        certificate = with_scale_in s;
-        midway = (started reg sch s h.reads).midway;
-        holds = d ∙ sym (first_under (with_scale_in s));
-      }
+    pub first_filled : lent ≡ holds_r (coefficient reg) reg sch (with_scale_in s) lent → Filled reg sch s lent lent (command_size 0x30)
+    first_filled d = record { certificate = with_scale_in s; midway = (started reg sch s h.reads).midway; holds = d }
 
     module _ {t : List ℤ} {at : ℕ} (f : Filled reg sch s lent t at) where
       pub filled_length : length t ≡ length lent
       filled_length = rw f.holds (with_table-length (side reg.choices sch) _ lent fits)
 
-      pub filled_bounded : Bounded (side_in reg sch) max_before_form t
+      pub filled_bounded : Bounded (side reg.choices sch) max_before_form t
       filled_bounded =
-          rw (is_side reg sch, f.holds)
+          rw f.holds
           (bounded_weaken (bounded_R (coefficient reg) reg sch f.certificate lent fits (small reg h.register) h.register.choices.few h.scheme.within f.midway.within) (omega arith))
 
       -- one command more
 
-      form_filled : (x : IsMultiplier (get_or s at 0)) (u : List ℤ) → u ≡ add_form (side_in reg sch) (signed_form reg sch (multiplier_at s at)) t → Filled reg sch s lent u (at + command_size (get_or s at 0))
+      form_filled : (x : IsMultiplier (get_or s at 0)) (u : List ℤ) → u ≡ add_form (side reg.choices sch) (signed_form reg sch (multiplier_at s at)) t → Filled reg sch s lent u (at + command_size (get_or s at 0))
       form_filled x u e = record {
         certificate = _;
         midway = multiplier_on reg sch s h.reads f.midway x;
         holds =
-            e ∙ rw (is_side reg sch, f.holds)
+            e ∙ rw f.holds
             (table_multiplier (coefficient reg) reg sch f.certificate lent fits h.scheme.within.products (multiplier_at s at) (multiplier_allowed reg sch s h.reads f.midway x));
       }
 
-      pub multiplier_filled : (x : 0x31 ≤ get_or s at 0) (y : get_or s at 0 ≤ 0x39) (u : List ℤ) → u ≡ add_form (side_in reg sch) (added reg sch (named_of (multiplier_at s at))) t →
+      pub multiplier_filled : (x : 0x31 ≤ get_or s at 0) (y : get_or s at 0 ≤ 0x39) (u : List ℤ) → u ≡ add_form (side reg.choices sch) (added reg sch (named_of (multiplier_at s at))) t →
           Filled reg sch s lent u (at + command_size (get_or s at 0))
       multiplier_filled x y u e = form_filled (inl (x, y)) u (rw (added_signed reg sch (multiplier_at s at)) at e)
 
-      pub row_filled : get_or s at 0 ≡ 0x3B → (u : List ℤ) → u ≡ add_form (side_in reg sch) (times (multiplier_at s at).m (row_form_of reg (get_or (multiplier_at s at).names 0 0) (get_or (multiplier_at s at).names 1 0))) t →
+      pub row_filled : get_or s at 0 ≡ 0x3B → (u : List ℤ) → u ≡ add_form (side reg.choices sch) (times (multiplier_at s at).m (row_form_of reg (get_or (multiplier_at s at).names 0 0) (get_or (multiplier_at s at).names 1 0))) t →
           Filled reg sch s lent u (at + command_size (get_or s at 0))
       unfolding multiplier_at
       row_filled c u e = form_filled (inr c) u (rw (row_command reg sch (multiplier_at s at) (multiplier_allowed reg sch s h.reads f.midway (inr c)) c).adds e)
 
-      pub square_filled : get_or s at 0 ≡ 0x3A → (u : List ℤ) → u ≡ less_where (side_in reg sch) (square_at (square_read s at)) (λ i j. true) t → Filled reg sch s lent u (at + command_size (get_or s at 0))
+      pub square_filled : get_or s at 0 ≡ 0x3A → (u : List ℤ) → u ≡ less_where (side reg.choices sch) (square_at (square_read s at)) (λ i j. true) t → Filled reg sch s lent u (at + command_size (get_or s at 0))
       square_filled c u e = record {
         certificate = _;
         midway = square_on reg sch s h.reads f.midway c;
-        holds = e ∙ rw (is_side reg sch, f.holds) (table_square (coefficient reg) reg sch f.certificate lent fits (square_read s at));
+        holds = e ∙ rw f.holds (table_square (coefficient reg) reg sch f.certificate lent fits (square_read s at));
       }
 
       -- at the end, which there is

@@ -2,69 +2,67 @@
 
 #![tactic(auto)]
 
-ghost use Rattle.std.specs.Prelude.{◌≡◌, true, ℕ, ◌+◌, ◌-◌, ◌≤◌, ◌<◌, eqb, pos, nat_abs, ◌*ℤ◌, [], ◌∷◌, length};
+ghost use Rattle.std.specs.Prelude.{◌≡◌, true, ℕ, ◌+◌, ◌≤◌, ◌<◌, eqb, pos, nat_abs, ◌*ℤ◌, [], ◌∷◌, length};
 ghost use Rattle.forms.specs.Form.{mono, times};
-ghost use Rattle.forms.specs.Store.{add_form, Bounded, max_before_monomial, max_before_form};
+ghost use Rattle.forms.specs.Store.{Bounded, Room, Becomes, Adds, max_before_monomial, max_before_form};
+ghost use Rattle.forms.specs.Table.{table_numbers, with_table};
 ghost use Rattle.scheme.specs.Scheme.{max_products, side as side_of};
-ghost use Rattle.scheme.specs.Valid.{Products, Valid as SchemeValid};
+ghost use Rattle.scheme.specs.Valid.{Products};
 ghost use Rattle.wire.specs.Part.{accepted};
 ghost use Rattle.wire.specs.Rows.{Progress};
 ghost use Rattle.register.specs.Limits.{max_choices, max_rows};
-ghost use Rattle.register.specs.Register.{coefficient, entry_in, total_in};
-ghost use Rattle.register.specs.Valid.{Valid as RegisterValid};
-ghost use Rattle.forms.specs.Table.{table_numbers, with_table};
+ghost use Rattle.register.specs.Register.{coefficient};
 ghost use Rattle.certificate.specs.Certificate.{Certificate};
 ghost use Rattle.certificate.specs.Format.{commands_in_job};
 ghost use Rattle.certificate.specs.Limits.{max_multiplier, max_row_multiplier, max_weight, square_entries, max_entry};
-ghost use Rattle.certificate.specs.RowForm.{row_form};
+ghost use Rattle.certificate.specs.RowForm.{row_form_of};
 ghost use Rattle.certificate.specs.Rules.{minus1};
+ghost use Rattle.certificate.specs.Answer.{square_in};
 ghost use Rattle.residual.specs.Limits.{max_row_factor};
 ghost use Rattle.residual.specs.Residual.{R, square_at};
-ghost use Rattle.certificate.specs.Answer.{square_in};
 ghost use Rattle.residual.specs.Built.{with_scale_in, Reads, Addable, added, EntriesWithin, SquareRange, row_factor, times_entries, less_where};
 
 use certificate::{Multiplier, Square, command_size, multiplier_at, square_at};
-use forms::{add_monomial, add_multiple};
+use forms::SquareTable;
 use penalty::add_function;
 use register::Register;
-use scheme::Scheme;
+use scheme::{Quadratization, Scheme};
+use wire::FromBytes;
 
 // Adds k times the product of places p and q, less k times that of places p2 and q2.
-fn add_difference(table: &mut [i64], side: usize, p: usize, q: usize, p2: usize, q2: usize, k: i64)
-    requires bounded { Bounded side max_before_form table.old }
-    requires p_lt_side { (p < side) × (q < side) × (p2 < side) × (q2 < side) }
+fn add_difference(table: &mut SquareTable, p: usize, q: usize, p2: usize, q2: usize, k: i64)
+    requires room { Room max_before_form table.old }
+    requires places { (p < table.old.side) × (q < table.old.side) × (p2 < table.old.side) × (q2 < table.old.side) }
     requires k_bound { nat_abs k ≤ max_multiplier }
-    ensures { table.new ≡ add_form side (times k (mono p q (pos 1) ∷ mono p2 q2 minus1 ∷ [])) table.old }
+    ensures { Adds (times k (mono p q (pos 1) ∷ mono p2 q2 minus1 ∷ [])) table.old table.new }
 {
-    add_multiple(table, side, p, q, k, 1);
-    add_multiple(table, side, p2, q2, k, -1);
+    table.add_multiple(p, q, k, 1);
+    table.add_multiple(p2, q2, k, -1);
 }
 
 // Adds k times z_k − z_l − z_r + 1, by the places of the variables.
-fn add_product_bound(table: &mut [i64], side: usize, z: usize, l: usize, r: usize, k: i64)
-    requires bounded { Bounded side max_before_form table.old }
-    requires z_lt_side { (z < side) × (l < side) × (r < side) }
+fn add_product_bound(table: &mut SquareTable, z: usize, l: usize, r: usize, k: i64)
+    requires room { Room max_before_form table.old }
+    requires places { (z < table.old.side) × (l < table.old.side) × (r < table.old.side) }
     requires k_bound { nat_abs k ≤ max_multiplier }
-    ensures { table.new ≡
-        add_form side (times k (mono 0 z (pos 1) ∷ mono 0 l minus1 ∷ mono 0 r minus1 ∷ mono 0 0 (pos 1) ∷ [])) table.old }
+    ensures { Adds (times k (mono 0 z (pos 1) ∷ mono 0 l minus1 ∷ mono 0 r minus1 ∷ mono 0 0 (pos 1) ∷ [])) table.old table.new }
 {
-    add_multiple(table, side, 0, z, k, 1);
-    add_multiple(table, side, 0, l, k, -1);
-    add_multiple(table, side, 0, r, k, -1);
-    add_multiple(table, side, 0, 0, k, 1);
+    table.add_multiple(0, z, k, 1);
+    table.add_multiple(0, l, k, -1);
+    table.add_multiple(0, r, k, -1);
+    table.add_multiple(0, 0, k, 1);
 }
 
-// Subtracts the form of a product, m times. There are n choices.
-fn subtract_product_form(table: &mut [i64], side: usize, scheme: Scheme, n: usize, t: Multiplier)
-    requires products { Products n scheme }
-    requires products_le_max_products { scheme.products ≤ max_products }
-    requires side_value { side ≡ side_of n scheme }
-    requires addable { Addable n scheme t }
+// Subtracts the form of a product, m times, where there are n choices: of any scheme whose products are in order.
+fn subtract_product_form(table: &mut SquareTable, scheme: &Scheme, n: usize, t: Multiplier)
+    requires products { Products n scheme.now }
+    requires products_le_max_products { scheme.now.products ≤ max_products }
+    requires side_value { table.old.side ≡ side_of n scheme.now }
+    requires addable { Addable n scheme.now t }
     requires le_kind { (0x35 ≤ t.kind) × (t.kind ≤ 0x37) }
-    requires bounded { Bounded side max_before_form table.old }
-    ensures { (reg : Register) → reg.choices ≡ n → table.new ≡ add_form side (added reg scheme t) table.old }
+    requires room { Room max_before_form table.old }
+    ensures { (reg : Register) → reg.choices ≡ n → Adds (added reg scheme.now t) table.old table.new }
 {
-    let kind = t.kind;
     let k = -t.m;
     let i = t.i as usize;
     let at = i - n;
@@ -72,51 +70,42 @@ fn subtract_product_form(table: &mut [i64], side: usize, scheme: Scheme, n: usiz
     let z = i + 1;
     let l = scheme.lefts[at] as usize + 1;
     let r = scheme.rights[at] as usize + 1;
-    match kind {
-        0x35 => add_difference(table, side, 0, l, 0, z, k),
-        0x36 => add_difference(table, side, 0, r, 0, z, k),
-        _ => add_product_bound(table, side, z, l, r, k),
+    match t.kind {
+        0x35 => add_difference(table, 0, l, 0, z, k),
+        0x36 => add_difference(table, 0, r, 0, z, k),
+        _ => add_product_bound(table, z, l, r, k),
     }
 }
 
-// Adds the form of a row m times, with a variable: for each of n choices the product of the two, times the row's entry for the choice, and
+// Adds the form of a row m times, with a variable: for each choice the product of the two, times the row's entry for the choice, and
 // the variable times the row's total, which is subtracted.
-fn add_row_form(
-    table: &mut [i64],
-    side: usize,
-    n: usize,
-    totals: &[i16; Register::MAX_ROWS],
-    entries: &[i8; Register::MAX_ROWS * Register::ROW_ENTRIES],
-    row: usize,
-    variable: usize,
-    m: i64,
-)
+fn add_row_form(table: &mut SquareTable, register: &Register, row: usize, variable: usize, m: i64)
     requires row_within { row < max_rows }
-    requires places { (n < side) × (variable + 1 < side) }
-    requires few { n ≤ max_choices }
+    requires places { (register.now.choices < table.old.side) × (variable + 1 < table.old.side) }
+    requires few { register.now.choices ≤ max_choices }
     requires m_bound { nat_abs m ≤ max_row_multiplier }
-    requires bounded { Bounded side max_before_form table.old }
-    ensures { table.new ≡ add_form side (times m (row_form n (entry_in entries.now row) (total_in totals.now row) variable)) table.old }
+    requires room { Room max_before_form table.old }
+    ensures { Adds (times m (row_form_of register.now row variable)) table.old table.new }
 {
     let start = row * Register::ROW_ENTRIES;
     let z = variable + 1;
-    for j in 0..n {
-        add_multiple(table, side, z, j + 1, m, entries[start + j] as i64);
+    for j in 0..register.choices {
+        table.add_multiple(z, j + 1, m, register.row_entries[start + j] as i64);
     }
-    add_multiple(table, side, 0, z, m, -(totals[row] as i64));
+    table.add_multiple(0, z, m, -(register.row_totals[row] as i64));
 }
 
-// Adds the form of a multiplier command, `31` to `39`, m times, or subtracts it m times. There are n choices.
-pub fn add_multiplier(table: &mut [i64], side: usize, scheme: Scheme, n: usize, t: Multiplier)
-    requires products { Products n scheme }
-    requires products_le_max_products { scheme.products ≤ max_products }
-    requires side_value { side ≡ side_of n scheme }
-    requires addable { Addable n scheme t }
-    requires bounded { Bounded side max_before_form table.old }
-    ensures { (reg : Register) → reg.choices ≡ n → table.new ≡ add_form side (added reg scheme t) table.old }
+// Adds the form of a multiplier command, `31` to `39`, m times, or subtracts it m times, where there are n choices: of any scheme
+// whose products are in order.
+pub fn add_multiplier(table: &mut SquareTable, scheme: &Scheme, n: usize, t: Multiplier)
+    requires products { Products n scheme.now }
+    requires products_le_max_products { scheme.now.products ≤ max_products }
+    requires side_value { table.old.side ≡ side_of n scheme.now }
+    requires addable { Addable n scheme.now t }
+    requires room { Room max_before_form table.old }
+    ensures { (reg : Register) → reg.choices ≡ n → Adds (added reg scheme.now t) table.old table.new }
 {
-    let kind = t.kind;
-    let m = t.m;
+    let Multiplier { kind, m, .. } = t;
     let less = -m;
     // The places of the variables named.
     let i = t.i as usize + 1;
@@ -124,13 +113,13 @@ pub fn add_multiplier(table: &mut [i64], side: usize, scheme: Scheme, n: usize, 
     let k = t.k as usize + 1;
     let l = t.l as usize + 1;
     match kind {
-        0x31 => add_difference(table, side, i, i, 0, i, m),
-        0x32 => add_difference(table, side, 0, i, i, j, m),
-        0x33 => add_difference(table, side, 0, i, j, k, m),
-        0x34 => add_difference(table, side, i, j, k, l, m),
-        0x35..=0x37 => subtract_product_form(table, side, scheme, n, t),
-        0x38 => add_multiple(table, side, 0, i, less, 1),
-        _ => add_difference(table, side, 0, 0, 0, i, less),
+        0x31 => add_difference(table, i, i, 0, i, m),
+        0x32 => add_difference(table, 0, i, i, j, m),
+        0x33 => add_difference(table, 0, i, j, k, m),
+        0x34 => add_difference(table, i, j, k, l, m),
+        0x35..=0x37 => subtract_product_form(table, scheme, n, t),
+        0x38 => table.add_multiple(0, i, less, 1),
+        _ => add_difference(table, 0, 0, 0, i, less),
     }
 }
 
@@ -144,18 +133,17 @@ fn times_entry(factor: i64, entry: i16) -> i64
 }
 
 // w·v_i, the factor of a row, by the weight and the entries of a square.
-fn row_factor(weight: u32, entries: &[i16; Square::ENTRIES], row: usize) -> i64
-    requires weight_le_max_weight { weight ≤ max_weight }
-    requires entries_within { EntriesWithin entries.now }
+fn row_factor(square: &Square, row: usize) -> i64
+    requires range { SquareRange (square_in square.now) }
     requires row_lt_square_entries { row < square_entries }
-    ensures { result ≡ row_factor (record { w = weight; v = entries.now }) row }
+    ensures { result ≡ row_factor (square_in square.now) row }
 {
-    times_entry(weight as i64, entries[row])
+    times_entry(square.weight as i64, square.entries[row])
 }
 
 // Along a row, subtracts a factor times the entry of each column.
 fn subtract_row(
-    table: &mut [i64],
+    numbers: &mut [i64],
     side: usize,
     row: usize,
     factor: i64,
@@ -164,97 +152,95 @@ fn subtract_row(
     requires row_lt_side { (row < side) × (side ≤ square_entries) }
     requires factor_bound { nat_abs factor ≤ max_row_factor }
     requires entries_within { EntriesWithin entries.now }
-    requires bounded { Bounded side max_before_monomial table.old }
-    ensures { table.new ≡
-        less_where side (times_entries factor entries.now) (λ i j. eqb i row) table.old }
+    requires bounded { Bounded side max_before_monomial numbers.old }
+    ensures { numbers.new ≡
+        less_where side (times_entries factor entries.now) (λ i j. eqb i row) numbers.old }
 {
     let row_start = row * side;
-    let mut j = 0;
-    while j < side {
-        let at = row_start + j;
-        let x = table[at];
-        table[at] = x - times_entry(factor, entries[j]);
-        j += 1;
+    for j in 0..side {
+        numbers[row_start + j] -= times_entry(factor, entries[j]);
     }
 }
 
 // Subtracts a square at each row and column. The factor w·v_i is the same along row i and is formed once for it.
-pub fn subtract_square(table: &mut [i64], side: usize, square: Square)
-    requires square_range { SquareRange (square_in square) }
-    requires side_le_square_entries { side ≤ square_entries }
-    requires bounded { Bounded side max_before_form table.old }
-    ensures { table.new ≡ less_where side (square_at (square_in square)) (λ i j. true) table.old }
+pub fn subtract_square(table: &mut SquareTable, square: &Square)
+    requires square_range { SquareRange (square_in square.now) }
+    requires side_le_square_entries { table.old.side ≤ square_entries }
+    requires room { Room max_before_form table.old }
+    ensures { Becomes (less_where table.old.side (square_at (square_in square.now)) (λ i j. true) table.old.numbers.now) table.old table.new }
 {
-    let weight = square.weight;
-    let mut row = 0;
-    while row < side {
-        let factor = row_factor(weight, &square.entries, row);
-        subtract_row(table, side, row, factor, &square.entries);
-        row += 1;
+    let side = table.side;
+    for row in 0..side {
+        let factor = row_factor(square, row);
+        subtract_row(table.numbers, side, row, factor, &square.entries);
     }
 }
 
 // Makes the table hold the scaled function less the target, by the first command.
-fn put_scaled_function(bytes: &[u8], register: Register, scheme: Scheme, table: &mut [i64])
-    requires register_valid { RegisterValid register }
-    requires scheme_valid { SchemeValid register scheme }
-    requires table_numbers_in_bounds { table_numbers ≤ length table.old }
-    requires reads { Reads register scheme bytes.now }
-    ensures { table.new ≡
-        with_table (side_of register.choices scheme) (R (coefficient register) register scheme (with_scale_in bytes.now)) table.old }
+fn put_scaled_function(bytes: &[u8], quadratization: &Quadratization, table: &mut SquareTable)
+    requires side_value { table.old.side ≡ side_of quadratization.now.register.choices quadratization.now.scheme }
+    requires table_numbers_in_bounds { table_numbers ≤ length table.old.numbers.now }
+    requires reads { Reads quadratization.now.register quadratization.now.scheme bytes.now }
+    ensures { Becomes (with_table table.old.side (R (coefficient quadratization.now.register) quadratization.now.register quadratization.now.scheme (with_scale_in bytes.now)) table.old.numbers.now)
+        table.old table.new }
 {
-    let side = register.choices + scheme.products + 1;
-    let scale = wire::u32_at(bytes, 1);
-    let target = wire::i64_at(bytes, 5);
-    forms::clear(table, side * side);
-    add_function(register, scheme, table, side, scale as i64);
-    add_monomial(table, side, 0, 0, -target);
+    let scale = u32::read(bytes, 1);
+    let target = i64::read(bytes, 5);
+    table.clear();
+    add_function(quadratization, table, scale as i64);
+    table.add_monomial(0, 0, -target);
 }
 
-// Makes the table hold R, by commands that are accepted. The rest of the table is kept.
-pub fn put_residual(bytes: &[u8], register: Register, scheme: Scheme, table: &mut [i64])
-    requires register_valid { RegisterValid register }
-    requires scheme_valid { SchemeValid register scheme }
-    requires table_numbers_in_bounds { table_numbers ≤ length table.old }
-    requires reads { Reads register scheme bytes.now }
-    ensures { (p : Progress Certificate) (e : ℕ) → commands_in_job register scheme bytes.now ≡ accepted p e →
-        table.new ≡ with_table (side_of register.choices scheme) (R (coefficient register) register scheme p.parsed) table.old }
+// Adds and subtracts what each command after the first says, where the table holds what the first says.
+fn put_commands(bytes: &[u8], quadratization: &Quadratization, table: &mut SquareTable)
+    requires side_value { table.old.side ≡ side_of quadratization.now.register.choices quadratization.now.scheme }
+    requires table_numbers_in_bounds { table_numbers ≤ length table.old.numbers.now }
+    requires reads { Reads quadratization.now.register quadratization.now.scheme bytes.now }
+    requires starts { table.old.numbers.now ≡
+        with_table table.old.side (R (coefficient quadratization.now.register) quadratization.now.register quadratization.now.scheme (with_scale_in bytes.now)) table.old.numbers.now }
+    ensures { (p : Progress Certificate) (e : ℕ) → commands_in_job quadratization.now.register quadratization.now.scheme bytes.now ≡ accepted p e →
+        Becomes (with_table table.old.side (R (coefficient quadratization.now.register) quadratization.now.register quadratization.now.scheme p.parsed) table.old.numbers.now) table.old table.new }
 {
-    put_scaled_function(bytes, register, scheme, table);
-    let side = register.choices + scheme.products + 1;
+    let register = &quadratization.register;
+    let scheme = &quadratization.scheme;
     let mut at = command_size(0x30);
+    // Commands take different numbers of bytes, so each says where the next one begins.
     while at < bytes.len() {
         let command = bytes[at];
+        let end = at + command_size(command);
         match command {
             0x31..=0x39 => {
                 let t = multiplier_at(bytes, at);
-                add_multiplier(table, side, scheme, register.choices, t);
-                at += command_size(command);
+                add_multiplier(table, scheme, register.choices, t);
             }
             0x3a => {
                 let square = square_at(bytes, at);
-                subtract_square(table, side, square);
-                at += command_size(command);
+                subtract_square(table, &square);
             }
             0x3b => {
                 let named = multiplier_at(bytes, at);
-                let row = named.i as usize;
-                let variable = named.j as usize;
-                add_row_form(
-                    table,
-                    side,
-                    register.choices,
-                    &register.row_totals,
-                    &register.row_entries,
-                    row,
-                    variable,
-                    named.m,
-                );
-                at += command_size(command);
+                add_row_form(table, register, named.i as usize, named.j as usize, named.m);
             }
             _ => {
                 return;
             }
         }
+        at = end;
     }
+}
+
+// Makes the table hold R, by commands that are accepted. The rest of the table is kept.
+pub fn put_residual(bytes: &[u8], quadratization: &Quadratization, table: &mut [i64])
+    requires table_numbers_in_bounds { table_numbers ≤ length table.old }
+    requires reads { Reads quadratization.now.register quadratization.now.scheme bytes.now }
+    ensures { (p : Progress Certificate) (e : ℕ) → commands_in_job quadratization.now.register quadratization.now.scheme bytes.now ≡ accepted p e →
+        table.new ≡ with_table (side_of quadratization.now.register.choices quadratization.now.scheme)
+        (R (coefficient quadratization.now.register) quadratization.now.register quadratization.now.scheme p.parsed) table.old }
+{
+    let mut table = SquareTable {
+        numbers: table,
+        side: quadratization.side(),
+    };
+    put_scaled_function(bytes, quadratization, &mut table);
+    put_commands(bytes, quadratization, &mut table);
 }

@@ -22,7 +22,8 @@ use variable_sets::entry;
 pub use variable_sets::{choice_sets, sets_of, union_of};
 use wire::{Fault, FromBytes, Read, Refusal, Refused};
 
-// The record that the scheme's bytes give. Entries past the counts are 0. C has it, so the arrays stand beside their counts.
+// The record that the scheme's bytes give, laid out for C: arrays, each pair with its count. Entries past the counts are 0. Products
+// name their operands by number, as the format does.
 #[repr(C)]
 #[derive(Clone, Copy, Debug, PartialEq, Eq)]
 pub struct Scheme {
@@ -89,7 +90,8 @@ impl SchemeAnswer {
     }
 }
 
-// The scheme at the front of a run of bytes, with a register.
+// The scheme at the front of a run of bytes, with a register. The reader of each part has a loop of its own, with a `match` on the
+// command's byte; the laws of such a loop stand once, in `wire`.
 pub fn read_scheme(bytes: &[u8], register: &Register) -> Result<Read<Scheme>, Refused>
     requires { Valid register.now }
     ensures { reading_of result ≡ added_by (λ scheme. scheme) (scheme_in_job register.now bytes.now) }

@@ -1,5 +1,5 @@
 -- What the code has at a partial plan, with one more choice decided.
-use mathlib.Core.Path.{◌≡◌, sym, ◌∙◌, ap, ap₂, subst}
+use mathlib.Core.Path.{◌≡◌, sym, ◌∙◌, ap, ap₂}
 use mathlib.Core.List.{List}
 use Prim.Native.Nat.{ℕ, suc, ◌+◌, ◌*◌, ◌-◌, ◌^◌, ◌≤◌}
 use native.Mathlib.Nat.{pow-suc, le_refl}
@@ -10,10 +10,10 @@ use lib.IntN.{ℤ, nat_abs, ◌+ℤ◌, ◌-ℤ◌}
 use mir.Syntax.{w32, w64}
 use mir.Val.{SFits, to_z, of_z}
 use mir.Facts.{to_z-of_z}
-use Rattle.integers.proofs.Machine.{fits_signed, read_signed, cast_fits, cast_read}
+use Rattle.integers.proofs.Machine.{fits_signed, read_signed}
 use Rattle.integers.proofs.Diff.{diff₃, diffs}
 use Rattle.register.specs.Limits.{max_base, max_choices, max_terms, max_coefficient}
-use Rattle.search.specs.declared.Change.{Change}
+use Rattle.search.specs.declared.lists.Change.{Change}
 use Rattle.search.specs.Sum.{possible}
 use Rattle.search.specs.Lent.{Terms, Small, sum_to, lent_sum, AllListed, term_lost, term_gained, change_to, change_of, At}
 use Rattle.search.proofs.Sums.{sum_to_small, change_to_small, lost_small, gained_small}
@@ -119,74 +119,61 @@ module _ {masks : List ℕ} {coefficients : List ℤ} {counts : List ℕ} {n fed
   pub count_few : get_or counts k 0 ≤ max_terms
   count_few = omega (arith, (a.listed k (omega arith)).few, a.small.count_within)
 
-  -- a change is a number of 32 bits, read as one of 64
+  -- a change is a number of 32 bits, and so one of 64
   module _ (adds : ℤ → ℕ → ℕ → ℤ) (small : (c : ℤ) (m s : ℕ) → nat_abs (adds c m s) ≤ nat_abs c) (set : ℕ) where
     abbrev pub changed : ℤ
     changed = change_to adds masks coefficients (k * max_terms) set (get_or counts k 0)
 
-    change_fits : SFits w32 changed
-    change_fits =
-        fits_signed w32 changed
-        (omega (arith, change_to_small adds masks coefficients (k * max_terms) set small (get_or counts k 0) (a.listed k (omega arith)).small (get_or counts k 0) (le_refl _), count_few))
+    change_small : nat_abs changed ≤ max_coefficient * max_terms
+    change_small = omega (arith, change_to_small adds masks coefficients (k * max_terms) set small (get_or counts k 0) (a.listed k (omega arith)).small (get_or counts k 0) (le_refl _), count_few)
 
-    pub change_wide : SFits w64 (to_z w32 (of_z w32 changed))
-    change_wide = cast_fits w32 w64 changed (omega arith) change_fits
+    pub change_fits : SFits w32 changed
+    change_fits = fits_signed w32 changed (omega (arith, change_small))
 
-    pub change_read : to_z w64 (of_z w64 (to_z w32 (of_z w32 changed))) ≡ changed
-    change_read = cast_read w32 w64 changed (omega arith) change_fits
+    pub change_read : to_z w64 (of_z w64 changed) ≡ changed
+    change_read = read_signed w64 changed (omega (arith, change_small))
 
 -- ---- as the code computes it: the change, and the sum with it, as bits
 
-module _ {masks : List ℕ} {coefficients : List ℤ} {counts : List ℕ} {n fed : ℕ} {s : ℤ} (a : At masks coefficients counts n fed s) (l : 1 ≤ n) (change : Change)
-    (e : change ≡ change_of masks coefficients ((n - 1) * max_terms) (get_or counts (n - 1) 0) (fed + 2 ^ (n - 1) + (2 ^ (n - 1) - 1)) (fed + 2 ^ (n - 1))) where
-  pub own : to_z w64 (of_z w64 s) ≡ s
-  own = read_signed w64 s (omega (arith, at_small a))
+pub own : {masks : List ℕ} {coefficients : List ℤ} {counts : List ℕ} {d fed : ℕ} {s : ℤ} → At masks coefficients counts d fed s → to_z w64 (of_z w64 s) ≡ s
+own {s = s} a = read_signed w64 s (omega (arith, at_small a))
 
-  pub lost_read : to_z w64 (of_z w64 (to_z w32 (of_z w32 change.lost))) ≡ change_to term_lost masks coefficients ((n - 1) * max_terms) (fed + 2 ^ (n - 1) + (2 ^ (n - 1) - 1)) (get_or counts (n - 1) 0)
-  lost_read = ap (λ c. to_z w64 (of_z w64 (to_z w32 (of_z w32 c.lost)))) e ∙ change_read a l term_lost lost_small (fed + 2 ^ (n - 1) + (2 ^ (n - 1) - 1))
+module _ {masks : List ℕ} {coefficients : List ℤ} {counts : List ℕ} {n fed : ℕ} {s : ℤ} (a : At masks coefficients counts n fed s) (l : 1 ≤ n) where
+  abbrev pub lost : ℤ
+  lost = change_to term_lost masks coefficients ((n - 1) * max_terms) (fed + 2 ^ (n - 1) + (2 ^ (n - 1) - 1)) (get_or counts (n - 1) 0)
 
-  pub gained_read : to_z w64 (of_z w64 (to_z w32 (of_z w32 change.gained))) ≡ change_to term_gained masks coefficients ((n - 1) * max_terms) (fed + 2 ^ (n - 1)) (get_or counts (n - 1) 0)
-  gained_read = ap (λ c. to_z w64 (of_z w64 (to_z w32 (of_z w32 c.gained)))) e ∙ change_read a l term_gained gained_small (fed + 2 ^ (n - 1))
+  abbrev pub gained : ℤ
+  gained = change_to term_gained masks coefficients ((n - 1) * max_terms) (fed + 2 ^ (n - 1)) (get_or counts (n - 1) 0)
 
-  -- they fit 64 bits
+  -- the numbers of 64 bits that the change gives
+  module _ (change : Change) (e : change ≡ change_of masks coefficients ((n - 1) * max_terms) (get_or counts (n - 1) 0) (fed + 2 ^ (n - 1) + (2 ^ (n - 1) - 1)) (fed + 2 ^ (n - 1))) {x : ℤ} where
+    pub lost_said : x ≡ to_z w32 (of_z w32 change.lost) → x ≡ lost
+    lost_said f = f ∙ ap (λ c. to_z w32 (of_z w32 c.lost)) e ∙ to_z-of_z (change_fits a l term_lost lost_small (fed + 2 ^ (n - 1) + (2 ^ (n - 1) - 1)))
 
-  pub lost_wide : SFits w64 (to_z w32 (of_z w32 change.lost))
-  lost_wide = subst (λ c. SFits w64 (to_z w32 (of_z w32 c.lost))) (sym e) (change_wide a l term_lost lost_small (fed + 2 ^ (n - 1) + (2 ^ (n - 1) - 1)))
-
-  pub gained_wide : SFits w64 (to_z w32 (of_z w32 change.gained))
-  gained_wide = subst (λ c. SFits w64 (to_z w32 (of_z w32 c.gained))) (sym e) (change_wide a l term_gained gained_small (fed + 2 ^ (n - 1)))
+    pub gained_said : x ≡ to_z w32 (of_z w32 change.gained) → x ≡ gained
+    gained_said f = f ∙ ap (λ c. to_z w32 (of_z w32 c.gained)) e ∙ to_z-of_z (change_fits a l term_gained gained_small (fed + 2 ^ (n - 1)))
 
   -- the sums of both partial plans
 
-  abbrev pub unfed_sum_bits : ℤ
-  unfed_sum_bits = to_z w64 (of_z w64 s) -ℤ to_z w64 (of_z w64 (to_z w32 (of_z w32 change.lost)))
+  module _ {x : ℤ} (f : x ≡ lost) where
+    pub unfed_is : to_z w64 (of_z w64 s) -ℤ to_z w64 (of_z w64 x) ≡ s -ℤ lost
+    unfed_is = ap₂ ◌-ℤ◌ (own a) (ap (λ x. to_z w64 (of_z w64 x)) f ∙ change_read a l term_lost lost_small (fed + 2 ^ (n - 1) + (2 ^ (n - 1) - 1)))
 
-  abbrev pub fed_sum_bits : ℤ
-  fed_sum_bits = to_z w64 (of_z w64 s) +ℤ to_z w64 (of_z w64 (to_z w32 (of_z w32 change.gained)))
+    pub unfed_fits : SFits w64 (to_z w64 (of_z w64 s) -ℤ to_z w64 (of_z w64 x))
+    unfed_fits = rw unfed_is (fits_signed w64 (s -ℤ lost) (omega (arith, at_small (unfed_at a l))))
 
-  pub unfed_is : unfed_sum_bits ≡ s -ℤ change_to term_lost masks coefficients ((n - 1) * max_terms) (fed + 2 ^ (n - 1) + (2 ^ (n - 1) - 1)) (get_or counts (n - 1) 0)
-  unfed_is = ap₂ ◌-ℤ◌ own lost_read
+    abbrev pub unfed_next : At masks coefficients counts (n - 1) fed (to_z w64 (of_z w64 (to_z w64 (of_z w64 s) -ℤ to_z w64 (of_z w64 x))))
+    unfed_next = with_sum (unfed_at a l) (to_z-of_z unfed_fits ∙ unfed_is)
 
-  pub fed_sum_is : fed_sum_bits ≡ s +ℤ change_to term_gained masks coefficients ((n - 1) * max_terms) (fed + 2 ^ (n - 1)) (get_or counts (n - 1) 0)
-  fed_sum_is = ap₂ ◌+ℤ◌ own gained_read
+  module _ {x : ℤ} (f : x ≡ gained) where
+    pub fed_sum_is : to_z w64 (of_z w64 s) +ℤ to_z w64 (of_z w64 x) ≡ s +ℤ gained
+    fed_sum_is = ap₂ ◌+ℤ◌ (own a) (ap (λ x. to_z w64 (of_z w64 x)) f ∙ change_read a l term_gained gained_small (fed + 2 ^ (n - 1)))
 
-  unfed_small : nat_abs unfed_sum_bits ≤ max_base + max_terms * max_coefficient
-  unfed_small = subst (λ x. nat_abs x ≤ max_base + max_terms * max_coefficient) (sym unfed_is) (at_small (unfed_at a l))
+    pub fed_fits : SFits w64 (to_z w64 (of_z w64 s) +ℤ to_z w64 (of_z w64 x))
+    fed_fits = rw fed_sum_is (fits_signed w64 (s +ℤ gained) (omega (arith, at_small (fed_at a l))))
 
-  fed_small : nat_abs fed_sum_bits ≤ max_base + max_terms * max_coefficient
-  fed_small = subst (λ x. nat_abs x ≤ max_base + max_terms * max_coefficient) (sym fed_sum_is) (at_small (fed_at a l))
-
-  pub unfed_fits : SFits w64 unfed_sum_bits
-  unfed_fits = fits_signed w64 unfed_sum_bits (omega (arith, unfed_small))
-
-  pub fed_fits : SFits w64 fed_sum_bits
-  fed_fits = fits_signed w64 fed_sum_bits (omega (arith, fed_small))
-
-  abbrev pub unfed_next : At masks coefficients counts (n - 1) fed (to_z w64 (of_z w64 unfed_sum_bits))
-  unfed_next = with_sum (unfed_at a l) (to_z-of_z unfed_fits ∙ unfed_is)
-
-  abbrev pub fed_next : At masks coefficients counts (n - 1) (fed + 2 ^ (n - 1)) (to_z w64 (of_z w64 fed_sum_bits))
-  fed_next = with_sum (fed_at a l) (to_z-of_z fed_fits ∙ fed_sum_is)
+    abbrev pub fed_next : At masks coefficients counts (n - 1) (fed + 2 ^ (n - 1)) (to_z w64 (of_z w64 (to_z w64 (of_z w64 s) +ℤ to_z w64 (of_z w64 x))))
+    fed_next = with_sum (fed_at a l) (to_z-of_z fed_fits ∙ fed_sum_is)
 
 -- ---- the empty partial plan
 

@@ -5,22 +5,22 @@ use mathlib.Core.Bool.{true, false}
 use mathlib.Core.Logic.{◌↔◌}
 use Prim.Native.Nat.{ℕ, ◌^◌, ◌≤◌, ◌<◌}
 use native.Mathlib.Omega.{arith}
-use native.Mathlib.Decide.{dec_lt, ℕ_discrete}
+use native.Mathlib.Decide.{dec_lt}
 use lib.ListN.{length}
 use borrow.Author.Tests.{lt-ltb, le-ltb}
 use Rattle.integers.proofs.Lists.{flag}
-use Rattle.wire.specs.Part.{accepted}
+use Rattle.wire.specs.Part.{Reading, refused, accepted}
+use Rattle.wire.specs.Rows.{Progress}
+use Rattle.wire.proofs.Part.{NumberedReading, read_part_numbered, by_itself_numbered}
 use Rattle.wire.proofs.Accepting.{reached}
 use Rattle.register.specs.declared.Register.{Register}
-use Rattle.register.specs.declared.RegisterAnswer.{RegisterAnswer}
 use Rattle.register.specs.Register.{coefficient}
-use Rattle.register.specs.Format.{register_by_itself}
+use Rattle.register.specs.Format.{register_part, register_in_job, register_by_itself}
 use Rattle.register.specs.Answer.{register_answer}
-use Rattle.register.proofs.Opened.{Opened, opened}
+use Rattle.register.proofs.Opened.{Opened, opened_by}
 use Rattle.plan.specs.Fits.{fits}
 use Rattle.search.specs.Walk.{Best}
 use Rattle.search.specs.Answer.{search, refused_search, accepted_search, search_answer}
-use Rattle.search.proofs.Answers.{first_refused}
 use Rattle.search.proofs.Least.{NoneFits}
 use Rattle.search.proofs.Cheapest.{found_none}
 
@@ -67,19 +67,24 @@ pub record Searched (s : List ℕ) (limit : ℕ) (reg : Register) : Type 0 where
   pub met : (search (coefficient reg) reg).met ≡ true
   pub answers : search_answer s limit ≡ accepted_search (search (coefficient reg) reg)
 
+register_refused : (s : List ℕ) (limit : ℕ) {n at : ℕ} → register_by_itself s ≡ refused n at → search_answer s limit ≡ refused_search n 1 at
+unfolding search_answer
+register_refused s limit e = rw e
+
+register_numbered : (s : List ℕ) → NumberedReading (register_by_itself s)
+unfolding register_by_itself register_in_job
+register_numbered s = by_itself_numbered s (register_in_job s) (read_part_numbered register_part s)
+
 -- it is the register that the register's call answers
 pub searched : (s : List ℕ) (limit : ℕ) → (search_answer s limit).number ≡ 0 → Searched s limit (register_answer (register_by_itself s)).register
-searched s limit z = by (ℕ_discrete first.number 0)
+searched s limit z = by (register_by_itself s) refl (register_numbered s)
   where
-    first : RegisterAnswer
-    first = register_answer (register_by_itself s)
-
     go : (reg : Register) → Opened s reg → Dec (limit < (search (coefficient reg) reg).visits) → Searched s limit reg
     go reg o (yes l) = let n : ◌≡◌ {A = ℕ} 14 0 = sym (ap (λ a. a.number) (past_limit s reg o.reads limit l)) ∙ z in absurd (omega arith)
     go reg o (no l) = flag (search (coefficient reg) reg).met
         (λ m. record { first = o; within = omega arith; met = m; answers = within_limit s reg o.reads limit (omega arith) m })
         (λ m. let n : ◌≡◌ {A = ℕ} 16 0 = sym (ap (λ a. a.number) (none_fits s reg o.reads limit (omega arith) m)) ∙ z in absurd (omega arith))
 
-    by : Dec (first.number ≡ 0) → Searched s limit first.register
-    by (no h) = absurd (h (ap (λ a. a.number) (first_refused s first refl limit h) ∙ z))
-    by (yes h) = go first.register (opened s first refl h) (dec_lt limit _)
+    by : (x : Reading (Progress Register)) → register_by_itself s ≡ x → NumberedReading x → Searched s limit (register_answer x).register
+    by (refused n at) e d = absurd (d (sym (ap (λ a. a.number) (register_refused s limit e)) ∙ z))
+    by (accepted p end) e d = go p.parsed (opened_by s p.parsed (rw e)) (dec_lt limit _)

@@ -1,39 +1,27 @@
 -- The sum at a partial plan and its changes, term by term, and how large they become.
 use mathlib.Core.Path.{◌≡◌, refl, sym, subst}
-use mathlib.Core.Bool.{Bool, true, false, cond, true≢false}
+use mathlib.Core.Bool.{Bool, true, false, cond}
 use mathlib.Core.List.{List}
 use Prim.Native.Nat.{ℕ, suc, ◌+◌, ◌*◌, ◌≤◌, ◌<◌}
+use native.Mathlib.Numerals.{add-one}
 use native.Mathlib.Omega.{arith}
 use lib.ListN.{get_or}
 use lib.IntN.{ℤ, pos, negsuc, nat_abs, ◌+ℤ◌, +ℤ_assoc, +ℤ_idr}
-use lib.Signed.{lt_z, ◌≤ℤ◌, ≤ℤ_refl, clash_ℤ}
+use lib.Signed.{◌≤ℤ◌, ≤ℤ_refl}
 use Rattle.integers.specs.Sum.{sum_below}
 use Rattle.integers.proofs.Parts.{orders}
 use Rattle.integers.proofs.Sum.{sum_below-zero, sum_below-suc, nat_abs-sum}
-use Rattle.integers.proofs.Order.{nat_abs-+, pos_nonneg}
-use Rattle.integers.proofs.Machine.{lt_z-true}
+use Rattle.integers.proofs.Order.{nat_abs-+}
 use Rattle.sets.specs.Sets.{is_subset}
 use Rattle.register.specs.Limits.{max_base, max_terms, max_coefficient}
 use Rattle.search.specs.Sum.{negative, term_sum}
-use Rattle.search.specs.Lent.{Terms, mask_of, coefficient_of, Small, sum_to, positive, term_lost, term_gained, change_to}
+use Rattle.register.specs.declared.Register.{Register}
+use Rattle.register.specs.Register.{coefficient}
+use Rattle.register.specs.Valid.{Within}
+use native.Mathlib.Decide.{dec_lt}
+use Rattle.search.specs.Lent.{Terms, terms_in, mask_of, coefficient_of, Small, sum_to, positive, term_lost, term_gained, change_to}
 
 -- ---- a coefficient by its sign
-
-pub negative_below : (c : ℤ) → lt_z c (pos 0) ≡ true → c ≡ negative c
-negative_below (pos c) e = absurd (clash_ℤ (lt_z-true (pos c) (pos 0) e) (pos_nonneg c))
-negative_below (negsuc c) e = refl
-
-pub negative_above : (c : ℤ) → lt_z c (pos 0) ≡ false → pos 0 ≡ negative c
-negative_above (pos c) e = refl
-negative_above (negsuc c) e = absurd (true≢false e)
-
-pub positive_below : (c : ℤ) → lt_z c (pos 0) ≡ true → pos 0 ≡ positive c
-positive_below (pos c) e = absurd (clash_ℤ (lt_z-true (pos c) (pos 0) e) (pos_nonneg c))
-positive_below (negsuc c) e = refl
-
-pub positive_above : (c : ℤ) → lt_z c (pos 0) ≡ false → c ≡ positive c
-positive_above (pos c) e = refl
-positive_above (negsuc c) e = absurd (true≢false e)
 
 positive_small : (c : ℤ) → nat_abs (positive c) ≤ nat_abs c
 positive_small (pos c) = omega arith
@@ -81,6 +69,9 @@ module _ (base : ℤ) (r : Terms) (fed possible : ℕ) where
   unfolding sum_to
   sum_to-suc i = rw sum_below-suc (sym (+ℤ_assoc base _ _))
 
+  pub sum_to-next : (i : ℕ) → sum_to base r (i + 1) fed possible ≡ sum_to base r i fed possible +ℤ term_sum (coefficient_of r i) (mask_of r i) fed possible
+  sum_to-next i = rw add-one (sum_to-suc i)
+
   pub sum_to_small : nat_abs base ≤ max_base → Small r → (i : ℕ) → i ≤ r.count → nat_abs (sum_to base r i fed possible) ≤ max_base + max_terms * max_coefficient
   unfolding sum_to
   sum_to_small b w i l = omega (arith, nat_abs-+ base (sum_below i f), nat_abs-sum i max_coefficient f (λ t m. each t), w.count_within)
@@ -90,6 +81,15 @@ module _ (base : ℤ) (r : Terms) (fed possible : ℕ) where
 
       each : (t : ℕ) → nat_abs (f t) ≤ max_coefficient
       each t = omega (arith, term_small (coefficient_of r t) (mask_of r t) fed possible, w.coefficients_within t)
+
+-- ---- the terms of a register
+
+pub within_small : (r : Register) → Within r → Small (terms_in r)
+within_small r w = record { count_within = w.terms.few; coefficients_within = λ t. go t (dec_lt t r.terms) }
+  where
+    go : (t : ℕ) → Dec (t < r.terms) → nat_abs (coefficient r t) ≤ max_coefficient
+    go t (yes l) = (w.terms.each t l).coefficient_within
+    go t (no l) = rw (w.coefficients.rest t (omega arith)) (omega arith)
 
 -- ---- a change, place by place
 
@@ -102,6 +102,10 @@ module _ (adds : ℤ → ℕ → ℕ → ℤ) (masks : List ℕ) (coefficients :
       ≡ change_to adds masks coefficients from set i +ℤ adds (get_or coefficients (from + i) (pos 0)) (get_or masks (from + i) 0) set
   unfolding change_to
   change_to-suc i = sum_below-suc i _
+
+  pub change_to-next : (i : ℕ) → change_to adds masks coefficients from set (i + 1)
+      ≡ change_to adds masks coefficients from set i +ℤ adds (get_or coefficients (from + i) (pos 0)) (get_or masks (from + i) 0) set
+  change_to-next i = rw add-one (change_to-suc i)
 
   pub change_to_small : ((c : ℤ) (m s : ℕ) → nat_abs (adds c m s) ≤ nat_abs c) → (count : ℕ) → ((j : ℕ) → j < count → nat_abs (get_or coefficients (from + j) (pos 0)) ≤ max_coefficient) →
       (i : ℕ) → i ≤ count → nat_abs (change_to adds masks coefficients from set i) ≤ max_coefficient * i

@@ -6,16 +6,11 @@ use native.Mathlib.Nat.{pow-suc}
 use native.Mathlib.Omega.{arith}
 use lib.Pow.{pow_pos}
 use native.Mathlib.Decide.{dec_le}
-use lib.IntN.{ℤ, pos, negsuc, nat_abs}
-use lib.Signed.{le_z}
-use borrow.Author.Tests.{lt-leb}
+use lib.IntN.{ℤ}
 use Rattle.integers.proofs.Lists.{flag}
-use Rattle.search.specs.Walk.{Best, start, visited, better, is_left, walk}
-use Rattle.search.specs.Lent.{no_cost, Holds, UpTo}
-
--- one visit more
-pub visit : (w : Best) (plan : ℕ) (cost : ℤ) → Holds w plan cost → Holds (visited w) plan cost
-visit w plan cost h = record { some = h.some; none = h.none; below = h.below; within = h.within }
+use Rattle.search.specs.Walk.{Best, visited, better, is_left, walk}
+use Rattle.search.specs.declared.Walked.{Walked}
+use Rattle.search.specs.Lent.{walked_of, is_left_by, UpTo}
 
 module _ (sum : ℕ → ℕ → ℤ) (fits : ℕ → Bool) where
   -- by the test for leaving, and at a full plan the test of full plans
@@ -82,60 +77,43 @@ module _ (sum : ℕ → ℕ → ℤ) (fits : ℕ → Bool) where
 
   module _ (limit : ℕ) where
     -- the first visit passes the limit
-    pub up_to_first : (d fed : ℕ) (w : Best) (plan : ℕ) (cost : ℤ) → w.visits ≤ limit → Holds w plan cost → limit < w.visits + 1 → UpTo limit (walk sum fits d fed w) plan cost (w.visits + 1)
-    up_to_first d fed w plan cost k h l = record { same = λ m. absurd (omega (arith, walk_visits d fed w)); passed = λ m. l; stops = omega arith; within = h.within }
+    pub up_to_first : (d fed : ℕ) (w : Best) → w.visits ≤ limit → limit < w.visits + 1 → UpTo limit (walk sum fits d fed w) (walked_of (visited w)) false
+    up_to_first d fed w k l = record { same = λ m. absurd (omega (arith, walk_visits d fed w)); passed = λ m. refl; stops = omega arith }
 
-    pub up_to_left : (d fed : ℕ) (w : Best) (plan : ℕ) (cost : ℤ) → w.visits ≤ limit → Holds w plan cost → is_left (sum d fed) w ≡ true → UpTo limit (walk sum fits d fed w) plan cost (w.visits + 1)
-    up_to_left d fed w plan cost l h e = rw (walk_left d fed w e) (record { same = λ m. (visit w plan cost h, refl); passed = λ m. m; stops = omega arith; within = h.within })
+    pub up_to_left : (d fed : ℕ) (w : Best) → w.visits + 1 ≤ limit → is_left (sum d fed) w ≡ true → UpTo limit (walk sum fits d fed w) (walked_of (visited w)) true
+    up_to_left d fed w l e = rw (walk_left d fed w e) (record { same = λ m. (refl, refl); passed = λ m. absurd (omega arith); stops = omega arith })
 
-    pub up_to_full : (fed : ℕ) (w : Best) → w.visits ≤ limit → nat_abs (sum 0 fed) < no_cost → is_left (sum 0 fed) w ≡ false → fits fed ≡ true →
-        UpTo limit (walk sum fits 0 fed w) fed (sum 0 fed) (w.visits + 1)
-    up_to_full fed w l b e f =
-        rw (walk_full fed w e f) (record {
-          same = λ m. (record { some = λ i. (refl, refl); none = λ i. absurd (true≢false i); below = λ i. b; within = omega arith }, refl);
-          passed = λ m. m;
-          stops = omega arith;
-          within = omega arith;
-        })
+    pub up_to_full : (fed : ℕ) (w : Best) → w.visits + 1 ≤ limit → is_left (sum 0 fed) w ≡ false → fits fed ≡ true →
+        UpTo limit (walk sum fits 0 fed w) (walked_of (better fed (sum 0 fed) (visited w))) true
+    up_to_full fed w l e f = rw (walk_full fed w e f) (record { same = λ m. (refl, refl); passed = λ m. absurd (omega arith); stops = omega arith })
 
     -- a full plan that does not fit changes nothing
-    pub up_to_unfit : (fed : ℕ) (w : Best) (plan : ℕ) (cost : ℤ) → w.visits ≤ limit → Holds w plan cost → fits fed ≡ false → UpTo limit (walk sum fits 0 fed w) plan cost (w.visits + 1)
-    up_to_unfit fed w plan cost l h f = rw (walk_unfit fed w f) (record { same = λ m. (visit w plan cost h, refl); passed = λ m. m; stops = omega arith; within = h.within })
+    pub up_to_unfit : (fed : ℕ) (w : Best) → w.visits + 1 ≤ limit → fits fed ≡ false → UpTo limit (walk sum fits 0 fed w) (walked_of (visited w)) true
+    up_to_unfit fed w l f = rw (walk_unfit fed w f) (record { same = λ m. (refl, refl); passed = λ m. absurd (omega arith); stops = omega arith })
 
     -- below the unfed choice the code has come to this
-    module _ (d fed : ℕ) (w : Best) (plan : ℕ) (cost : ℤ) (visits : ℕ) (e : is_left (sum (suc d) fed) w ≡ false) (h : UpTo limit (walk sum fits d fed (visited w)) plan cost visits) where
+    module _ (d fed : ℕ) (w : Best) (walked : Walked) (ok : Bool) (e : is_left (sum (suc d) fed) w ≡ false) (h : UpTo limit (walk sum fits d fed (visited w)) walked ok) where
       abbrev pub u : Best
       u = walk sum fits d fed (visited w)
 
-      pub up_to_unfed : limit < visits → UpTo limit (walk sum fits (suc d) fed w) plan cost visits
-      up_to_unfed l = rw (walk_on d fed w e) (record {
-        same = λ m. let k = walk_visits d (fed + 2 ^ d) u in absurd (omega (arith, (h.same (omega arith)).1));
-        passed = λ m. l;
+      pub up_to_unfed : ok ≡ false → UpTo limit (walk sum fits (suc d) fed w) walked ok
+      up_to_unfed f = rw (walk_on d fed w e) (record {
+        same = λ m. let k = walk_visits d (fed + 2 ^ d) u in absurd (true≢false (sym (h.same (omega arith)).1 ∙ f));
+        passed = λ m. f;
         stops = h.stops;
-        within = h.within;
       })
 
       -- it goes on from there
-      pub up_to_same : visits ≤ limit → Holds u plan cost × (u.visits ≡ visits)
-      up_to_same l = go (dec_le u.visits limit)
+      pub up_to_same : ok ≡ true → walked ≡ walked_of u
+      up_to_same z = go (dec_le u.visits limit)
         where
-          go : Dec (u.visits ≤ limit) → Holds u plan cost × (u.visits ≡ visits)
-          go (yes m) = let (held, same) = h.same m in (held, sym same)
-          go (no m) = absurd (omega (arith, h.passed (omega arith)))
+          go : Dec (u.visits ≤ limit) → walked ≡ walked_of u
+          go (yes m) = (h.same m).0
+          go (no m) = absurd (true≢false (sym z ∙ h.passed (omega arith)))
 
-      pub up_to_fed : (plan' : ℕ) (cost' : ℤ) (visits' : ℕ) → UpTo limit (walk sum fits d (fed + 2 ^ d) u) plan' cost' visits' → UpTo limit (walk sum fits (suc d) fed w) plan' cost' visits'
-      up_to_fed plan' cost' visits' k = rw (walk_on d fed w e) k
+      pub up_to_fed : (walked' : Walked) (ok' : Bool) → UpTo limit (walk sum fits d (fed + 2 ^ d) u) walked' ok' → UpTo limit (walk sum fits (suc d) fed w) walked' ok'
+      up_to_fed walked' ok' k = rw (walk_on d fed w e) k
 
--- the test for leaving, by the cost that the code keeps
-pub left_held : (w : Best) (plan : ℕ) (cost s : ℤ) → Holds w plan cost → nat_abs s < no_cost → le_z cost s ≡ is_left s w
-left_held w plan cost s h l = flag w.met
-    (λ e. rw (e, (h.some e).1))
-    (λ e. rw (e, h.none e) (above s l))
-  where
-    above : (s : ℤ) → nat_abs s < no_cost → le_z (pos no_cost) s ≡ false
-    above (pos n) l = lt-leb _ _ l
-    above (negsuc n) l = refl
-
--- nothing met yet
-pub held_start : (plan : ℕ) → Holds start plan (pos no_cost)
-held_start plan = record { some = λ e. absurd (true≢false (sym e)); none = λ e. refl; below = λ e. absurd (true≢false (sym e)); within = omega arith }
+-- the test for leaving, by what the code keeps
+pub left_held : (w : Best) (s : ℤ) → is_left_by (walked_of w).best s ≡ is_left s w
+left_held w s = flag w.met (λ e. rw e) (λ e. rw e)

@@ -1,9 +1,12 @@
 -- What the search call answers.
-use Rattle.std.specs.Prelude.{ℕ, cond, List, ltb, ℤ, pos}
+use Rattle.std.specs.Prelude.{ℕ, cond, List, ltb, ℤ, pos, Result, Ok, Err}
+use Rattle.wire.specs.declared.refusals.Refusal.{Refusal}
 use Rattle.wire.specs.Outcome.{Outcome, refuses, accepts, and_then, answer_by}
+use Rattle.wire.specs.Results.{number_of}
 use Rattle.register.specs.declared.Register.{Register}
 use Rattle.register.specs.Register.{coefficient}
 use Rattle.register.specs.Opening.{open_register}
+use Rattle.search.specs.declared.Found.{Found}
 use Rattle.search.specs.declared.SearchAnswer.{SearchAnswer}
 use Rattle.plan.specs.Fits.{fits}
 use Rattle.search.specs.Sum.{sum}
@@ -31,3 +34,12 @@ accepted_search w = record { number = 0; part = 0; position = 0; plan = w.plan; 
 
 unfoldable pub search_answer : List ℕ → ℕ → SearchAnswer
 search_answer register limit = answer_by refused_search accepted_search (search_outcome register limit)
+
+-- what is answered of a search, as the code has it: no command causes its refusals
+
+abbrev pub found_search : Found → SearchAnswer
+found_search found = record { number = 0; part = 0; position = 0; plan = found.plan; cost = found.cost; visits = found.visits }
+
+abbrev pub told_search : Result Found Refusal → SearchAnswer
+told_search (Ok found) = found_search found
+told_search (Err refusal) = refused_search (number_of refusal) 0 0

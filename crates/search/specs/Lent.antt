@@ -1,10 +1,13 @@
 -- What the code is lent of a register, the lists that it keeps, how the sum follows from choice to choice, and where it stops.
-use Rattle.std.specs.Prelude.{ℕ, ◌+◌, ◌-◌, ◌*◌, ◌%◌, ◌^◌, ◌≤◌, ◌<◌, ◌≡◌, Bool, true, false, cond, ◌&&◌, ◌||◌, List, eqb, get_or, ℤ, pos, negsuc, nat_abs, ◌+ℤ◌}
-use Rattle.std.specs.Int.Signed.{lt_z}
+use Rattle.std.specs.Prelude.{ℕ, ◌+◌, ◌*◌, ◌%◌, ◌^◌, ◌≤◌, ◌<◌, ◌≡◌, Bool, true, false, cond, ◌&&◌, ◌||◌, List, eqb, get_or, ℤ, pos, negsuc, nat_abs, ◌+ℤ◌, Option, Some, None}
+use Rattle.std.specs.Int.Signed.{lt_z, le_z}
 use Rattle.integers.specs.Sum.{sum_below}
 use Rattle.sets.specs.Sets.{is_member, is_subset}
 use Rattle.register.specs.Limits.{max_base, max_choices, max_terms, max_coefficient}
-use Rattle.search.specs.declared.Change.{Change}
+use Rattle.register.specs.declared.Register.{Register}
+use Rattle.search.specs.declared.lists.Change.{Change}
+use Rattle.search.specs.declared.Met.{Met}
+use Rattle.search.specs.declared.Walked.{Walked}
 use Rattle.search.specs.Sum.{possible, negative, term_sum}
 use Rattle.search.specs.Walk.{Best}
 
@@ -17,6 +20,10 @@ pub record Terms : Type 0 where
 
 abbrev pub terms_of : ℕ → List ℕ → List ℤ → Terms
 terms_of count masks coefficients = record { count = count; masks = masks; coefficients = coefficients }
+
+-- of a register
+abbrev pub terms_in : Register → Terms
+terms_in r = terms_of r.terms r.masks r.coefficients
 
 abbrev pub mask_of : Terms → ℕ → ℕ
 mask_of r t = get_or r.masks t 0
@@ -108,20 +115,18 @@ pub record At (masks : List ℕ) (coefficients : List ℤ) (counts : List ℕ) (
   pub inside : fed + 2 ^ d ≤ 2 ^ max_choices
   pub sum_is : s ≡ lent_sum base terms d fed
 
--- the cost that the code keeps while no full plan that fits has been met, above every sum
-abbrev pub no_cost : ℕ
-no_cost = 2 ^ 63 - 1
+-- what the code keeps of a walk: the best plan with its cost, where a full plan that fits has been met, and the visits
+abbrev pub walked_of : Best → Walked
+walked_of w = record { best = cond w.met (Some (record { plan = w.plan; cost = w.cost })) None; visits = w.visits }
 
--- the plan and the cost that the code keeps are those of a walk
-pub record Holds (w : Best) (plan : ℕ) (cost : ℤ) : Type 0 where
-  pub some : w.met ≡ true → (plan ≡ w.plan) × (cost ≡ w.cost)
-  pub none : w.met ≡ false → cost ≡ pos no_cost
-  pub below : w.met ≡ true → nat_abs cost < no_cost
-  pub within : nat_abs cost ≤ no_cost
+-- the test for leaving, by what the code keeps
+abbrev pub is_left_by : Option Met → ℤ → Bool
+is_left_by None s = false
+is_left_by (Some best) s = le_z best.cost s
 
--- what the code has come to, where the walk w may pass the limit: w itself, or more visits than the limit, by one
-pub record UpTo (limit : ℕ) (w : Best) (plan : ℕ) (cost : ℤ) (visits : ℕ) : Type 0 where
-  pub same : w.visits ≤ limit → Holds w plan cost × (visits ≡ w.visits)
-  pub passed : limit < w.visits → limit < visits
-  pub stops : visits ≤ limit + 1
-  pub within : nat_abs cost ≤ no_cost
+-- what the code has come to, where the walk w may pass the limit, and whether it is not refused: w itself, or the refusal with more
+-- visits than the limit, by one
+pub record UpTo (limit : ℕ) (w : Best) (walked : Walked) (ok : Bool) : Type 0 where
+  pub same : w.visits ≤ limit → (walked ≡ walked_of w) × (ok ≡ true)
+  pub passed : limit < w.visits → ok ≡ false
+  pub stops : walked.visits ≤ limit + 1

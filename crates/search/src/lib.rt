@@ -5,51 +5,49 @@
 mod lists;
 mod terms;
 
-ghost use Rattle.std.specs.Prelude.{◌≡◌, ◌^◌, ◌≤◌, ◌<◌, nat_abs};
-ghost use Rattle.register.specs.Limits.{max_base, max_choices, max_rows};
-ghost use Rattle.plan.specs.Fits.{stored_fits};
-ghost use Rattle.search.specs.Walk.{Best, start, walk};
-ghost use Rattle.search.specs.Answer.{refused_search, search_answer};
-ghost use Rattle.search.specs.Lent.{terms_of, Small, lent_sum, At, Holds, UpTo};
+ghost use Rattle.std.specs.Prelude.{◌≡◌, ◌^◌, ◌≤◌, ◌<◌, OnOk, is_ok};
+ghost use Rattle.wire.specs.Outcome.{answer_by};
+ghost use Rattle.wire.specs.Results.{number_of, outcome_of};
+ghost use Rattle.wire.specs.declared.refusals.Refusal.TheVariants.{PastLimit};
+ghost use Rattle.register.specs.Limits.{max_choices, max_rows};
+ghost use Rattle.register.specs.Register.{coefficient};
+ghost use Rattle.register.specs.Valid.{Within};
+ghost use Rattle.plan.specs.Fits.{fits};
+ghost use Rattle.search.specs.Walk.{Best, walk};
+ghost use Rattle.search.specs.Answer.{search, within_limit, refused_search, accepted_search, found_search, told_search, search_answer};
+ghost use Rattle.search.specs.Lent.{lent_sum, At, is_left_by, walked_of, UpTo};
 
-use lists::{change_of, list_all};
+use lists::TermLists;
 use plan::fits_rows;
-use register::Register;
+use register::{Register, open_register};
 use terms::sum_at;
+use wire::{Fault, Refusal};
 
-// What a search has found: the best plan, its cost, and the number of partial plans visited.
-#[derive(Clone, Copy)]
-pub struct Found {
+// A full plan that fits, and its cost.
+#[derive(Clone, Copy, Debug, PartialEq, Eq)]
+pub struct Met {
     pub plan: u32,
     pub cost: i64,
+}
+
+// What a walk has come to: the best full plan met so far, and the number of partial plans visited.
+#[derive(Clone, Copy, Debug, PartialEq, Eq)]
+pub struct Walked {
+    pub best: Option<Met>,
     pub visits: u64,
 }
 
-impl Found {
-    // The cost that is kept while no full plan that fits has been met, above every sum.
-    const NO_COST: i64 = 9_223_372_036_854_775_807;
-}
-
-// How the sum changes when a choice is decided: what it loses unfed, a number of at most 0 that no longer counts, and what it
-// gains fed.
-#[derive(Clone, Copy)]
-pub struct Change {
-    pub lost: i32,
-    pub gained: i32,
-}
-
-// Lists of terms, one for each choice.
-#[derive(Clone, Copy)]
-pub struct TermLists;
-
-impl TermLists {
-    // As many places for each choice as there can be terms.
-    pub const PLACES: usize = Register::MAX_CHOICES * Register::MAX_TERMS;
+// What a search has found: the cheapest plan that fits, its cost, and the number of partial plans visited.
+#[derive(Clone, Copy, Debug, PartialEq, Eq)]
+pub struct Found {
+    pub plan: u32,
+    pub cost: i64,
+    pub visits: u32,
 }
 
 // The answer of the call: a refusal's number, part and position, or zeros and the plan, its cost and the visits.
 #[repr(C)]
-#[derive(Clone, Copy)]
+#[derive(Clone, Copy, Debug, PartialEq, Eq)]
 pub struct SearchAnswer {
     pub number: u8,
     pub part: u8,
@@ -59,14 +57,26 @@ pub struct SearchAnswer {
     pub visits: u32,
 }
 
+// More partial plans would be visited than the limit.
+#[derive(Clone, Copy, Debug, PartialEq, Eq)]
+pub struct PastLimit;
+
+impl From<PastLimit> for Refusal {
+    ghost from_gives = { λ _ refusal. refusal ≡ PastLimit };
+
+    fn from(_e: PastLimit) -> Refusal {
+        Refusal::PastLimit
+    }
+}
+
 impl SearchAnswer {
-    fn refused(number: u8, part: u8, position: usize) -> SearchAnswer
-        ensures { result ≡ refused_search number part position }
+    fn from_fault(fault: Fault) -> SearchAnswer
+        ensures { result ≡ refused_search (number_of fault.refusal) fault.part fault.position }
     {
         SearchAnswer {
-            number: number,
-            part: part,
-            position: position,
+            number: fault.refusal.number(),
+            part: fault.part,
+            position: fault.position,
             plan: 0,
             cost: 0,
             visits: 0,
@@ -74,145 +84,92 @@ impl SearchAnswer {
     }
 }
 
-// The walk from a partial plan on, up to the first visit that passes the limit. Sets and amounts are the masks and the
-// coefficients of the listed terms, the sum is that at the partial plan, plan and cost are the best so far. A full plan counts where
-// it fits the rows, of so many choices. Returns how many partial plans are then visited. The promise is for every base cost and terms
-// that have this sum and these lists, and for every walk so far that has come to this.
-fn walk<'a>(
-    sets: &'a [u32; TermLists::PLACES],
-    amounts: &'a [i32; TermLists::PLACES],
-    counts: &'a [usize; Register::MAX_CHOICES],
-    row_totals: &'a [i16; Register::MAX_ROWS],
-    row_entries: &'a [i8; Register::MAX_ROWS * Register::ROW_ENTRIES],
-    rows: usize,
-    choices: usize,
+impl Walked {
+    // A partial plan with this sum is left: a full plan has been met that costs no more.
+    fn is_left(&self, sum: i64) -> bool
+        ensures { result ≡ is_left_by self.now.best sum }
+    {
+        self.best.is_some_and(|best| best.cost <= sum)
+    }
+}
+
+// The walk from a partial plan on, refused at the first visit that passes the limit. The sum is that at the partial plan. A full plan
+// counts where it fits the rows. The promise is for every base cost and terms that have this sum and these lists, and for every walk
+// so far that has come to this.
+fn walk(
+    lists: &TermLists,
+    register: &Register,
     limit: u64,
     undecided: usize,
     fed: u32,
     sum: i64,
-    visits: u64,
-    plan: &mut u32,
-    cost: &mut i64,
-) -> u64
-    requires at { At sets.now amounts.now counts.now undecided fed sum }
-    requires lent_rows { (rows ≤ max_rows) × (choices ≤ max_choices) }
-    requires visits_le_limit { visits ≤ limit }
+    walked: &mut Walked,
+) -> Result<(), PastLimit>
+    requires at { At lists.now.masks lists.now.coefficients lists.now.counts undecided fed sum }
+    requires choices_within { register.now.choices ≤ max_choices }
+    requires rows_within { register.now.rows ≤ max_rows }
+    requires visits_le_limit { walked.old.visits ≤ limit }
     requires limit_bound { limit < 2 ^ 32 }
-    ensures { (a : At sets.now amounts.now counts.now undecided fed sum) (w : Best) →
-        Holds w plan.old cost.old → w.visits ≡ visits →
-        UpTo limit (walk (lent_sum a.base a.terms) (stored_fits row_totals.now row_entries.now rows choices) undecided fed w) plan.new cost.new result }
+    ensures within { OnOk result (walked.new.visits ≤ limit) }
+    ensures reached { (a : At lists.now.masks lists.now.coefficients lists.now.counts undecided fed sum) (w : Best) →
+        walked.old ≡ walked_of w →
+        UpTo limit (walk (lent_sum a.base a.terms) (fits register.now) undecided fed w) walked.new (is_ok result) }
 {
-    let here = visits + 1;
-    if limit < here {
-        return here;
+    walked.visits += 1;
+    if limit < walked.visits {
+        return Err(PastLimit);
     }
-    if *cost <= sum {
-        return here;
+    if walked.is_left(sum) {
+        return Ok(());
     }
     if undecided == 0 {
-        if !fits_rows(row_totals, row_entries, rows, choices, fed) {
-            return here;
+        if fits_rows(register, fed) {
+            walked.best = Some(Met {
+                plan: fed,
+                cost: sum,
+            });
         }
-        *plan = fed;
-        *cost = sum;
-        return here;
+        return Ok(());
     }
     let k = undecided - 1;
     let more = fed + (1u32 << k);
     let possible = more + ((1u32 << k) - 1);
-    let change = change_of(
-        sets,
-        amounts,
-        k * Register::MAX_TERMS,
-        counts[k],
-        possible,
-        more,
-    );
-    let unfed_sum = sum - change.lost as i64;
-    let fed_sum = sum + change.gained as i64;
-    let unfed = walk(
-        sets,
-        amounts,
-        counts,
-        row_totals,
-        row_entries,
-        rows,
-        choices,
-        limit,
-        k,
-        fed,
-        unfed_sum,
-        here,
-        plan,
-        cost,
-    );
-    if limit < unfed {
-        return unfed;
-    }
-    walk(
-        sets,
-        amounts,
-        counts,
-        row_totals,
-        row_entries,
-        rows,
-        choices,
-        limit,
-        k,
-        more,
-        fed_sum,
-        unfed,
-        plan,
-        cost,
-    )
+    let change = lists.change_of(k, possible, more);
+    let unfed_sum = sum - i64::from(change.lost);
+    let fed_sum = sum + i64::from(change.gained);
+    walk(lists, register, limit, k, fed, unfed_sum, walked)?;
+    walk(lists, register, limit, k, more, fed_sum, walked)
 }
 
-// The walk from the empty partial plan of n choices on.
-fn search_from<'a>(
-    masks: &'a [u32; Register::MAX_TERMS],
-    coefficients: &'a [i32; Register::MAX_TERMS],
-    base: i32,
-    terms: usize,
-    row_totals: &'a [i16; Register::MAX_ROWS],
-    row_entries: &'a [i8; Register::MAX_ROWS * Register::ROW_ENTRIES],
-    rows: usize,
-    n: usize,
-    limit: u32,
-) -> Found
-    requires base_bound { nat_abs base ≤ max_base }
-    requires small { Small (terms_of terms masks.now coefficients.now) }
-    requires rows_le_max_rows { rows ≤ max_rows }
-    requires n_le_max_choices { n ≤ max_choices }
-    ensures { UpTo limit (walk (lent_sum base (terms_of terms masks.now coefficients.now)) (stored_fits row_totals.now row_entries.now rows n) n 0 start) result.plan result.cost result.visits }
+// The search of a register, from the empty partial plan on: the cheapest plan that fits.
+fn search_from(register: &Register, limit: u32) -> Result<Found, Refusal>
+    requires { Within register.now }
+    ensures { told_search result ≡ answer_by refused_search accepted_search (within_limit limit (search (coefficient register.now) register.now)) }
 {
-    let mut sets = [0u32; TermLists::PLACES];
-    let mut amounts = [0i32; TermLists::PLACES];
-    let counts = list_all(masks, coefficients, terms, n, &mut sets, &mut amounts);
+    let mut lists = TermLists::fresh();
+    lists.list_all(register);
+    let n = register.choices;
     let possible = ((1u64 << n) - 1) as u32;
-    let sum = sum_at(masks, coefficients, base, terms, 0, possible);
-    let mut plan: u32 = 0;
-    let mut cost = Found::NO_COST;
-    let visits = walk(
-        &sets,
-        &amounts,
-        &counts,
-        row_totals,
-        row_entries,
-        rows,
-        n,
-        limit as u64,
-        n,
-        0,
-        sum,
-        0,
-        &mut plan,
-        &mut cost,
-    );
-    Found {
-        plan: plan,
-        cost: cost,
-        visits: visits,
-    }
+    let sum = sum_at(register, 0, possible);
+    let mut walked = Walked {
+        best: None,
+        visits: 0,
+    };
+    walk(&lists, register, u64::from(limit), n, 0, sum, &mut walked)?;
+    let best = walked.best.ok_or(Refusal::NoneFits)?;
+    Ok(Found {
+        plan: best.plan,
+        cost: best.cost,
+        visits: walked.visits as u32,
+    })
+}
+
+// The search of a register, from the bytes of part 1.
+fn search_register(register: &[u8], limit: u32) -> Result<Found, Fault>
+    ensures { answer_by refused_search found_search (outcome_of result) ≡ search_answer register.now limit }
+{
+    let register = open_register(register)?;
+    search_from(&register, limit).map_err(Fault::nowhere)
 }
 
 // The cheapest plan of a register that fits, from the bytes of part 1, or refusal 14 where the visits would pass the limit, and then
@@ -221,39 +178,15 @@ fn search_from<'a>(
 pub extern "C" fn feedcheck_search(register: &[u8], limit: u32) -> SearchAnswer
     ensures { result ≡ search_answer register.now limit }
 {
-    let first = register::feedcheck_register(register);
-    let number = first.number;
-    if number != 0 {
-        return SearchAnswer::refused(number, 1, first.position);
-    }
-    let record = first.register;
-    let base = record.base;
-    let terms = record.terms;
-    let n = record.choices;
-    let found = search_from(
-        &record.masks,
-        &record.coefficients,
-        base,
-        terms,
-        &record.row_totals,
-        &record.row_entries,
-        record.rows,
-        n,
-        limit,
-    );
-    let most = limit as u64;
-    if most < found.visits {
-        return SearchAnswer::refused(14, 0, 0);
-    }
-    if found.cost == Found::NO_COST {
-        return SearchAnswer::refused(16, 0, 0);
-    }
-    SearchAnswer {
-        number: 0,
-        part: 0,
-        position: 0,
-        plan: found.plan,
-        cost: found.cost,
-        visits: found.visits as u32,
+    match search_register(register, limit) {
+        Ok(found) => SearchAnswer {
+            number: 0,
+            part: 0,
+            position: 0,
+            plan: found.plan,
+            cost: found.cost,
+            visits: found.visits,
+        },
+        Err(fault) => SearchAnswer::from_fault(fault),
     }
 }

@@ -1,105 +1,105 @@
-// For each choice the terms whose part of the sum may change when it is decided, listed once, and the change that they make.
-ghost use Rattle.std.specs.Prelude.{◌≡◌, cond, ℕ, ◌+◌, ◌*◌, ◌≤◌, ◌<◌, length, get_or, pos, nat_abs};
+// For each choice the terms whose part of the sum may change when it is decided, and the change that they make.
+ghost use Rattle.std.specs.Prelude.{◌≡◌, ℕ, ◌+◌, ◌*◌, ◌≤◌, ◌<◌, get_or, pos, nat_abs};
 ghost use Rattle.register.specs.Limits.{max_choices, max_terms, max_coefficient};
-ghost use Rattle.search.specs.Lent.{terms_of, Small, places, is_listed, ListedUnder, AllListed, Kept, change_of};
+ghost use Rattle.register.specs.Valid.{Within};
+ghost use Rattle.search.specs.Lent.{terms_in, is_listed, ListedUnder, AllListed, Kept, term_gained, change_of};
 
-use super::terms::{gained_by, lost_by};
-use super::{Change, TermLists};
+use super::terms::lost_by;
+use plan::choice_sets::{has, where_within};
 use register::Register;
 
-// 1 or 0.
-fn one_where(b: bool) -> usize
-    ensures { result ≡ cond b 1 0 }
-{
-    if b { 1 } else { 0 }
+// How the sum changes when a choice is decided: what it loses unfed, a number of at most 0 that no longer counts, and what it
+// gains fed.
+#[derive(Clone, Copy, Debug, PartialEq, Eq)]
+pub struct Change {
+    pub lost: i32,
+    pub gained: i32,
+}
+
+// The listed terms: masks and coefficients in as many places for each choice as there can be terms, and how many they are.
+#[derive(Clone, Copy)]
+pub struct TermLists {
+    pub masks: [u32; TermLists::PLACES],
+    pub coefficients: [i32; TermLists::PLACES],
+    pub counts: [usize; Register::MAX_CHOICES],
 }
 
 // A term is listed under choice k: it names k, and its coefficient is negative or it names no lower choice.
+#[tactic(auto, unfolding(crate::specs::Lent::is_listed))]
 fn is_listed(mask: u32, coefficient: i32, k: usize) -> bool
     requires { k < max_choices }
     ensures { result ≡ is_listed k mask coefficient }
 {
-    let named = (mask >> k) % 2 == 1;
     let lowest = mask % (1u32 << k) == 0;
-    named & ((coefficient < 0) | lowest)
+    has(mask, k) & ((coefficient < 0) | lowest)
 }
 
-// Lists terms under choice k, their masks in `sets` and their coefficients in `amounts`. Returns how many they are.
-fn list_terms<'a>(
-    masks: &'a [u32; Register::MAX_TERMS],
-    coefficients: &'a [i32; Register::MAX_TERMS],
-    terms: usize,
-    k: usize,
-    sets: &mut [u32],
-    amounts: &mut [i32],
-) -> usize
-    requires small { Small (terms_of terms masks.now coefficients.now) }
-    requires k_lt_max_choices { k < max_choices }
-    requires sets_len { length sets.old ≡ places }
-    requires amounts_len { length amounts.old ≡ places }
-    ensures listed_under { ListedUnder (terms_of terms masks.now coefficients.now) terms k sets.new amounts.new result }
-    ensures kept { Kept 0 (k * max_terms) sets.old sets.new }
-    ensures kept_2 { Kept (pos 0) (k * max_terms) amounts.old amounts.new }
+// What a term gains when its lowest choice, the last to be decided, is fed like the others: its coefficient, if positive.
+fn gained_by(mask: u32, coefficient: i32, fed: u32) -> i32
+    ensures { result ≡ term_gained coefficient mask fed }
 {
-    let mut count = 0;
-    for t in 0..terms {
-        let mask = masks[t];
-        let coefficient = coefficients[t];
-        // The place is taken by the next term where this one is not listed.
-        sets[k * Register::MAX_TERMS + count] = mask;
-        amounts[k * Register::MAX_TERMS + count] = coefficient;
-        count += one_where(is_listed(mask, coefficient, k));
-    }
-    count
+    where_within(mask, fed, coefficient.max(0))
 }
 
-// Lists terms under each of n choices. Returns how many they are for each.
-pub fn list_all<'a>(
-    masks: &'a [u32; Register::MAX_TERMS],
-    coefficients: &'a [i32; Register::MAX_TERMS],
-    terms: usize,
-    n: usize,
-    sets: &mut [u32],
-    amounts: &mut [i32],
-) -> [usize; Register::MAX_CHOICES]
-    requires small { Small (terms_of terms masks.now coefficients.now) }
-    requires n_le_max_choices { n ≤ max_choices }
-    requires sets_len { length sets.old ≡ places }
-    requires amounts_len { length amounts.old ≡ places }
-    ensures { AllListed (terms_of terms masks.now coefficients.now) n sets.new amounts.new result }
-{
-    let mut counts = [0; Register::MAX_CHOICES];
-    for k in 0..n {
-        counts[k] = list_terms(masks, coefficients, terms, k, sets, amounts);
-    }
-    counts
-}
+impl TermLists {
+    const PLACES: usize = Register::MAX_CHOICES * Register::MAX_TERMS;
 
-// What the sum loses where a choice is decided unfed and gains where it is decided fed, by the terms listed in some places: by the
-// choices possible before, and those then fed.
-pub fn change_of<'a>(
-    sets: &'a [u32; TermLists::PLACES],
-    amounts: &'a [i32; TermLists::PLACES],
-    from: usize,
-    count: usize,
-    possible: u32,
-    fed: u32,
-) -> Change
-    requires by_index { (j : ℕ) → j < count → nat_abs (get_or amounts.now (from + j) (pos 0)) ≤ max_coefficient }
-    requires count_le_max_terms { count ≤ max_terms }
-    requires max_terms_bound { from + max_terms ≤ places }
-    ensures { result ≡ change_of sets.now amounts.now from count possible fed }
-{
-    let mut lost: i32 = 0;
-    let mut gained: i32 = 0;
-    for j in 0..count {
-        let mask = sets[from + j];
-        let coefficient = amounts[from + j];
-        lost += lost_by(mask, coefficient, possible);
-        gained += gained_by(mask, coefficient, fed);
+    pub fn fresh() -> TermLists {
+        TermLists {
+            masks: [0; TermLists::PLACES],
+            coefficients: [0; TermLists::PLACES],
+            counts: [0; Register::MAX_CHOICES],
+        }
     }
-    Change {
-        lost: lost,
-        gained: gained,
+
+    // Lists the terms of a register under choice k. Returns how many they are.
+    fn list_terms(&mut self, register: &Register, k: usize) -> usize
+        requires within { Within register.now }
+        requires k_lt_max_choices { k < max_choices }
+        ensures listed_under { ListedUnder (terms_in register.now) register.now.terms k self.new.masks self.new.coefficients result }
+        ensures masks_kept { Kept 0 (k * max_terms) self.old.masks self.new.masks }
+        ensures coefficients_kept { Kept (pos 0) (k * max_terms) self.old.coefficients self.new.coefficients }
+        ensures counts_kept { self.new.counts ≡ self.old.counts }
+    {
+        let mut count = 0;
+        for t in 0..register.terms {
+            let mask = register.masks[t];
+            let coefficient = register.coefficients[t];
+            // The place is taken by the next term where this one is not listed.
+            self.masks[k * Register::MAX_TERMS + count] = mask;
+            self.coefficients[k * Register::MAX_TERMS + count] = coefficient;
+            count += usize::from(is_listed(mask, coefficient, k));
+        }
+        count
+    }
+
+    // Lists the terms of a register under each of its choices.
+    pub fn list_all(&mut self, register: &Register)
+        requires { Within register.now }
+        ensures { AllListed (terms_in register.now) register.now.choices self.new.masks self.new.coefficients self.new.counts }
+    {
+        for k in 0..register.choices {
+            self.counts[k] = self.list_terms(register, k);
+        }
+    }
+
+    // What the sum loses where choice k is decided unfed and gains where it is decided fed, by the terms listed under it: by the
+    // choices possible before, and those then fed.
+    pub fn change_of(&self, k: usize, possible: u32, fed: u32) -> Change
+        requires small { (j : ℕ) → j < get_or self.now.counts k 0 → nat_abs (get_or self.now.coefficients (k * max_terms + j) (pos 0)) ≤ max_coefficient }
+        requires count_within { get_or self.now.counts k 0 ≤ max_terms }
+        requires k_lt_max_choices { k < max_choices }
+        ensures { result ≡ change_of self.now.masks self.now.coefficients (k * max_terms) (get_or self.now.counts k 0) possible fed }
+    {
+        let from = k * Register::MAX_TERMS;
+        let mut lost = 0;
+        let mut gained = 0;
+        for j in 0..self.counts[k] {
+            let mask = self.masks[from + j];
+            let coefficient = self.coefficients[from + j];
+            lost += lost_by(mask, coefficient, possible);
+            gained += gained_by(mask, coefficient, fed);
+        }
+        Change { lost, gained }
     }
 }

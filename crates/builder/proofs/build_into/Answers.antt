@@ -1,13 +1,10 @@
 -- By what opening the register, the builder and the writer ensure.
 use Rattle.std.proofs.Common.{rules}
-use mathlib.Core.Path.{◌≡◌, sym, ◌∙◌, ap}
+use mathlib.Core.Path.{◌≡◌, sym, ◌∙◌}
 use native.Mathlib.Omega.{arith}
-use Rattle.wire.specs.Writer.{refused_answer}
-use Rattle.register.specs.Position.{term_position}
 use Rattle.register.proofs.Opened.{opened_by}
 use Rattle.builder.specs.Builder.{built, build}
-use Rattle.builder.specs.Work.{writer_answer}
-use Rattle.builder.proofs.Answers.{build_refused, build_full, build_whole}
+use Rattle.builder.proofs.Answers.{build_whole}
 use Rattle.builder.proofs.Validity.{build_valid}
 use Rattle.builder.proofs.build_into.Goals as goal
 

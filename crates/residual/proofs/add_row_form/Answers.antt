@@ -1,6 +1,5 @@
 use Prim.Native.Nat.{ℕ, ◌+◌, ◌*◌, ◌≤◌, ◌<◌}
-use mathlib.Core.Path.{◌≡◌, ◌∙◌}
-use mathlib.Core.List.{List}
+use mathlib.Core.Path.{◌≡◌}
 use native.Mathlib.Numerals.{add-one}
 use native.Mathlib.Decide.{ℕ_discrete}
 use native.Mathlib.Omega.{arith}
@@ -11,8 +10,10 @@ use mir.Val.{SFits, to_z, of_z}
 use borrow.Author.Rules.{rules}
 use Rattle.integers.proofs.Order.{nat_abs_neg, nat_abs-*-≤}
 use Rattle.integers.proofs.Machine.{signed_small, cast_read, read_signed}
-use Rattle.forms.specs.Store.{add_form, Bounded, max_before_monomial}
-use Rattle.register.specs.Register.{entry_in}
+use Rattle.forms.specs.declared.SquareTable.{SquareTable}
+use Rattle.forms.specs.Store.{Room, Adds, max_before_monomial}
+use Rattle.forms.proofs.Added.{adds_none, adds_then, adds_same}
+use Rattle.register.specs.Register.{row_entry}
 use Rattle.certificate.specs.Limits.{max_row_multiplier}
 use Rattle.residual.proofs.RowAdded.{first, first_none, first_next, first_all, first_room}
 use Rattle.residual.proofs.add_row_form.Goals.{Start}
@@ -36,36 +37,32 @@ word_less_read x f =
 
 module _ (c : Start) where
   abbrev a : ℕ → ℤ
-  a = entry_in c.args.entries.now c.args.row
+  a = row_entry c.args.register.now c.args.row
 
   -- m as the code has it
   m_read : to_z w64 (of_z w64 c.args.m) ≡ c.args.m
   m_read = read_signed w64 c.args.m (omega (arith, c.requires.m_bound))
 
-  -- what is stored after j choices
-  module _ (j : ℕ) (t : List ℤ) (d : t ≡ add_form c.args.side (first a c.args.variable (to_z w64 (of_z w64 c.args.m)) j) c.args.table.now) where
-    stored : t ≡ add_form c.args.side (first a c.args.variable c.args.m j) c.args.table.now
-    stored = rw m_read at d
-
-    room : j ≤ c.args.n → ((k : ℕ) → k < j → nat_abs (a k) ≤ 128) → Bounded c.args.side max_before_monomial t
-    room l small =
-        let p = c.requires.places in
-        rw stored (first_room a c.args.variable c.args.m c.args.side c.args.table.now j (omega (arith, p.0)) (omega (arith, p.1)) (omega (arith, c.requires.few)) c.requires.m_bound small c.requires.bounded)
+  -- there is room after j choices
+  room : (j : ℕ) {t : SquareTable} → Adds (first a c.args.variable (to_z w64 (of_z w64 c.args.m)) j) c.args.table.now t → j ≤ c.args.register.now.choices → ((k : ℕ) → k < j → nat_abs (a k) ≤ 128) → Room max_before_monomial t
+  room j d l small =
+      let p = c.requires.places in
+      first_room a c.args.variable c.args.m j (rw m_read at d) (omega (arith, p.0)) (omega (arith, p.1)) (omega (arith, c.requires.few)) c.requires.m_bound small c.requires.room
 
 pub loop-j-init : goal.loop-j-init
-loop-j-init c = record { so_far = first_none _ _ _ c.args.side c.args.table.now; small = λ k l. absurd (omega arith) }
+loop-j-init c = record { so_far = adds_same (adds_none c.args.table.now) (first_none _ _ _); small = λ k l. absurd (omega arith) }
 
 -- a turn: the entry that is read
 
-pub add_multiple-requires-clause-bounded : goal.add_multiple-requires-clause-bounded
-add_multiple-requires-clause-bounded c =
+pub add_multiple-requires-clause-room : goal.add_multiple-requires-clause-room
+add_multiple-requires-clause-room c =
     let i = c.loop-j.invariant in
-    room (goal.at.add_multiple-requires-clause-bounded c).Start c.loop-j.j c.loop-j.table i.so_far (omega arith) i.small
+    room (goal.at.add_multiple-requires-clause-room c).Start c.loop-j.j i.so_far (omega arith) i.small
 
 pub add_multiple-requires-clause-c_bound : goal.add_multiple-requires-clause-c_bound
 add_multiple-requires-clause-c_bound c =
     let k = (goal.at.add_multiple-requires-clause-c_bound c).Start in
-    let x = get_or c.args.entries.now (c.args.row * 32 + c.loop-j.j) (pos 0) in
+    let x = get_or c.args.register.now.row_entries (c.args.row * 32 + c.loop-j.j) (pos 0) in
     let byte : SFits w8 x = search rules in
     rw (m_read k, byte_read x byte) (omega (arith, nat_abs-*-≤ c.args.m x max_row_multiplier 128 c.requires.m_bound (byte_low x byte)))
 
@@ -73,12 +70,10 @@ pub loop-j-preserved : goal.loop-j-preserved
 loop-j-preserved c =
     let k = (goal.at.loop-j-preserved c).Start in
     let i = c.loop-j.invariant in
-    let x = get_or c.args.entries.now (c.args.row * 32 + c.loop-j.j) (pos 0) in
+    let x = get_or c.args.register.now.row_entries (c.args.row * 32 + c.loop-j.j) (pos 0) in
     let byte : SFits w8 x = search rules in
     record {
-      so_far =
-          c.add_multiple.ensures
-          ∙ rw (byte_read x byte, add-one c.args.variable, add-one c.loop-j.j, i.so_far) (first_next (a k) c.args.variable _ c.args.side c.args.table.now c.loop-j.j);
+      so_far = adds_same (adds_then i.so_far c.add_multiple.ensures) (rw (byte_read x byte, add-one c.args.variable, add-one c.loop-j.j) (first_next (a k) c.args.variable _ c.loop-j.j));
       small = below_more (a k) c.loop-j.j i.small (byte_low x byte);
     }
   where
@@ -91,24 +86,23 @@ loop-j-preserved c =
 
 -- the total
 
-pub add_multiple-requires-2-clause-bounded : goal.add_multiple-requires-2-clause-bounded
-add_multiple-requires-2-clause-bounded c =
+pub add_multiple-requires-2-clause-room : goal.add_multiple-requires-2-clause-room
+add_multiple-requires-2-clause-room c =
     let i = c.loop-j.invariant in
-    room (goal.at.add_multiple-requires-2-clause-bounded c).Start c.loop-j.j c.loop-j.table i.so_far (omega arith) i.small
+    room (goal.at.add_multiple-requires-2-clause-room c).Start c.loop-j.j i.so_far (omega arith) i.small
 
 pub add_multiple-requires-2-clause-c_bound : goal.add_multiple-requires-2-clause-c_bound
 add_multiple-requires-2-clause-c_bound c =
     let k = (goal.at.add_multiple-requires-2-clause-c_bound c).Start in
-    let x = get_or c.args.totals.now c.args.row (pos 0) in
+    let x = get_or c.args.register.now.row_totals c.args.row (pos 0) in
     let word : SFits w16 x = search rules in
     rw (m_read k, word_less_read x word) (omega (arith, nat_abs-*-≤ c.args.m (neg_ℤ x) max_row_multiplier 32_768 c.requires.m_bound (word_low x word)))
 
 pub returns : goal.returns
 returns c =
     let k = (goal.at.returns c).Start in
-    let x = get_or c.args.totals.now c.args.row (pos 0) in
+    let x = get_or c.args.register.now.row_totals c.args.row (pos 0) in
     let word : SFits w16 x = search rules in
-    let all : c.loop-j.j ≡ c.args.n = omega arith in
-    c.add_multiple-2.ensures
-    ∙ rw (m_read k, word_less_read x word, add-one c.args.variable, stored k c.loop-j.j c.loop-j.table c.loop-j.invariant.so_far, all)
-    (first_all (a k) c.args.variable c.args.m c.args.side c.args.table.now c.args.n x)
+    let all : c.loop-j.j ≡ c.args.register.now.choices = omega arith in
+    adds_same (adds_then c.loop-j.invariant.so_far c.add_multiple-2.ensures)
+    (rw (m_read k, word_less_read x word, add-one c.args.variable, all) (first_all (a k) c.args.variable c.args.m c.args.register.now.choices x))

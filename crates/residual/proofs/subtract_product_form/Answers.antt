@@ -1,8 +1,8 @@
 use Prim.Native.Nat.{ℕ, ◌+◌, ◌-◌, ◌≤◌, ◌<◌}
-use mathlib.Core.Path.{◌≡◌, ◌∙◌, ap}
+use mathlib.Core.Path.{◌≡◌}
 use native.Mathlib.Omega.{arith}
 use native.Mathlib.Numerals.{add-one}
-use Rattle.forms.specs.Store.{add_form}
+use Rattle.forms.proofs.Added.{adds_same}
 use Rattle.scheme.specs.declared.Scheme.{Scheme}
 use Rattle.scheme.specs.Scheme.{max_products, left, right, side}
 use Rattle.scheme.specs.Valid.{Products}
@@ -48,20 +48,20 @@ bounds-scheme-at-2 c =
     let r = c.requires in
     (places r.products r.products_le_max_products r.side_value r.addable r.le_kind).at
 
-pub add_difference-requires-clause-p_lt_side : goal.add_difference-requires-clause-p_lt_side
-add_difference-requires-clause-p_lt_side c =
+pub add_difference-requires-clause-places : goal.add_difference-requires-clause-places
+add_difference-requires-clause-places c =
     let r = c.requires in
     let p = places r.products r.products_le_max_products r.side_value r.addable r.le_kind in
     (p.constant, p.l, p.constant, p.z)
 
-pub add_difference-requires-in-54-clause-p_lt_side : goal.add_difference-requires-in-54-clause-p_lt_side
-add_difference-requires-in-54-clause-p_lt_side c =
+pub add_difference-requires-in-54-clause-places : goal.add_difference-requires-in-54-clause-places
+add_difference-requires-in-54-clause-places c =
     let r = c.requires in
     let p = places r.products r.products_le_max_products r.side_value r.addable r.le_kind in
     (p.constant, p.r, p.constant, p.z)
 
-pub add_product_bound-requires-clause-z_lt_side : goal.add_product_bound-requires-clause-z_lt_side
-add_product_bound-requires-clause-z_lt_side c =
+pub add_product_bound-requires-clause-places : goal.add_product_bound-requires-clause-places
+add_product_bound-requires-clause-places c =
     let r = c.requires in
     let p = places r.products r.products_le_max_products r.side_value r.addable r.le_kind in
     (p.z, p.l, p.r)
@@ -70,20 +70,16 @@ pub returns-in-53 : goal.returns-in-53
 unfolding signed_of by_key
 returns-in-53 c = λ reg e.
     let a = c.args in
-    c.add_difference.ensures
-    ∙ ap (λ f. add_form a.side f a.table.now) (rw ((negated a.t.m c.requires.addable.m_within).less_read, ← e, add-one (left reg.choices a.scheme a.t.i), add-one a.t.i) (added_at reg a.scheme a.t 0x35 c.in-53.is))
+    adds_same c.add_difference.ensures (rw ((negated a.t.m c.requires.addable.m_within).less_read, ← e, add-one (left reg.choices a.scheme.now a.t.i), add-one a.t.i) (added_at reg a.scheme.now a.t 0x35 c.in-53.is))
 
 pub returns-in-54 : goal.returns-in-54
 unfolding signed_of by_key
 returns-in-54 c = λ reg e.
     let a = c.args in
-    c.add_difference-in-54.ensures
-    ∙ ap (λ f. add_form a.side f a.table.now) (rw ((negated a.t.m c.requires.addable.m_within).less_read, ← e, add-one (right reg.choices a.scheme a.t.i), add-one a.t.i) (added_at reg a.scheme a.t 0x36 c.in-54.is))
+    adds_same c.add_difference-in-54.ensures (rw ((negated a.t.m c.requires.addable.m_within).less_read, ← e, add-one (right reg.choices a.scheme.now a.t.i), add-one a.t.i) (added_at reg a.scheme.now a.t 0x36 c.in-54.is))
 
 pub returns-in_default : goal.returns-in_default
 unfolding signed_of by_key
 returns-in_default c = λ reg e.
     let a = c.args in
-    c.add_product_bound.ensures
-    ∙ ap (λ f. add_form a.side f a.table.now)
-    (rw ((negated a.t.m c.requires.addable.m_within).less_read, ← e, add-one a.t.i, add-one (left reg.choices a.scheme a.t.i), add-one (right reg.choices a.scheme a.t.i)) (added_at reg a.scheme a.t 0x37 (omega arith)))
+    adds_same c.add_product_bound.ensures (rw ((negated a.t.m c.requires.addable.m_within).less_read, ← e, add-one a.t.i, add-one (left reg.choices a.scheme.now a.t.i), add-one (right reg.choices a.scheme.now a.t.i)) (added_at reg a.scheme.now a.t 0x37 (omega arith)))

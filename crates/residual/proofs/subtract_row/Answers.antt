@@ -43,7 +43,7 @@ module _ (c : After-times_entry) where
   f_read = read_signed w64 c.args.factor (omega (arith, c.requires.factor_bound))
 
   abbrev x : ℤ
-  x = cells n c.loop-j.table row j
+  x = cells n c.loop-j.numbers row j
 
   abbrev y : ℤ
   y = times_entries f c.args.entries.now row j
@@ -72,26 +72,24 @@ module _ (c : After-times_entry) where
 
 pub loop-j-init : goal.loop-j-init
 loop-j-init c = record {
-  within = omega arith;
-  so_far = less_none c.args.side _ (first c.args.row 0) c.args.table.now c.requires.bounded.long (λ i j _ _. rw (le-ltb j 0 (omega arith)) (and-false (eqb i c.args.row)));
+  so_far = less_none c.args.side _ (first c.args.row 0) c.args.numbers.now c.requires.bounded.long (λ i j _ _. rw (le-ltb j 0 (omega arith)) (and-false (eqb i c.args.row)));
 }
 
-pub overflow_sub-table : goal.overflow_sub-table
-overflow_sub-table c =
-    let k = (goal.at.overflow_sub-table c).After-times_entry in
+pub overflow_sub-numbers : goal.overflow_sub-numbers
+overflow_sub-numbers c =
+    let k = (goal.at.overflow_sub-numbers c).After-times_entry in
     rw (difference k) (fits_signed w64 _ (omega (arith, small k)))
 
 pub loop-j-preserved : goal.loop-j-preserved
 loop-j-preserved c =
     let k = (goal.at.loop-j-preserved c).After-times_entry in
     record {
-      within = omega arith;
       so_far =
-          ap (set c.loop-j.table (row k * n k + j k)) (ap (λ z. to_z w64 (of_z w64 z)) (difference k) ∙ read_signed w64 (x k -ℤ y k) (omega (arith, small k)))
+          ap (set c.loop-j.numbers (row k * n k + j k)) (ap (λ z. to_z w64 (of_z w64 z)) (difference k) ∙ read_signed w64 (x k -ℤ y k) (omega (arith, small k)))
           ∙ less_next (n k) _ (first (row k) (j k)) _ c.requires.bounded.long c.loop-j.invariant.so_far (row k) (j k) c.requires.row_lt_side.0 (omega arith) (λ i l _ _. first_next (row k) (j k) i l);
     }
 
 pub returns : goal.returns
 returns c =
     c.loop-j.invariant.so_far
-    ∙ less_cong c.args.side c.args.table.now (λ i j l m. rw (lt-ltb j c.loop-j.j (omega arith)) (and-true (eqb i c.args.row))) (λ i j _ _ _. ap (λ z. times_entries z c.args.entries.now i j) (read_signed w64 c.args.factor (omega (arith, c.requires.factor_bound))))
+    ∙ less_cong c.args.side c.args.numbers.now (λ i j l m. rw (lt-ltb j c.loop-j.j (omega arith)) (and-true (eqb i c.args.row))) (λ i j _ _ _. ap (λ z. times_entries z c.args.entries.now i j) (read_signed w64 c.args.factor (omega (arith, c.requires.factor_bound))))

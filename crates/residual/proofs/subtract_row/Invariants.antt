@@ -1,4 +1,4 @@
-use Prim.Native.Nat.{ℕ, ◌-◌, ◌≤◌}
+use Prim.Native.Nat.{ℕ}
 use mathlib.Core.Path.{◌≡◌}
 use mathlib.Core.Bool.{Bool, ◌&&◌}
 use lib.Dec.{eqb, ltb}
@@ -10,7 +10,4 @@ abbrev pub first : ℕ → ℕ → ℕ → ℕ → Bool
 first i j k l = eqb k i && ltb l j
 
 abbrev pub invariant-loop-j : goal.invariant-loop-j
-invariant-loop-j l = record { within : l.j ≤ l.side; so_far : l.table ≡ less_where l.side (times_entries l.factor l.entries) (first l.row l.j) l.fn.table }
-
-abbrev pub decreases-loop-j : goal.decreases-loop-j
-decreases-loop-j l = l.side - l.j
+invariant-loop-j l = record { so_far : l.numbers ≡ less_where l.side (times_entries l.factor l.entries) (first l.row l.j) l.fn.numbers }

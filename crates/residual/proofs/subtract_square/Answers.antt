@@ -35,23 +35,29 @@ module _ (n : ℕ) (q : Square) (i : ℕ) (t t₀ : List ℤ) (d : t ≡ less_wh
 
 pub loop-row-init : goal.loop-row-init
 loop-row-init c = record {
-  within = omega arith;
-  so_far = less_none c.args.side _ (first 0) c.args.table.now c.requires.bounded.long (λ i j _ _. le-ltb i 0 (omega arith));
+  same_reference = refl;
+  same_side = refl;
+  holds = less_none c.args.table.now.side _ (first 0) c.args.table.now.numbers.now c.requires.room.long (λ i j _ _. le-ltb i 0 (omega arith));
 }
 
 pub subtract_row-requires-clause-bounded : goal.subtract_row-requires-clause-bounded
 subtract_row-requires-clause-bounded c =
-    room c.args.side (square_in c.args.square) c.loop-row.row _ c.args.table.now c.loop-row.invariant.so_far c.requires.square_range c.requires.side_le_square_entries c.requires.bounded
+    room c.args.table.now.side (square_in c.args.square.now) c.loop-row.row _ c.args.table.now.numbers.now c.loop-row.invariant.holds c.requires.square_range c.requires.side_le_square_entries c.requires.room
 
 pub loop-row-preserved : goal.loop-row-preserved
 loop-row-preserved c = record {
-  within = omega arith;
-  so_far =
-      next_row c.args.side (square_in c.args.square) c.loop-row.row _ c.args.table.now c.loop-row.invariant.so_far _ _ c.requires.bounded.long
+  same_reference = c.loop-row.invariant.same_reference;
+  same_side = c.loop-row.invariant.same_side;
+  holds =
+      next_row c.args.table.now.side (square_in c.args.square.now) c.loop-row.row _ c.args.table.now.numbers.now c.loop-row.invariant.holds _ _ c.requires.room.long
       (to_z-of_z {w = w64} (record { sfits = c.row_factor-factor.type_inv }) ∙ c.row_factor-factor.ensures) c.subtract_row.ensures;
 }
 
 pub returns : goal.returns
-returns c =
-    c.loop-row.invariant.so_far
-    ∙ less_cong c.args.side c.args.table.now (λ i j l m. lt-ltb i c.loop-row.row (omega arith)) (λ _ _ _ _ _. refl)
+returns c = record {
+  same_reference = c.loop-row.invariant.same_reference;
+  same_side = c.loop-row.invariant.same_side;
+  holds =
+      c.loop-row.invariant.holds
+      ∙ less_cong c.args.table.now.side c.args.table.now.numbers.now (λ i j l m. lt-ltb i c.loop-row.row (omega arith)) (λ _ _ _ _ _. refl);
+}

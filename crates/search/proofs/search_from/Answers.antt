@@ -1,27 +1,62 @@
 -- `search::search_from` meets its contract. The terms are listed, and the walk begins with the sum at the empty partial plan.
-use Prim.Native.Nat.{ℕ, ◌*◌, ◌%◌, ◌^◌, ◌≤◌}
+use Prim.Native.Nat.{ℕ, ◌-◌, ◌*◌, ◌%◌, ◌^◌, ◌≤◌}
 use native.Mathlib.Omega.{arith}
 use mathlib.Core.Path.{◌≡◌, refl, sym, ◌∙◌}
 use mir.Syntax.{w64}
-use mir.Val.{to_z, of_z}
+use mir.Val.{SFits, to_z, of_z}
 use mir.Facts.{to_z-of_z}
-use Rattle.integers.proofs.Machine.{one_shifted, read_signed}
+use Rattle.std.proofs.lemmas.Result.{err_from_is_err_and}
+use Rattle.integers.proofs.Machine.{one_shifted}
 use Rattle.register.specs.Limits.{max_choices}
-use Rattle.search.specs.Walk.{start}
-use Rattle.search.specs.Lent.{terms_of, lent_sum}
-use Rattle.search.proofs.Walks.{held_start}
+use mathlib.Core.List.{List}
+use lib.IntN.{ℤ}
+use Rattle.std.proofs.Common.{Bool, rules}
+use Rattle.register.specs.declared.Register.{Register}
+use Rattle.register.specs.Register.{coefficient}
+use Rattle.register.specs.Valid.{Within}
+use Rattle.plan.specs.Fits.{fits as fits_test}
+use Rattle.search.specs.declared.Walked.{Walked}
+use Rattle.search.specs.Walk.{Best, start, walk}
+use Rattle.search.specs.Answer.{search as rule}
+use Rattle.search.specs.Lent.{terms_in, sum_to, lent_sum, AllListed, At, walked_of, UpTo}
+use Rattle.search.proofs.Sums.{within_small}
 use Rattle.search.proofs.Going.{empty_sum, empty_at}
+use Rattle.search.proofs.Answers.{search_lent, passes, answers, best_err, best_ok}
 use Rattle.search.proofs.search_from.Goals as goal
 
 -- a power of 2 as the code has it
 shifted : (n : ℕ) → n ≤ max_choices → 1 * 2 ^ n % 18446744073709551616 ≡ 2 ^ n
 shifted n l = sym (one_shifted w64 n (omega arith))
 
+module _ {r : Register} (w : Within r) {masks : List ℕ} {coefficients : List ℤ} {counts : List ℕ} {s : ℤ} (listed : AllListed (terms_in r) r.choices masks coefficients counts) (fits : SFits w64 s)
+    (is : s ≡ sum_to r.base (terms_in r) r.terms 0 (1 * 2 ^ r.choices % 18446744073709551616 - 1)) where
+  -- what is known at the empty partial plan
+  abbrev begins : At masks coefficients counts r.choices 0 (to_z w64 (of_z w64 s))
+  begins = empty_at r.base (terms_in r) w.base (within_small r w) listed w.choices.few (to_z-of_z fits ∙ is ∙ rw (shifted r.choices w.choices.few) (empty_sum r.base (terms_in r) r.choices))
+
+  -- and what the walk has come to
+  came : (limit : ℕ) {l : ℕ} (walked : Walked) (ok : Bool) → l ≡ limit →
+      ((a : At masks coefficients counts r.choices 0 (to_z w64 (of_z w64 s))) (w : Best) → walked_of start ≡ walked_of w → UpTo l (walk (lent_sum a.base a.terms) (fits_test r) r.choices 0 w) walked ok) →
+      UpTo limit (rule (coefficient r) r) walked ok
+  came limit walked ok e h = rw (e, search_lent r) at (h begins start refl)
+
+pub walk-requires-clause-at : goal.walk-requires-clause-at
+walk-requires-clause-at c = begins c.requires c.list_all.ensures (record { sfits = c.sum_at-sum.type_inv }) c.sum_at-sum.ensures
+
+pub returns-in_err-walk : goal.returns-in_err-walk
+returns-in_err-walk c =
+    let u = came c.requires c.list_all.ensures (record { sfits = c.sum_at-sum.type_inv }) c.sum_at-sum.ensures c.args.limit _ _ c.from.ensures c.in_err-walk.ensures.reached in
+    let p = err_from_is_err_and c.from_residual.result c.from_residual.ensures.1 in
+    rw (p.1, p.2) (passes _ _ _ _ u refl)
+
+pub returns-in_err-best : goal.returns-in_err-best
+returns-in_err-best c =
+    let u = came c.requires c.list_all.ensures (record { sfits = c.sum_at-sum.type_inv }) c.sum_at-sum.ensures c.args.limit _ _ c.from.ensures c.in_ok-walk.ensures.reached in
+    let p = err_from_is_err_and c.from_residual-in_err-best.result c.from_residual-in_err-best.ensures.1 in
+    rw (p.1, p.2) (best_err _ _ c.in_err-best.ensures.value ∙ answers _ _ _ _ u refl)
+
 pub returns : goal.returns
 returns c =
-    let a = c.args in
-    let r = terms_of a.terms a.masks.now a.coefficients.now in
-    let sum_is : to_z w64 (of_z w64 c.sum_at-sum.result) ≡ lent_sum a.base r a.n 0 =
-    to_z-of_z {w = w64} (record { sfits = c.sum_at-sum.type_inv }) ∙ c.sum_at-sum.ensures ∙ rw (to_z-of_z c.ranges.base, shifted a.n c.requires.n_le_max_choices) (empty_sum a.base r a.n) in
-    let came = c.walk-visits.ensures (empty_at a.base r c.requires.base_bound c.requires.small c.list_all-counts.ensures c.requires.n_le_max_choices sum_is) start (held_start 0) refl in
-    rw (read_signed w64 c.walk-visits.new.cost (omega (arith, came.within))) came
+    let u = came c.requires c.list_all.ensures (record { sfits = c.sum_at-sum.type_inv }) c.sum_at-sum.ensures c.args.limit _ _ c.from.ensures c.in_ok-walk.ensures.reached in
+    let read : to_z w64 (of_z w64 c.in_ok-best.best.cost) ≡ c.in_ok-best.best.cost = to_z-of_z {w = w64} (search rules) in
+    rw read (best_ok _ _ c.in_ok-best.ensures.value ∙ answers _ _ _ _ u refl)

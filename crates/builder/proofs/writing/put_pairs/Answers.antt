@@ -1,7 +1,6 @@
 use Prim.Native.Nat.{ℕ, ◌+◌, ◌*◌}
 use mathlib.Core.Path.{refl, ap, ◌∙◌}
 use mathlib.Core.List.{List}
-use native.Mathlib.Omega.{arith}
 use lib.ListN.{get_or}
 use lib.Seq.{sets}
 use Rattle.integers.specs.Lists.{join_below}

@@ -2,7 +2,6 @@
 use Prim.Native.Nat.{◌≤◌, ◌<◌}
 use mathlib.Core.Path.{◌≡◌, sym, ◌∙◌, ap}
 use lib.ListN.{length}
-use Rattle.std.proofs.Common.{rules}
 use Rattle.std.specs.Prelude.{Err}
 use Rattle.wire.specs.Writer.{refused_answer, written_answer}
 use Rattle.wire.proofs.Writer.{bytes_short, bytes_fit}

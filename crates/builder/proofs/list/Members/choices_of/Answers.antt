@@ -17,6 +17,6 @@ loop-i-preserved c =
     let i = c.loop-i.i in
     let g = c.loop-i.invariant in
     elim c.if-mask-i-eq1.branch [
-    | then-mask-i-eq1 w ↦ rw w.members-is (record { list_is = w.push.ensures.members ∙ ap (λ l. l ++ (i ∷ [])) g.list_is ∙ choices_in i c.args.mask w.if-mask-i-eq1.true; count_within = omega (arith, w.push.ensures.count, g.count_within) })
-    | else-mask-i-eq1 w ↦ rw w.members-is (record { list_is = g.list_is ∙ choices_out i c.args.mask w.if-mask-i-eq1.false; count_within = omega (arith, g.count_within) })
+      | then-mask-i-eq1 w ↦ rw w.members-is (record { list_is = w.push.ensures.members ∙ ap (λ l. l ++ (i ∷ [])) g.list_is ∙ choices_in i c.args.mask w.if-mask-i-eq1.true; count_within = omega (arith, w.push.ensures.count, g.count_within) })
+      | else-mask-i-eq1 w ↦ rw w.members-is (record { list_is = g.list_is ∙ choices_out i c.args.mask w.if-mask-i-eq1.false; count_within = omega (arith, g.count_within) })
     ]

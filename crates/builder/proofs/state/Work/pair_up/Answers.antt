@@ -1,6 +1,6 @@
 use Rattle.std.proofs.Common.{rules}
 use mathlib.Core.Path.{◌≡◌, refl, ◌∙◌, ap}
-use Prim.Native.Nat.{suc, ◌-◌, ◌/◌}
+use Prim.Native.Nat.{◌-◌, ◌/◌}
 use native.Mathlib.Omega.{arith}
 use lib.ListN.{take}
 use Rattle.builder.specs.Builder.{full, next}
@@ -37,12 +37,12 @@ returns-clause-same c =
     let i = c.loop-i.i in
     let count = c.args.members.now.count in
     elim c.if-pairs-count.branch [
-    | then-pairs-count w ↦
-        ap (λ x. next (record { scheme = c.loop-i.self.scheme; members = take (count - count / 2) x.1.1.0 })) w.members-is
-        ∙ passes_odd g (count / 2) (count - count / 2) (omega arith) (omega arith) c.loop-i-test.false (omega arith)
-    | else-pairs-count w ↦
-        ap (λ x. next (record { scheme = c.loop-i.self.scheme; members = take (count - count / 2) x.1.1.0 })) w.members-is
-        ∙ passes_even g (count - count / 2) (omega arith) (omega arith)
+      | then-pairs-count w ↦
+          ap (λ x. next (record { scheme = c.loop-i.self.scheme; members = take (count - count / 2) x.1.1.0 })) w.members-is
+          ∙ passes_odd g (count / 2) (count - count / 2) (omega arith) (omega arith) c.loop-i-test.false (omega arith)
+      | else-pairs-count w ↦
+          ap (λ x. next (record { scheme = c.loop-i.self.scheme; members = take (count - count / 2) x.1.1.0 })) w.members-is
+          ∙ passes_even g (count - count / 2) (omega arith) (omega arith)
     ]
 
 pub returns-clause-choices : goal.returns-clause-choices
