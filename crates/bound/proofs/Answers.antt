@@ -5,27 +5,28 @@ use mathlib.Core.Bool.{Bool, true, false, cond}
 use mathlib.Core.List.{List}
 use native.Mathlib.Omega.{arith}
 use native.Mathlib.Decide.{dec_lt}
+use lib.Dec.{ltb}
 use lib.IntN.{ℤ}
 use lib.ListN.{length}
 use borrow.Author.Tests.{lt-ltb, le-ltb}
-use Rattle.wire.specs.Part.{Reading, refused, accepted}
+use Rattle.wire.specs.Part.{Reading, refused, accepted, by_itself}
 use Rattle.wire.specs.Rows.{Progress}
-use Rattle.wire.specs.Outcome.{Outcome, refuses, accepts, given, answer_by}
+use Rattle.wire.specs.Outcome.{Outcome, refuses, accepts, given, and_then, answer_by, added_by}
+use Rattle.wire.specs.Results.{whole_of}
 use Rattle.wire.proofs.Part.{NumberedReading, read_part_numbered, by_itself_numbered}
-use Rattle.wire.proofs.Outcome.{Numbered, Tells, told_refused, told_accepted, itself_refused, itself_past, itself_whole}
+use Rattle.wire.proofs.Outcome.{Numbered}
 use Rattle.forms.specs.Table.{table_numbers}
 use Rattle.register.specs.declared.Register.{Register}
 use Rattle.register.specs.Register.{coefficient}
 use Rattle.scheme.specs.declared.Scheme.{Scheme}
 use Rattle.scheme.specs.Answer.{open_parts}
 use Rattle.scheme.proofs.Opened.{Opened, opens, opened, opening_numbered}
-use Rattle.bound.specs.declared.CheckRead.{CheckRead}
 use Rattle.bound.specs.declared.CheckAnswer.{CheckAnswer}
 use Rattle.certificate.specs.Certificate.{Certificate}
 use Rattle.bound.specs.Bound.{carries, bound}
 use Rattle.certificate.specs.Format.{certificate_part, commands_in_job}
 use Rattle.bound.specs.Format.{dominance_checked, certificate_in_job, certificate_by_itself}
-use Rattle.bound.specs.Check.{refused_check, check_read, with_residual, refused_answer, accepted_answer, check_answer, check_table}
+use Rattle.bound.specs.Check.{with_residual, refused_answer, accepted_answer, open_certificate, check_outcome, check_answer, check_table}
 
 -- zeros and the bound
 abbrev pub answered : ℤ → CheckAnswer
@@ -34,9 +35,6 @@ answered b = record { number = 0; part = 0; position = 0; bound = b }
 -- what the call answers for part 3
 abbrev pub after_certificate : Reading (Progress Certificate) → CheckAnswer
 after_certificate x = answer_by refused_answer accepted_answer (given 3 x)
-
-pub check_tells : Tells check_read (λ r. r.number) (λ r. r.position)
-check_tells = record { refusals = λ n at. (refl, refl); readings = λ p end. (refl, refl) }
 
 module _ (c : ℕ → ℤ) (reg : Register) (sch : Scheme) (s : List ℕ) where
   pub job_numbered : NumberedReading (certificate_in_job c reg sch s)
@@ -50,36 +48,6 @@ module _ (c : ℕ → ℤ) (reg : Register) (sch : Scheme) (s : List ℕ) where
       go : (x : Reading (Progress Certificate)) → NumberedReading x → NumberedReading (dominance_checked c reg sch x)
       go (refused n at) d = d
       go (accepted p end) d = by p end (carries c reg sch p.parsed)
-
-  -- the certificate by itself, from the certificate in a job
-  module _ (part : CheckRead) (e : part ≡ check_read (certificate_in_job c reg sch s)) where
-    pub whole_refused : (part.number ≡ 0 → ⊥) → part ≡ check_read (certificate_by_itself c reg sch s)
-    unfolding certificate_by_itself
-    whole_refused h = let q = told_refused check_read _ _ check_tells part (certificate_in_job c reg sch s) e h in e ∙ ap check_read (q ∙ sym (itself_refused s q))
-
-    -- where it is not refused
-    module _ (h : part.number ≡ 0) where
-      went : (p : Progress Certificate) × (certificate_in_job c reg sch s ≡ accepted p part.position)
-      went = told_accepted check_read _ _ check_tells part (certificate_in_job c reg sch s) e job_numbered h
-
-      pub whole_past : part.position < length s → refused_check 12 part.position ≡ check_read (certificate_by_itself c reg sch s)
-      unfolding certificate_by_itself
-      whole_past l = ap check_read (sym (itself_past s went.1 l))
-
-      pub whole_accepted : length s ≤ part.position → part ≡ check_read (certificate_by_itself c reg sch s)
-      unfolding certificate_by_itself
-      whole_accepted l = e ∙ ap check_read (went.1 ∙ sym (itself_whole s went.1 l))
-
-  -- and what the call answers for it
-  module _ (third : CheckRead) (e : third ≡ check_read (certificate_by_itself c reg sch s)) where
-    pub third_refused : (third.number ≡ 0 → ⊥) → refused_answer third.number 3 third.position ≡ after_certificate (certificate_by_itself c reg sch s)
-    third_refused h = sym (ap after_certificate (told_refused check_read _ _ check_tells third (certificate_by_itself c reg sch s) e h))
-
-    pub third_accepted : third.number ≡ 0 → ◌≡◌ {A = CheckAnswer} (record { number = 0; part = 0; position = 0; bound = third.bound }) (after_certificate (certificate_by_itself c reg sch s))
-    unfolding certificate_by_itself
-    third_accepted h =
-        let (p, q) = told_accepted check_read _ _ check_tells third (certificate_by_itself c reg sch s) e (by_itself_numbered s (certificate_in_job c reg sch s) job_numbered) h in
-        ap answered (ap (λ (r : CheckRead). r.bound) (e ∙ ap check_read q)) ∙ sym (ap after_certificate q)
 
 -- ---- the call
 
@@ -104,6 +72,42 @@ module _ (t s k : List ℕ) (lent : List ℤ) (l : table_numbers ≤ length lent
       Answered t s k lent (after_certificate (certificate_by_itself (coefficient reg) reg sch k)) (with_residual reg sch (commands_in_job reg sch k) lent)
   unfolding check_answer check_table
   parts_accepted reg sch o = let f = le-ltb (length lent) table_numbers l in record { answers = rw (f, opens o); holds = rw (f, opens o) }
+
+-- ---- by the outcome that the call answers
+
+-- the bound of a certificate by itself
+bound_whole : (k : List ℕ) (x : Reading (Progress Certificate)) → whole_of 3 (by_itself k (added_by bound x)) ≡ and_then (given 3 (by_itself k x)) λ cert. accepts (bound cert)
+unfolding by_itself
+bound_whole k (refused n at) = refl
+bound_whole k (accepted p end) = by (ltb end (length k))
+  where
+    by : (past : Bool) → whole_of {A = ℤ} 3 (cond past (refused 12 end) (accepted (bound p.parsed) end)) ≡ and_then (given 3 (cond past (refused 12 end) (accepted p end))) λ cert. accepts (bound cert)
+    by true = refl
+    by false = refl
+
+module _ (t s k : List ℕ) (lent : List ℤ) where
+  -- what the call answers
+  pub answer_is : answer_by refused_answer answered (check_outcome t s k lent) ≡ check_answer t s k lent
+  unfolding check_answer
+  answer_is = by (ltb (length lent) table_numbers) (open_certificate t s k)
+    where
+      by : (below : Bool) (x : Outcome Certificate) → answer_by refused_answer answered (cond below (refuses 11 0 0) (and_then x λ cert. accepts (bound cert))) ≡ cond below (refused_answer 11 0 0) (answer_by refused_answer accepted_answer x)
+      by true x = refl
+      by false (refuses n part at) = refl
+      by false (accepts cert) = refl
+
+  module _ (l : table_numbers ≤ length lent) where
+    pub opening_refused : {n part at : ℕ} → refuses n part at ≡ open_parts t s → (refuses n part at ≡ check_outcome t s k lent) × (lent ≡ check_table t s k lent)
+    unfolding check_table
+    opening_refused e = let f = le-ltb (length lent) table_numbers l in (rw (f, ← e), rw (f, ← e))
+
+    pub opening_accepted : {reg : Register} {sch : Scheme} → accepts (reg, sch) ≡ open_parts t s →
+        (whole_of 3 (by_itself k (added_by bound (certificate_in_job (coefficient reg) reg sch k))) ≡ check_outcome t s k lent)
+        × (with_residual reg sch (commands_in_job reg sch k) lent ≡ check_table t s k lent)
+    unfolding check_table certificate_by_itself
+    opening_accepted {reg} {sch} e =
+        let f = le-ltb (length lent) table_numbers l in
+        (rw (f, ← e) (bound_whole k (certificate_in_job (coefficient reg) reg sch k)), rw (f, ← e))
 
 -- ---- by what the call answers
 

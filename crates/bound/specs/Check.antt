@@ -2,29 +2,19 @@
 use Rattle.std.specs.Prelude.{ℕ, cond, List, ltb, ℤ, pos, length}
 use Rattle.wire.specs.Part.{Reading, refused, accepted}
 use Rattle.wire.specs.Rows.{Progress}
-use Rattle.wire.specs.Outcome.{Outcome, given, and_then, answer_by}
+use Rattle.wire.specs.Outcome.{Outcome, refuses, accepts, given, and_then, answer_by}
 use Rattle.forms.specs.Table.{table_numbers, with_table}
 use Rattle.register.specs.declared.Register.{Register}
 use Rattle.register.specs.Register.{coefficient}
 use Rattle.scheme.specs.declared.Scheme.{Scheme}
 use Rattle.scheme.specs.Scheme.{side}
 use Rattle.scheme.specs.Answer.{open_parts}
-use Rattle.bound.specs.declared.CheckRead.{CheckRead}
 use Rattle.bound.specs.declared.CheckAnswer.{CheckAnswer}
 use Rattle.certificate.specs.Certificate.{Certificate}
 use Rattle.residual.specs.Residual.{R}
 use Rattle.bound.specs.Bound.{bound}
 use Rattle.certificate.specs.Format.{commands_in_job}
 use Rattle.bound.specs.Format.{certificate_by_itself}
-
--- for the reader of a job: a refusal's number and position, or 0, the position past the end and the bound
-
-abbrev pub refused_check : ℕ → ℕ → CheckRead
-refused_check number at = record { number = number; position = at; bound = pos 0 }
-
-abbrev pub check_read : Reading (Progress Certificate) → CheckRead
-check_read (refused number at) = refused_check number at
-check_read (accepted p end) = record { number = 0; position = end; bound = bound p.parsed }
 
 -- R at the front of a lent run where `3F` is reached without 1 to 8, also after 9 or 12; else the run as it was
 abbrev pub with_residual : Register → Scheme → Reading (Progress Certificate) → List ℤ → List ℤ
@@ -43,6 +33,11 @@ accepted_answer cert = record { number = 0; part = 0; position = 0; bound = boun
 abbrev pub open_certificate : List ℕ → List ℕ → List ℕ → Outcome Certificate
 open_certificate register scheme certificate =
     and_then (open_parts register scheme) λ (reg, sch). given 3 (certificate_by_itself (coefficient reg) reg sch certificate)
+
+-- what these and the lent run lead to: a table below 4,225 numbers is found before all else
+abbrev pub check_outcome : List ℕ → List ℕ → List ℕ → List ℤ → Outcome ℤ
+check_outcome register scheme certificate lent =
+    cond (ltb (length lent) table_numbers) (refuses 11 0 0) (and_then (open_certificate register scheme certificate) λ cert. accepts (bound cert))
 
 -- of the bytes of parts 1 to 3 and the lent run: a table below 4,225 numbers is found before all else
 unfoldable pub check_answer : List ℕ → List ℕ → List ℕ → List ℤ → CheckAnswer

@@ -1,9 +1,9 @@
 -- What the job's calls answer, by the job's outcome, and the table after the call.
 use Rattle.std.specs.Prelude.{ℕ, cond, List, ltb, ℤ, pos, ◌-ℤ◌, length}
-use Rattle.wire.specs.Outcome.{Outcome, refuses, accepts, answer_by}
+use Rattle.wire.specs.Outcome.{Outcome, refuses, accepts, and_then, answer_by}
 use Rattle.forms.specs.Table.{table_numbers}
 use Rattle.register.specs.declared.Register.{Register}
-use Rattle.register.specs.Register.{coefficient, fresh}
+use Rattle.register.specs.Register.{coefficient}
 use Rattle.plan.specs.Plan.{cost}
 use Rattle.job.specs.declared.Counters.{Counters}
 use Rattle.job.specs.declared.Tally.{Tally}
@@ -12,18 +12,15 @@ use Rattle.job.specs.declared.JobAnswer.{JobAnswer}
 use Rattle.job.specs.Outcome.{Parts, outcome, bound_of, cost_of, gap_of, table_after}
 use Rattle.job.specs.Tally.{suppliers, with_accepted, with_refused, moved}
 
--- for the reader: number, part and position of a refusal, other fields 0; or zeros, the register, the plan, bound, cost and gap
-
-abbrev pub refused_read : ℕ → ℕ → ℕ → JobRead
-refused_read number part at = record { number = number; part = part; position = at; register = fresh; plan = 0; bound = pos 0; cost = pos 0; gap = pos 0 }
+-- what an accepted job gives: the register, the plan, bound, cost and gap
 
 abbrev pub accepted_read : Register → ℕ → ℤ → JobRead
 accepted_read reg plan bound =
     let z = cost (coefficient reg) reg plan in
-    record { number = 0; part = 0; position = 0; register = reg; plan = plan; bound = bound; cost = z; gap = z -ℤ bound }
+    record { register = reg; plan = plan; bound = bound; cost = z; gap = z -ℤ bound }
 
-abbrev pub job_read : Outcome Parts → JobRead
-job_read x = answer_by refused_read (λ p. accepted_read p.register p.plan (bound_of p)) x
+abbrev pub job_read : Outcome Parts → Outcome JobRead
+job_read x = and_then x λ p. accepts (accepted_read p.register p.plan (bound_of p))
 
 -- of the call: number, part and position of a refusal, other fields 0; or zeros, bound, cost and gap. The tally is carried in
 -- and out

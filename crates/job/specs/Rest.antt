@@ -1,5 +1,7 @@
--- The rest of a job from a part on, as the code's functions read it.
-use Rattle.std.specs.Prelude.{ℕ, List, [], ◌∷◌, ℤ}
+-- The rest of a job from a part on.
+use Rattle.std.specs.Prelude.{ℕ, List, [], ◌∷◌, ℤ, Result, Ok, Err}
+use Rattle.wire.specs.declared.refusals.Refused.{Refused}
+use Rattle.wire.specs.declared.refusals.Read.{Read}
 use Rattle.wire.specs.Outcome.{Outcome, and_then}
 use Rattle.register.specs.declared.Register.{Register}
 use Rattle.scheme.specs.declared.Scheme.{Scheme}
@@ -22,3 +24,8 @@ from_plan s reg sch cert from = rest s (part_four ∷ []) (with_certificate (wit
 -- the table
 abbrev pub table_from_scheme : List ℕ → Register → ℕ → List ℤ → List ℤ
 table_from_scheme s reg from lent = table_by s lent (in_turn (part_two ∷ []) s (of_register reg) from)
+
+-- where a part's reading ends, or where it is refused
+abbrev pub end_of : {A : Type 0} → Result (Read A) Refused → ℕ
+end_of (Ok read) = read.end
+end_of (Err refused) = refused.position

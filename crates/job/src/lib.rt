@@ -2,27 +2,27 @@
 
 #![tactic(auto)]
 
-ghost use Rattle.std.specs.Prelude.{◌≡◌, ◌≤◌, ◌<◌, nat_abs, length};
-ghost use Rattle.forms.specs.Table.{table_numbers};
-ghost use Rattle.register.specs.Valid.{Within, Valid as RegisterValid};
-ghost use Rattle.scheme.specs.Valid.{Valid as SchemeValid};
-ghost use Rattle.certificate.specs.Limits.{max_target};
-ghost use Rattle.certificate.specs.Certificate.{Certificate};
-ghost use Rattle.bound.specs.Bound.{bound as bound_in};
-ghost use Rattle.job.specs.Tally.{suppliers, raised as one_more, with_accepted, with_refused, fresh as fresh_tally, with_pair};
-ghost use Rattle.job.specs.Outcome.{outcome, table_after, table_from_certificate};
-ghost use Rattle.job.specs.Rest.{from_scheme, from_certificate, from_plan, table_from_scheme};
-ghost use Rattle.job.specs.Answer.{refused_read, accepted_read, job_read, refused_answer, job_answer, job_table};
 
-use bound::check::check_certificate;
+ghost use Rattle.std.specs.Prelude.{◌≡◌, ◌+◌, ◌≤◌, ◌<◌, ◌^◌, nat_abs, length};
+ghost use Rattle.wire.specs.Outcome.{accepts, next, starting_at};
+ghost use Rattle.wire.specs.Results.{number_of, reading_of, outcome_of};
+ghost use Rattle.forms.specs.Table.{table_numbers};
+ghost use Rattle.register.specs.Valid.{Within};
+ghost use Rattle.certificate.specs.Limits.{max_target};
+ghost use Rattle.job.specs.Tally.{suppliers, raised as one_more, with_accepted, with_refused, fresh as fresh_tally, with_pair};
+ghost use Rattle.job.specs.Outcome.{outcome, table_after};
+ghost use Rattle.job.specs.Rest.{end_of};
+ghost use Rattle.job.specs.Answer.{accepted_read, job_read, outcome_with, table_with, refused_answer, job_answer, job_table};
+
+use crate::stub::{Quadratization, check_certificate, read_plan, read_register, read_scheme};
 use forms::WorkingTable;
-use plan::{cost_of, read_plan};
-use register::{Register, read_register};
-use scheme::{Scheme, read_scheme};
+use plan::cost_of;
+use register::Register;
+use wire::{Fault, Read, Refusal, Refused};
 
 // How many jobs of one supplier were accepted and refused so far.
 #[repr(C)]
-#[derive(Clone, Copy)]
+#[derive(Clone, Copy, Debug, PartialEq, Eq)]
 pub struct Counters {
     pub accepted: u32,
     pub refused: u32,
@@ -30,18 +30,14 @@ pub struct Counters {
 
 // A pair of counters for each supplier.
 #[repr(C)]
-#[derive(Clone, Copy)]
+#[derive(Clone, Copy, Debug, PartialEq, Eq)]
 pub struct Tally {
     pub pairs: [Counters; Tally::SUPPLIERS],
 }
 
-// What reading a whole job leads to: a refusal's number, part and position, or zeros, the register, the plan, the bound, the
-// plan's cost and the gap between them.
+// What an accepted job gives: the register, the plan, the bound, the plan's cost and the gap between them.
 #[derive(Clone, Copy)]
 pub struct JobRead {
-    pub number: u8,
-    pub part: u8,
-    pub position: usize,
     pub register: Register,
     pub plan: u32,
     pub bound: i64,
@@ -51,7 +47,7 @@ pub struct JobRead {
 
 // The answer of the call: a refusal's number, part and position, or zeros, the bound, the plan's cost and the gap; and the tally.
 #[repr(C)]
-#[derive(Clone, Copy)]
+#[derive(Clone, Copy, Debug, PartialEq, Eq)]
 pub struct JobAnswer {
     pub number: u8,
     pub part: u8,
@@ -64,15 +60,13 @@ pub struct JobAnswer {
 
 impl Counters {
     // Where a count stays.
-    pub const MAX_COUNT: u32 = 4_294_967_295;
+    pub const MAX_COUNT: u32 = u32::MAX;
 
+    #[tactic(auto, unfolding(crate::specs::Tally::raised))]
     fn raised(count: u32) -> u32
         ensures { result ≡ one_more count }
     {
-        if count < Counters::MAX_COUNT {
-            return count + 1;
-        }
-        count
+        count.saturating_add(1)
     }
 
     fn with_accepted(self) -> Counters
@@ -80,7 +74,7 @@ impl Counters {
     {
         Counters {
             accepted: Counters::raised(self.accepted),
-            refused: self.refused,
+            ..self
         }
     }
 
@@ -88,8 +82,8 @@ impl Counters {
         ensures { result ≡ with_refused self }
     {
         Counters {
-            accepted: self.accepted,
             refused: Counters::raised(self.refused),
+            ..self
         }
     }
 }
@@ -111,142 +105,99 @@ impl Tally {
     }
 
     // The same tally with another pair for a supplier.
-    fn with_pair(self, supplier: usize, pair: Counters) -> Tally
+    fn with_pair(mut self, supplier: usize, pair: Counters) -> Tally
         requires { supplier < suppliers }
         ensures { result ≡ with_pair supplier pair self }
     {
-        let mut next = self;
-        next.pairs[supplier] = pair;
-        next
+        self.pairs[supplier] = pair;
+        self
     }
 }
 
 impl JobRead {
-    fn refused(number: u8, part: u8, position: usize) -> JobRead
-        ensures { result ≡ refused_read number part position }
-    {
-        JobRead {
-            number: number,
-            part: part,
-            position: position,
-            register: Register::fresh(),
-            plan: 0,
-            bound: 0,
-            cost: 0,
-            gap: 0,
-        }
-    }
-
     fn accepted(register: Register, plan: u32, bound: i64) -> JobRead
         requires within { Within register }
         requires bound_bound { nat_abs bound ≤ max_target }
         ensures { result ≡ accepted_read register plan bound }
     {
         let cost = cost_of(register, plan);
-        let gap = cost - bound;
         JobRead {
-            number: 0,
-            part: 0,
-            position: 0,
-            register: register,
-            plan: plan,
-            bound: bound,
-            cost: cost,
-            gap: gap,
+            register,
+            plan,
+            bound,
+            cost,
+            gap: cost - bound,
         }
     }
 }
 
 impl JobAnswer {
-    fn refused(number: u8, part: u8, position: usize, tally: Tally) -> JobAnswer
-        ensures { result ≡ refused_answer number part position tally }
+    fn refused(fault: Fault, tally: Tally) -> JobAnswer
+        ensures { result ≡ refused_answer (number_of fault.refusal) fault.part fault.position tally }
     {
         JobAnswer {
-            number: number,
-            part: part,
-            position: position,
+            number: fault.refusal.number(),
+            part: fault.part,
+            position: fault.position,
             bound: 0,
             cost: 0,
             gap: 0,
-            tally: tally,
+            tally,
         }
     }
 }
 
-// Part 4, the plan, and the job's end, by the bound that parts 1 to 3 gave.
-fn from_plan(job: &[u8], from: usize, register: Register, bound: i64) -> JobRead
-    requires from_in_bounds { from ≤ length job.now }
-    requires within { Within register }
-    requires bound_bound { nat_abs bound ≤ max_target }
-    ensures { (scheme : Scheme) (certificate : Certificate) → bound ≡ bound_in certificate →
-        result ≡ job_read (from_plan job.now register scheme certificate from) }
+// A part that starts at a position of the job, by its number: its positions are counted from the job's start.
+fn in_job<T: Copy>(part: u8, from: usize, read: Result<Read<T>, Refused>) -> Result<Read<T>, Fault>
+    requires { from + end_of read < 2 ^ 64 }
+    ensures { outcome_of result ≡ next part (starting_at from (reading_of read)) λ value end. accepts (record { value = value; end = end }) }
 {
-    let part = read_plan(&job[from..], register);
-    let number = part.number;
-    let position = from + part.position;
-    if number != 0 {
-        return JobRead::refused(number, 4, position);
+    match read {
+        Ok(read) => Ok(Read {
+            value: read.value,
+            end: from + read.end,
+        }),
+        Err(refused) => Err(refused.behind(from).in_part(part)),
     }
-    if position < job.len() {
-        return JobRead::refused(12, 4, position);
-    }
-    JobRead::accepted(register, part.plan, bound)
-}
-
-// Part 3, the certificate, and what follows it.
-fn from_certificate(
-    job: &[u8],
-    from: usize,
-    register: Register,
-    scheme: Scheme,
-    table: &mut [i64],
-) -> JobRead
-    requires from_in_bounds { from ≤ length job.now }
-    requires register_valid { RegisterValid register }
-    requires scheme_valid { SchemeValid register scheme }
-    requires table_numbers_in_bounds { table_numbers ≤ length table.old }
-    ensures value { result ≡ job_read (from_certificate job.now register scheme from) }
-    ensures table_after { table.new ≡ table_from_certificate job.now register scheme from table.old }
-{
-    let part = check_certificate(&job[from..], register, scheme, table);
-    let number = part.number;
-    let position = from + part.position;
-    if number != 0 {
-        return JobRead::refused(number, 3, position);
-    }
-    from_plan(job, position, register, part.bound)
-}
-
-// Part 2, the scheme, and what follows it.
-fn from_scheme(job: &[u8], from: usize, register: Register, table: &mut [i64]) -> JobRead
-    requires from_in_bounds { from ≤ length job.now }
-    requires register_valid { RegisterValid register }
-    requires table_numbers_in_bounds { table_numbers ≤ length table.old }
-    ensures value { result ≡ job_read (from_scheme job.now register from) }
-    ensures table_after { table.new ≡ table_from_scheme job.now register from table.old }
-{
-    let part = read_scheme(&job[from..], register);
-    let number = part.number;
-    let position = from + part.position;
-    if number != 0 {
-        return JobRead::refused(number, 2, position);
-    }
-    from_certificate(job, position, register, part.scheme, table)
 }
 
 // The four parts after each other. The table holds R where `3F` is reached.
-pub fn read_job(job: &[u8], table: &mut [i64]) -> JobRead
+pub fn read_job(job: &[u8], table: &mut [i64]) -> Result<JobRead, Fault>
     requires { table_numbers ≤ length table.old }
-    ensures value { result ≡ job_read (outcome job.now) }
+    ensures value { outcome_of result ≡ job_read (outcome job.now) }
     ensures table_after { table.new ≡ table_after job.now table.old }
 {
-    let part = read_register(job);
-    let number = part.number;
-    let position = part.position;
-    if number != 0 {
-        return JobRead::refused(number, 1, position);
+    let Read {
+        value: register,
+        end,
+    } = in_job(1, 0, read_register(job))?;
+    let Read { value: scheme, end } = in_job(2, end, read_scheme(&job[end..], &register))?;
+    let quadratization = Quadratization { register, scheme };
+    let Read { value: bound, end } = in_job(
+        3,
+        end,
+        check_certificate(&job[end..], &quadratization, table),
+    )?;
+    let Read { value: plan, end } = in_job(4, end, read_plan(&job[end..], register))?;
+    if end < job.len() {
+        return Err(Fault {
+            refusal: Refusal::PastEnd,
+            part: 4,
+            position: end,
+        });
     }
-    from_scheme(job, position, part.register, table)
+    Ok(JobRead::accepted(register, plan, bound))
+}
+
+// The same with a table that may be too short, which is found before the job is read.
+fn read_with_table(job: &[u8], table: &mut [i64]) -> Result<JobRead, Fault>
+    ensures value { outcome_of result ≡ job_read (outcome_with job.now table.old) }
+    ensures table_after { table.new ≡ table_with job.now table.old }
+{
+    if table.len() < WorkingTable::NUMBERS {
+        return Err(Fault::nowhere(Refusal::TooShort));
+    }
+    read_job(job, table)
 }
 
 // A whole job, and the tally with it counted for its supplier.
@@ -262,26 +213,19 @@ pub extern "C" fn feedcheck_job(
 {
     let index = supplier as usize;
     if index >= Tally::SUPPLIERS {
-        return JobAnswer::refused(17, 0, 0, tally);
+        return JobAnswer::refused(Fault::nowhere(Refusal::UnknownSupplier), tally);
     }
     let pair = tally.pairs[index];
-    let refused = tally.with_pair(index, pair.with_refused());
-    if table.len() < WorkingTable::NUMBERS {
-        return JobAnswer::refused(11, 0, 0, refused);
-    }
-    let read = read_job(job, table);
-    let number = read.number;
-    if number != 0 {
-        return JobAnswer::refused(number, read.part, read.position, refused);
-    }
-    let accepted = tally.with_pair(index, pair.with_accepted());
-    JobAnswer {
-        number: 0,
-        part: 0,
-        position: 0,
-        bound: read.bound,
-        cost: read.cost,
-        gap: read.gap,
-        tally: accepted,
+    match read_with_table(job, table) {
+        Ok(read) => JobAnswer {
+            number: 0,
+            part: 0,
+            position: 0,
+            bound: read.bound,
+            cost: read.cost,
+            gap: read.gap,
+            tally: tally.with_pair(index, pair.with_accepted()),
+        },
+        Err(fault) => JobAnswer::refused(fault, tally.with_pair(index, pair.with_refused())),
     }
 }

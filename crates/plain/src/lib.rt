@@ -2,117 +2,171 @@
 
 #![tactic(auto)]
 
-ghost use Rattle.std.specs.Prelude.{◌≡◌, cond, ℕ, ◌+◌, ◌≤◌, ◌<◌, eqb, pos, nat_abs, length, replicate};
+ghost use Rattle.std.specs.Prelude.{◌≡◌, ℕ, List, ℤ, ◌^◌, ◌+◌, ◌≤◌, ◌<◌, pos, nat_abs, length, replicate};
 ghost use Rattle.integers.specs.Integer.{neg_part, abs};
-ghost use Rattle.integers.specs.Sum.{except};
+ghost use Rattle.integers.specs.Sum.{except, sum_below};
 ghost use Rattle.forms.specs.Form.{entry};
 ghost use Rattle.forms.specs.Table.{table_numbers, with_table};
 ghost use Rattle.register.specs.Register.{coefficient};
 ghost use Rattle.register.specs.Limits.{max_base};
-ghost use Rattle.register.specs.Valid.{Valid as ValidRegister};
 ghost use Rattle.scheme.specs.Scheme.{side};
 ghost use Rattle.scheme.specs.Function.{g};
-ghost use Rattle.scheme.specs.Valid.{Valid};
-ghost use Rattle.plain.specs.Plain.{unless_zero, cancelling};
 ghost use Rattle.wire.specs.Number.{written};
 ghost use Rattle.wire.specs.Writer.{bytes_answer, with_front};
+ghost use Rattle.integers.specs.Lists.{join_below};
+ghost use Rattle.certificate.specs.Certificate.{Multiplier};
 ghost use Rattle.certificate.specs.Encoding.{encode_scale};
+ghost use Rattle.plain.specs.Plain.{unless_zero};
 ghost use Rattle.plain.specs.Encoding.{encode_multipliers};
-ghost use Rattle.plain.specs.InTable.{Small, entry_in, products_in, half_in, left_in, subtracted_in, diagonals_in, linears_in, commands_in, encode_in};
-ghost use Rattle.plain.specs.Answer.{own_bytes, plain_answer, plain_buffer};
+ghost use Rattle.plain.specs.InTable.{Small, entry_in, products_in, half_in, left_in, subtracted_in, diagonal_in, linear_in, commands_in, encode_in};
+ghost use Rattle.plain.specs.Answer.{own_bytes, answer_of, plain_answer, plain_buffer};
 
-use forms::WorkingTable;
-use register::Register;
-use scheme::{Scheme, open_parts};
-use wire::WriterAnswer;
+use forms::{SquareTable, WorkingTable};
+use scheme::{Quadratization, open_parts};
+use wire::{Fault, Refusal, ToBytes, WriterAnswer};
 
-// The number in row i and column j of a table for n variables.
-fn entry_in(table: &[i64], n: usize, i: usize, j: usize) -> i64
-    requires small { Small n table.now }
-    requires i_le_n { (i ≤ n) × (j ≤ n) }
-    ensures { result ≡ entry_in n table.now i j }
+// The sum of the first n terms.
+fn sum_of<F: Fn(usize) -> u64>(n: usize, term: F) -> u64
+    ghost terms: { ℕ → ℤ }
+    requires callable { (i : ℕ) → i < n → F.pre term i }
+    requires gives { (i x : ℕ) → i < n → F.post term i x → pos x ≡ terms i }
+    requires fits { (k : ℕ) → k ≤ n → nat_abs (sum_below k terms) < 2 ^ 64 }
+    ensures { pos result ≡ sum_below n terms }
 {
-    table[i * (n + 1) + j]
-}
-
-// |coefficient of variable i times variable j|, 0 where they are one.
-fn off_diagonal_term(table: &[i64], n: usize, i: usize, j: usize) -> u64
-    requires small { Small n table.now }
-    requires i_lt_n { (i < n) × (j < n) }
-    ensures { pos result ≡ except i (λ k. abs (products_in n table.now i k)) j }
-{
-    if j == i {
-        return 0;
-    }
-    wire::magnitude(entry_in(table, n, i + 1, j + 1))
-}
-
-// The multiplier of `31` for variable i.
-fn half_row_sum(table: &[i64], n: usize, i: usize) -> u64
-    requires small { Small n table.now }
-    requires i_lt_n { i < n }
-    ensures { result ≡ half_in n table.now i }
-{
-    let mut total: u64 = 0;
-    let mut j = 0;
-    while j < n {
-        total += off_diagonal_term(table, n, i, j);
-        j += 1;
-    }
-    (total + 1) / 2
-}
-
-// What is left of the linear coefficient of variable i.
-fn linear_left(table: &[i64], n: usize, i: usize) -> i64
-    requires small { Small n table.now }
-    requires i_lt_n { i < n }
-    ensures { result ≡ left_in n table.now i }
-{
-    let coefficient = entry_in(table, n, 0, i + 1);
-    coefficient - half_row_sum(table, n, i) as i64
-}
-
-// The magnitude of a number below 0, and else 0.
-fn negative_part(x: i64) -> u64
-    ensures { result ≡ neg_part x }
-{
-    if x < 0 { wire::magnitude(x) } else { 0 }
-}
-
-// The sum of the multipliers of `39`.
-fn subtracted(table: &[i64], n: usize) -> u64
-    requires { Small n table.now }
-    ensures { pos result ≡ subtracted_in n table.now }
-{
-    let mut total: u64 = 0;
-    let mut i = 0;
-    while i < n {
-        total += negative_part(linear_left(table, n, i));
-        i += 1;
+    let mut total = 0;
+    for i in 0..n {
+        total += term(i);
     }
     total
 }
 
-// 1, or 0 for a multiplier of 0, which has no command.
-fn one_unless_zero(multiplier: u64) -> usize
-    ensures { result ≡ cond (eqb multiplier 0) 0 1 }
-{
-    if multiplier == 0 { 0 } else { 1 }
+// A multiplier command that names one variable. There is none where the multiplier is 0.
+#[derive(Clone, Copy)]
+struct Command {
+    kind: u8,
+    name: u8,
+    m: u64,
 }
 
-// How many multiplier commands there are.
-fn command_count(table: &[i64], n: usize) -> usize
-    requires { Small n table.now }
-    ensures { result ≡ length (commands_in n table.now) }
-{
-    let mut count: usize = 0;
-    let mut i = 0;
-    while i < n {
-        count += one_unless_zero(half_row_sum(table, n, i));
-        count += one_unless_zero(wire::magnitude(linear_left(table, n, i)));
-        i += 1;
+impl Command {
+    // 1, or 0 where there is none.
+    fn count(self) -> usize
+        ensures { result ≡ length (unless_zero self.kind self.name self.m) }
+    {
+        (self.m != 0) as usize
     }
-    count
+
+    // Writes the command. Returns the position after it.
+    fn put(self, out: &mut [u8], at: usize) -> usize
+        requires { at + length (encode_multipliers (unless_zero self.kind self.name self.m)) ≤ length out.old }
+        ensures value { result ≡ at + length (encode_multipliers (unless_zero self.kind self.name self.m)) }
+        ensures out_after { out.new ≡ written out.old at (encode_multipliers (unless_zero self.kind self.name self.m)) }
+    {
+        if self.m == 0 {
+            return at;
+        }
+        self.kind.write(out, at);
+        self.name.write(out, at + 1);
+        self.m.write(out, at + 2);
+        at + 10
+    }
+}
+
+// A table for n variables, of side n + 1, whose numbers are as small as those of the table of g.
+#[derive(Clone, Copy)]
+struct FunctionTable<'a> {
+    numbers: &'a [i64],
+    n: usize,
+    ghost small: { Small n numbers.now },
+}
+
+impl FunctionTable<'_> {
+    // The number in row i and column j.
+    fn entry(&self, i: usize, j: usize) -> i64
+        requires { (i ≤ self.now.n) × (j ≤ self.now.n) }
+        ensures { result ≡ entry_in self.now.n self.now.numbers.now i j }
+    {
+        self.numbers[i * (self.n + 1) + j]
+    }
+
+    // |coefficient of variable i times variable j|, 0 where they are one.
+    fn off_diagonal_term(&self, i: usize, j: usize) -> u64
+        requires { (i < self.now.n) × (j < self.now.n) }
+        ensures { pos result ≡ except i (λ k. abs (products_in self.now.n self.now.numbers.now i k)) j }
+    {
+        if j == i {
+            return 0;
+        }
+        self.entry(i + 1, j + 1).unsigned_abs()
+    }
+
+    // The multiplier of `31` for variable i.
+    fn half_row_sum(&self, i: usize) -> u64
+        requires { i < self.now.n }
+        ensures { result ≡ half_in self.now.n self.now.numbers.now i }
+    {
+        sum_of(self.n, |j| self.off_diagonal_term(i, j)).div_ceil(2)
+    }
+
+    // What is left of the linear coefficient of variable i.
+    fn linear_left(&self, i: usize) -> i64
+        requires { i < self.now.n }
+        ensures { result ≡ left_in self.now.n self.now.numbers.now i }
+    {
+        self.entry(0, i + 1) - self.half_row_sum(i) as i64
+    }
+
+    // The multiplier of `39` for variable i, or 0 where what is left is not below 0.
+    fn taken(&self, i: usize) -> u64
+        requires { i < self.now.n }
+        ensures { result ≡ neg_part (left_in self.now.n self.now.numbers.now i) }
+    {
+        self.linear_left(i).min(0).unsigned_abs()
+    }
+
+    // The sum of the multipliers of `39`.
+    fn subtracted(&self) -> u64
+        ensures { pos result ≡ subtracted_in self.now.n self.now.numbers.now }
+    {
+        sum_of(self.n, |i| self.taken(i))
+    }
+
+    // `31` for variable i.
+    fn diagonal(&self, i: usize) -> Command
+        requires { i < self.now.n }
+        ensures { unless_zero result.kind result.name result.m ≡ diagonal_in self.now.n self.now.numbers.now i }
+    {
+        Command {
+            kind: 0x31,
+            name: i as u8,
+            m: self.half_row_sum(i),
+        }
+    }
+
+    // `38` or `39` for variable i, which cancels what is left.
+    fn linear(&self, i: usize) -> Command
+        requires { i < self.now.n }
+        ensures { unless_zero result.kind result.name result.m ≡ linear_in self.now.n self.now.numbers.now i }
+    {
+        let left = self.linear_left(i);
+        let kind = if left < 0 { 0x39 } else { 0x38 };
+        Command {
+            kind,
+            name: i as u8,
+            m: left.unsigned_abs(),
+        }
+    }
+
+    // How many multiplier commands there are.
+    fn command_count(&self) -> usize
+        ensures { result ≡ length (commands_in self.now.n self.now.numbers.now) }
+    {
+        let mut count: usize = 0;
+        for i in 0..self.n {
+            count += self.diagonal(i).count() + self.linear(i).count();
+        }
+        count
+    }
 }
 
 // Writes the first command, `30`, with scale 1.
@@ -120,118 +174,82 @@ fn put_scale(out: &mut [u8], target: i64)
     requires { 13 ≤ length out.old }
     ensures { out.new ≡ written out.old 0 (encode_scale 1 target) }
 {
-    wire::put_u8(out, 0, 0x30);
-    wire::put_u32(out, 1, 1);
-    wire::put_i64(out, 5, target);
+    0x30u8.write(out, 0);
+    1u32.write(out, 1);
+    target.write(out, 5);
 }
 
-// Writes a multiplier command that names one variable, unless its multiplier is 0. Returns the position after it.
-fn put_unless_zero(out: &mut [u8], at: usize, kind: u8, name: u8, m: u64) -> usize
-    requires { at + length (encode_multipliers (unless_zero kind name m)) ≤ length out.old }
-    ensures value { result ≡ at + length (encode_multipliers (unless_zero kind name m)) }
-    ensures out_after { out.new ≡ written out.old at (encode_multipliers (unless_zero kind name m)) }
-{
-    if m == 0 {
-        return at;
-    }
-    wire::put_u8(out, at, kind);
-    wire::put_u8(out, at + 1, name);
-    wire::put_u64(out, at + 2, m);
-    at + 10
-}
-
-// The command that cancels x times a variable: `38` or `39`.
-fn cancelling_kind(x: i64) -> u8
-    ensures { (name : ℕ) → cancelling name x ≡ unless_zero result name (nat_abs x) }
-{
-    if x < 0 { 0x39 } else { 0x38 }
-}
-
-// Writes the command that cancels x times a variable, unless x is 0. Returns the position after it.
-fn put_cancelling(out: &mut [u8], at: usize, name: u8, x: i64) -> usize
-    requires { at + length (encode_multipliers (cancelling name x)) ≤ length out.old }
-    ensures value { result ≡ at + length (encode_multipliers (cancelling name x)) }
-    ensures out_after { out.new ≡ written out.old at (encode_multipliers (cancelling name x)) }
-{
-    let kind = cancelling_kind(x);
-    put_unless_zero(out, at, kind, name, wire::magnitude(x))
-}
-
-// Writes `31` for each variable, rising. Returns the position after them.
-fn put_diagonals(table: &[i64], n: usize, out: &mut [u8], start: usize) -> usize
-    requires small { Small n table.now }
-    requires table_in_bounds { start + length (encode_multipliers (diagonals_in n table.now)) ≤ length out.old }
-    ensures value { result ≡ start + length (encode_multipliers (diagonals_in n table.now)) }
-    ensures out_after { out.new ≡ written out.old start (encode_multipliers (diagonals_in n table.now)) }
+// Writes the commands of the first n variables, rising. Returns the position after them.
+fn put_commands<F: Fn(usize) -> Command>(
+    n: usize,
+    command: F,
+    out: &mut [u8],
+    start: usize,
+) -> usize
+    ghost multipliers: { ℕ → List Multiplier }
+    requires callable { (i : ℕ) → i < n → F.pre command i }
+    requires gives { (i : ℕ) (c : _) → i < n → F.post command i c → unless_zero c.kind c.name c.m ≡ multipliers i }
+    requires room { start + length (encode_multipliers (join_below n multipliers)) ≤ length out.old }
+    ensures value { result ≡ start + length (encode_multipliers (join_below n multipliers)) }
+    ensures out_after { out.new ≡ written out.old start (encode_multipliers (join_below n multipliers)) }
 {
     let mut at = start;
-    let mut i = 0;
-    while i < n {
-        let half = half_row_sum(table, n, i);
-        at = put_unless_zero(out, at, 0x31, i as u8, half);
-        i += 1;
-    }
-    at
-}
-
-// Writes `38` or `39` for each variable, rising. Returns the position after them.
-fn put_linears(table: &[i64], n: usize, out: &mut [u8], start: usize) -> usize
-    requires small { Small n table.now }
-    requires table_in_bounds { start + length (encode_multipliers (linears_in n table.now)) ≤ length out.old }
-    ensures value { result ≡ start + length (encode_multipliers (linears_in n table.now)) }
-    ensures out_after { out.new ≡ written out.old start (encode_multipliers (linears_in n table.now)) }
-{
-    let mut at = start;
-    let mut i = 0;
-    while i < n {
-        let left = linear_left(table, n, i);
-        at = put_cancelling(out, at, i as u8, left);
-        i += 1;
+    for i in 0..n {
+        at = command(i).put(out, at);
     }
     at
 }
 
 // Writes the whole certificate.
-fn put_certificate(table: &[i64], n: usize, base: i64, out: &mut [u8])
-    requires small { Small n table.now }
+fn put_certificate(table: &FunctionTable, base: i64, out: &mut [u8])
     requires base_bound { nat_abs base ≤ max_base }
-    requires table_in_bounds { length (encode_in n base table.now) ≤ length out.old }
-    ensures { out.new ≡ written out.old 0 (encode_in n base table.now) }
+    requires table_in_bounds { length (encode_in table.now.n base table.now.numbers.now) ≤ length out.old }
+    ensures { out.new ≡ written out.old 0 (encode_in table.now.n base table.now.numbers.now) }
 {
-    put_scale(out, base - subtracted(table, n) as i64);
-    let middle = put_diagonals(table, n, out, 13);
-    let end = put_linears(table, n, out, middle);
-    wire::put_u8(out, end, 0x3F);
+    put_scale(out, base - table.subtracted() as i64);
+    let middle = put_commands(table.n, |i| table.diagonal(i), out, 13);
+    let end = put_commands(table.n, |i| table.linear(i), out, middle);
+    0x3Fu8.write(out, end);
 }
 
 // The table of g.
-fn function_table(register: Register, scheme: Scheme) -> [i64; WorkingTable::NUMBERS]
-    requires valid_register { ValidRegister register }
-    requires valid { Valid register scheme }
-    ensures { result ≡ with_table (side register.choices scheme) (entry (g (coefficient register) register scheme)) (replicate table_numbers (pos 0)) }
+fn function_table(quadratization: &Quadratization) -> [i64; WorkingTable::NUMBERS]
+    ensures { result ≡ with_table (side quadratization.now.register.choices quadratization.now.scheme) (entry (g (coefficient quadratization.now.register) quadratization.now.register quadratization.now.scheme)) (replicate table_numbers (pos 0)) }
 {
-    let mut table = [0i64; WorkingTable::NUMBERS];
-    let side = register.choices + scheme.products + 1;
-    penalty::add_function(register, scheme, &mut table, side, 1);
-    table
+    let mut numbers = [0; WorkingTable::NUMBERS];
+    let mut square = SquareTable {
+        numbers: &mut numbers,
+        side: quadratization.side(),
+    };
+    penalty::add_function(quadratization, &mut square, 1);
+    numbers
 }
 
-// Writes our own certificate of a register and a scheme, if the buffer is long enough.
-fn plain_certificate(register: Register, scheme: Scheme, out: &mut [u8]) -> WriterAnswer
-    requires valid_register { ValidRegister register }
-    requires valid { Valid register scheme }
-    ensures value { result ≡ bytes_answer (own_bytes register scheme) out.old }
-    ensures out_after { out.new ≡ with_front (own_bytes register scheme) out.old }
+// Writes our own certificate of a quadratization, if the buffer is long enough. Returns how many bytes it has.
+fn plain_certificate(quadratization: &Quadratization, out: &mut [u8]) -> Result<usize, Fault>
+    ensures value { answer_of result ≡ bytes_answer (own_bytes quadratization.now.register quadratization.now.scheme) out.old }
+    ensures out_after { out.new ≡ with_front (own_bytes quadratization.now.register quadratization.now.scheme) out.old }
 {
-    let n = register.choices + scheme.products;
-    let base = register.base;
-    let table = function_table(register, scheme);
-    let count = 14 + 10 * command_count(&table, n);
+    let numbers = function_table(quadratization);
+    let table = FunctionTable {
+        numbers: &numbers,
+        n: quadratization.register.choices + quadratization.scheme.products,
+    };
+    let count = 14 + 10 * table.command_count();
     if out.len() < count {
-        return WriterAnswer::refused(11, 0, 0);
+        return Err(Fault::nowhere(Refusal::TooShort));
     }
-    put_certificate(&table, n, base as i64, out);
-    WriterAnswer::written(count)
+    put_certificate(&table, quadratization.register.base as i64, out);
+    Ok(count)
+}
+
+// Writes our own certificate of two parts, each by itself.
+fn put_plain(register: &[u8], scheme: &[u8], out: &mut [u8]) -> Result<usize, Fault>
+    ensures value { answer_of result ≡ plain_answer register.now scheme.now out.old }
+    ensures out_after { out.new ≡ plain_buffer register.now scheme.now out.old }
+{
+    let quadratization = open_parts(register, scheme)?;
+    plain_certificate(&quadratization, out)
 }
 
 // The certificate of our own for a register and a scheme, each as a run of bytes by itself.
@@ -240,10 +258,8 @@ pub extern "C" fn feedcheck_plain(register: &[u8], scheme: &[u8], out: &mut [u8]
     ensures value { result ≡ plain_answer register.now scheme.now out.old }
     ensures out_after { out.new ≡ plain_buffer register.now scheme.now out.old }
 {
-    let parts = open_parts(register, scheme);
-    let number = parts.number;
-    if number != 0 {
-        return WriterAnswer::refused(number, parts.part, parts.position);
+    match put_plain(register, scheme, out) {
+        Ok(count) => WriterAnswer::written(count),
+        Err(fault) => WriterAnswer::from_fault(fault),
     }
-    plain_certificate(parts.register, parts.scheme, out)
 }

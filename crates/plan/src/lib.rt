@@ -23,7 +23,8 @@ use register::{Register, open_register};
 pub use rows::fits_rows;
 use wire::{Fault, FromBytes, Read, Refusal, Refused, by_itself, check_command, refuse_if};
 
-// The answer of the cost call: a refusal's number, part and position, or zeros and the cost.
+// The answer of the cost call: a refusal's number, part and position, or zeros and the cost. C reads it, so the number stands beside
+// the cost.
 #[repr(C)]
 #[derive(Clone, Copy, Debug, PartialEq, Eq)]
 pub struct CostAnswer {
@@ -106,7 +107,7 @@ fn open_cost(register: &[u8], plan: &[u8]) -> Result<i64, Fault>
     Ok(cost_of(register, plan))
 }
 
-// The same as the record of the call.
+// The cost of a plan, from the bytes of parts 1 and 4, as C reads it.
 #[tactic(auto, unfolding(crate::specs::Answer::cost_answer))]
 #[unsafe(no_mangle)]
 pub extern "C" fn feedcheck_cost(register: &[u8], plan: &[u8]) -> CostAnswer

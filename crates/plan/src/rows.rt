@@ -7,7 +7,7 @@ ghost use Rattle.plan.specs.Fits.{fed_sum, fits};
 use super::choice_sets::has;
 use register::Register;
 
-// An entry that counts, or 0.
+// An entry that counts, or 0. It is a function of its own for the bounds of its result, by which the sum fits.
 fn entry_where(fed: bool, entry: i8) -> i32
     ensures value { result ≡ cond fed entry (pos 0) }
     ensures above { negsuc 127 ≤ℤ result }

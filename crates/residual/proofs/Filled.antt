@@ -9,7 +9,8 @@ use lib.IntN.{ℤ}
 use lib.ListN.{length, get_or}
 use Rattle.forms.specs.Form.{times}
 use Rattle.forms.specs.Table.{table_numbers, with_table}
-use Rattle.forms.specs.Store.{add_form, Bounded, max_before_form}
+use Rattle.forms.specs.declared.SquareTable.{SquareTable}
+use Rattle.forms.specs.Store.{add_form, Bounded, Room, Adds, Becomes, max_before_form}
 use Rattle.forms.proofs.Store.{bounded_weaken}
 use Rattle.forms.proofs.Table.{with_table_at, with_table_past, with_table-length, is_with_table}
 use Rattle.wire.specs.Part.{accepted}
@@ -27,13 +28,13 @@ use Rattle.certificate.specs.Certificate.{Certificate}
 use Rattle.certificate.specs.RowForm.{row_form_of}
 use Rattle.certificate.specs.Format.{command_size, commands_in_job}
 use Rattle.certificate.specs.Answer.{IsMultiplier, named_of, multiplier_at, square_read}
-use Rattle.residual.specs.Residual.{square_at}
+use Rattle.residual.specs.Residual.{square_at, R}
 use Rattle.residual.specs.Built.{with_scale_in, Reads, added, less_where}
 use Rattle.residual.proofs.Bounds.{small}
-use Rattle.residual.proofs.Adds.{added_signed, row_command}
+use Rattle.residual.proofs.Adds.{added_signed, RowCommand, row_command}
 use Rattle.residual.proofs.Table.{signed_form}
 use Rattle.residual.proofs.ByCommand.{holds_r, table_multiplier, table_square, bounded_R}
-use Rattle.residual.proofs.Midway.{Midway, started, reads_on, multiplier_allowed, multiplier_on, square_on, ends_here}
+use Rattle.residual.proofs.Midway.{Midway, started, reads_on, multiplier_allowed, multiplier_on, square_on, ends_here, command_room}
 
 -- a table put over another
 pub with_table_again : (n : ℕ) (a b : ℕ → ℕ → ℤ) (lent : List ℤ) → n * n ≤ length lent → with_table n a (with_table n b lent) ≡ with_table n a lent
@@ -62,21 +63,10 @@ module _ {reg : Register} {sch : Scheme} {s : List ℕ} (h : Ready reg sch s) wh
     fits : side reg.choices sch * side reg.choices sch ≤ length lent
     fits = omega (arith, side_square reg sch h.register h.scheme)
 
-    -- the table u after the first command
-    module _ (u : List ℤ) (d : u ≡ holds_r (coefficient reg) reg sch (with_scale_in s) lent) where
-      pub first_length : length u ≡ length lent
-      first_length = ap length d ∙ with_table-length (side reg.choices sch) _ lent fits
-
-      pub first_under : (k : Certificate) → holds_r (coefficient reg) reg sch k u ≡ holds_r (coefficient reg) reg sch k lent
-      first_under k = ap (holds_r (coefficient reg) reg sch k) d ∙ with_table_again (side reg.choices sch) _ _ lent fits
-
     pub first_filled : lent ≡ holds_r (coefficient reg) reg sch (with_scale_in s) lent → Filled reg sch s lent lent (command_size 0x30)
     first_filled d = record { certificate = with_scale_in s; midway = (started reg sch s h.reads).midway; holds = d }
 
     module _ {t : List ℤ} {at : ℕ} (f : Filled reg sch s lent t at) where
-      pub filled_length : length t ≡ length lent
-      filled_length = rw f.holds (with_table-length (side reg.choices sch) _ lent fits)
-
       pub filled_bounded : Bounded (side reg.choices sch) max_before_form t
       filled_bounded =
           rw f.holds
@@ -120,3 +110,55 @@ module _ {reg : Register} {sch : Scheme} {s : List ℕ} (h : Ready reg sch s) wh
 
       pub filled_inside : length s ≤ at → ⊥
       filled_inside o = omega (arith, reads_on reg sch s h.reads f.midway)
+
+-- ---- as the loop keeps it: a table t that started as t₀, in the same lent run
+
+pub record Holding (reg : Register) (sch : Scheme) (s : List ℕ) (t₀ t : SquareTable) (at : ℕ) : Type 0 where
+  pub same_reference : t.numbers.ghost_name ≡ t₀.numbers.ghost_name
+  pub same_side : t.side ≡ t₀.side
+  pub filled : Filled reg sch s t₀.numbers.now t.numbers.now at
+
+module _ {reg : Register} {sch : Scheme} {s : List ℕ} (h : Ready reg sch s) {t₀ t : SquareTable} {at : ℕ} (is_side : t₀.side ≡ side reg.choices sch) (l : table_numbers ≤ length t₀.numbers.now)
+    (k : Holding reg sch s t₀ t at) where
+  pub side_is : t.side ≡ side reg.choices sch
+  side_is = k.same_side ∙ is_side
+
+  pub room_left : Room max_before_form t
+  room_left = rw side_is (filled_bounded h t₀.numbers.now l k.filled)
+
+  -- the command's bytes are there
+  pub bytes_there : at + command_size (get_or s at 0) ≤ length s
+  bytes_there = command_room reg sch s h.reads k.filled.midway
+
+  -- of a row: the row and the variable that are named, and m
+  pub row_named : get_or s at 0 ≡ 0x3B → RowCommand reg sch (multiplier_at s at)
+  unfolding multiplier_at
+  row_named e = row_command reg sch (multiplier_at s at) (multiplier_allowed reg sch s h.reads k.filled.midway (inr e)) e
+
+  -- one command more
+
+  pub multiplier_held : 0x31 ≤ get_or s at 0 → get_or s at 0 ≤ 0x39 → {u : SquareTable} → Adds (added reg sch (named_of (multiplier_at s at))) t u → Holding reg sch s t₀ u (at + command_size (get_or s at 0))
+  multiplier_held x y d = record {
+    same_reference = d.same_reference ∙ k.same_reference;
+    same_side = d.same_side ∙ k.same_side;
+    filled = multiplier_filled h t₀.numbers.now l k.filled x y _ (rw side_is at d.holds);
+  }
+
+  pub row_held : get_or s at 0 ≡ 0x3B → {u : SquareTable} → Adds (times (multiplier_at s at).m (row_form_of reg (get_or (multiplier_at s at).names 0 0) (get_or (multiplier_at s at).names 1 0))) t u → Holding reg sch s t₀ u (at + command_size (get_or s at 0))
+  row_held c d = record {
+    same_reference = d.same_reference ∙ k.same_reference;
+    same_side = d.same_side ∙ k.same_side;
+    filled = row_filled h t₀.numbers.now l k.filled c _ (rw side_is at d.holds);
+  }
+
+  pub square_held : get_or s at 0 ≡ 0x3A → {u : SquareTable} → Becomes (less_where t.side (square_at (square_read s at)) (λ i j. true) t.numbers.now) t u → Holding reg sch s t₀ u (at + command_size (get_or s at 0))
+  square_held c d = record {
+    same_reference = d.same_reference ∙ k.same_reference;
+    same_side = d.same_side ∙ k.same_side;
+    filled = square_filled h t₀.numbers.now l k.filled c _ (rw side_is at d.holds);
+  }
+
+  -- at the end
+  pub held_last : (IsMultiplier (get_or s at 0) → ⊥) → (get_or s at 0 ≡ 0x3A → ⊥) → (p : Progress Certificate) (e : ℕ) → commands_in_job reg sch s ≡ accepted p e →
+      Becomes (with_table t₀.side (R (coefficient reg) reg sch p.parsed) t₀.numbers.now) t₀ t
+  held_last x y p e d = record { same_reference = k.same_reference; same_side = k.same_side; holds = rw is_side (filled_last h t₀.numbers.now l k.filled x y p e d) }

@@ -45,7 +45,8 @@ pub struct Found {
     pub visits: u32,
 }
 
-// The answer of the call: a refusal's number, part and position, or zeros and the plan, its cost and the visits.
+// The answer of the call: a refusal's number, part and position, or zeros and the plan, its cost and the visits. C reads it, so the
+// number stands beside the plan.
 #[repr(C)]
 #[derive(Clone, Copy, Debug, PartialEq, Eq)]
 pub struct SearchAnswer {
@@ -57,7 +58,7 @@ pub struct SearchAnswer {
     pub visits: u32,
 }
 
-// More partial plans would be visited than the limit.
+// More partial plans would be visited than the limit. It has no field, so that a walk answers one number and its last call is a jump.
 #[derive(Clone, Copy, Debug, PartialEq, Eq)]
 pub struct PastLimit;
 

@@ -16,9 +16,11 @@ use Rattle.scheme.specs.declared.Scheme.{Scheme}
 use Rattle.scheme.specs.Scheme.{variables, side}
 use Rattle.scheme.specs.Function.{g}
 use Rattle.scheme.specs.Valid.{Valid}
+use Rattle.scheme.proofs.Truncated.{valid_register}
 use Rattle.penalty.proofs.Bounds.{side_square}
 use Rattle.wire.specs.Number.{written}
-use Rattle.wire.specs.Writer.{written_answer}
+use Rattle.wire.specs.Results.{number_of}
+use Rattle.wire.specs.Writer.{refused_answer, written_answer}
 use Rattle.wire.proofs.Writer.{bytes_short, bytes_fit}
 use Rattle.plain.specs.InTable.{Small, commands_in, encode_in}
 use Rattle.plain.specs.Answer.{own_bytes, own_room}
@@ -59,44 +61,47 @@ module _ (r : Register) (s : Scheme) (register : R.Valid r) (scheme : Valid r s)
   encoded : (b : ℤ) → b ≡ r.base → encode_in N b t ≡ own_bytes r s
   encoded b d = ap (λ x. encode_in N x t) d ∙ encode_is (coefficient r) r s t _ e
 
-pub command_count-requires : goal.command_count-requires
-command_count-requires c = small c.args.register c.args.scheme c.requires.valid_register c.requires.valid _ c.function_table-table.ensures
+pub invariant_of-table : goal.invariant_of-table
+invariant_of-table c =
+    let q = c.args.quadratization.now in
+    record { small = small q.register q.scheme (valid_register q.register_valid) q.scheme_valid _ c.function_table-numbers.ensures }
 
 pub overflow_mul-count : goal.overflow_mul-count
 overflow_mul-count c =
-    omega (arith, total_few c.args.register c.args.scheme c.requires.valid_register c.requires.valid _ c.function_table-table.ensures _ c.command_count.ensures, room_small)
+    let q = c.args.quadratization.now in
+    omega (arith, total_few q.register q.scheme (valid_register q.register_valid) q.scheme_valid _ c.function_table-numbers.ensures _ c.command_count.ensures, room_small)
 
 pub overflow_add-count : goal.overflow_add-count
 overflow_add-count c =
-    omega (arith, total_few c.args.register c.args.scheme c.requires.valid_register c.requires.valid _ c.function_table-table.ensures _ c.command_count.ensures, room_small)
+    let q = c.args.quadratization.now in
+    omega (arith, total_few q.register q.scheme (valid_register q.register_valid) q.scheme_valid _ c.function_table-numbers.ensures _ c.command_count.ensures, room_small)
 
 pub returns-then-out-count : goal.returns-then-out-count
 returns-then-out-count c =
-    let a = c.args in
-    let e = bytes_total a.register a.scheme c.requires.valid_register c.requires.valid _ c.function_table-table.ensures _ c.command_count.ensures in
-    let y = bytes_short (own_bytes a.register a.scheme) a.out.now (rw (← e) c.if-out-count.true) in
-    record { value = c.refused.ensures ∙ y.0; out_after = y.1 }
+    let q = c.args.quadratization.now in
+    let e = bytes_total q.register q.scheme (valid_register q.register_valid) q.scheme_valid _ c.function_table-numbers.ensures _ c.command_count.ensures in
+    let y = bytes_short (own_bytes q.register q.scheme) c.args.out.now (rw (← e) c.if-out-count.true) in
+    record { value = ap (λ f. refused_answer (number_of f.refusal) f.part f.position) c.nowhere.ensures ∙ y.0; out_after = y.1 }
 
-pub put_certificate-requires-clause-small : goal.put_certificate-requires-clause-small
-put_certificate-requires-clause-small c = small c.args.register c.args.scheme c.requires.valid_register c.requires.valid _ c.function_table-table.ensures
-
-pub put_certificate-requires-clause-table_in_bounds : goal.put_certificate-requires-clause-table_in_bounds
-put_certificate-requires-clause-table_in_bounds c =
-    let a = c.args in
-    let v = c.requires.valid_register in
-    let p = c.requires.valid in
-    let f = c.function_table-table.ensures in
-    omega (arith, ap length (encoded a.register a.scheme v p _ f _ (base_same a.register a.scheme v p _ f)), bytes_total a.register a.scheme v p _ f _ c.command_count.ensures, c.if-out-count.false)
+pub put_certificate-requires : goal.put_certificate-requires
+put_certificate-requires c =
+    let q = c.args.quadratization.now in
+    let v = valid_register q.register_valid in
+    let f = c.function_table-numbers.ensures in
+    let same = base_same q.register q.scheme v q.scheme_valid _ f in
+    record {
+      base_bound = rw same v.within.base;
+      table_in_bounds = omega (arith, ap length (encoded q.register q.scheme v q.scheme_valid _ f _ same), bytes_total q.register q.scheme v q.scheme_valid _ f _ c.command_count.ensures, c.if-out-count.false);
+    }
 
 pub returns : goal.returns
 returns c =
-    let a = c.args in
-    let v = c.requires.valid_register in
-    let p = c.requires.valid in
-    let f = c.function_table-table.ensures in
-    let e = bytes_total a.register a.scheme v p _ f _ c.command_count.ensures in
-    let y = bytes_fit (own_bytes a.register a.scheme) a.out.now (rw (← e) c.if-out-count.false) in
+    let q = c.args.quadratization.now in
+    let v = valid_register q.register_valid in
+    let f = c.function_table-numbers.ensures in
+    let e = bytes_total q.register q.scheme v q.scheme_valid _ f _ c.command_count.ensures in
+    let y = bytes_fit (own_bytes q.register q.scheme) c.args.out.now (rw (← e) c.if-out-count.false) in
     record {
-      value = c.written.ensures ∙ ap written_answer e ∙ y.0;
-      out_after = c.put_certificate.ensures ∙ ap (written a.out.now 0) (encoded a.register a.scheme v p _ f _ (base_same a.register a.scheme v p _ f)) ∙ y.1;
+      value = ap written_answer e ∙ y.0;
+      out_after = c.put_certificate.ensures ∙ ap (written c.args.out.now 0) (encoded q.register q.scheme v q.scheme_valid _ f _ (base_same q.register q.scheme v q.scheme_valid _ f)) ∙ y.1;
     }

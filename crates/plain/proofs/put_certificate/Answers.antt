@@ -18,6 +18,8 @@ use Rattle.plain.specs.InTable.{Small, subtracted_in, diagonals_in, linears_in, 
 use Rattle.plain.proofs.Sizes.{max_subtracted}
 use Rattle.plain.proofs.InTable.{total_small}
 use Rattle.plain.proofs.Encoded.{length_scale, encode_parts, length_parts}
+use borrow.Author.Rules.{rules}
+use contract.BorrowLft.{⊑_meet, ⊑_static}
 use Rattle.plain.proofs.put_certificate.Goals as goal
 
 module _ (n : ℕ) (t : List ℤ) (ok : Small n t) (base : ℤ) where
@@ -53,37 +55,49 @@ module _ (n : ℕ) (t : List ℤ) (ok : Small n t) (base : ℤ) where
   total out h = omega (arith, length_parts 1 target (diagonals_in n t) (linears_in n t), h)
 
 pub overflow_cast-subtracted : goal.overflow_cast-subtracted
-overflow_cast-subtracted c = taken_fits _ _ c.requires.small c.args.base _ c.subtracted.ensures
+overflow_cast-subtracted c = taken_fits _ _ c.args.table.now.small c.args.base _ c.subtracted.ensures
 
 pub overflow_sub-base : goal.overflow_sub-base
-overflow_sub-base c = target_fits _ _ c.requires.small c.args.base _ c.subtracted.ensures c.requires.base_bound c.ranges.base
+overflow_sub-base c = target_fits _ _ c.args.table.now.small c.args.base _ c.subtracted.ensures c.requires.base_bound c.ranges.base
 
 pub put_scale-requires : goal.put_scale-requires
-put_scale-requires c = omega (arith, total _ _ c.requires.small c.args.base _ c.requires.table_in_bounds)
+put_scale-requires c = omega (arith, total _ _ c.args.table.now.small c.args.base _ c.requires.table_in_bounds)
 
-pub put_diagonals-middle-requires-clause-table_in_bounds : goal.put_diagonals-middle-requires-clause-table_in_bounds
-put_diagonals-middle-requires-clause-table_in_bounds c = omega (arith, total _ _ c.requires.small c.args.base _ c.requires.table_in_bounds)
+pub put_commands-middle-requires : goal.put_commands-middle-requires
+put_commands-middle-requires c κs within = (
+  search (rules, ⊑_meet, ⊑_static) depth 12,
+  (search rules, ((λ i x l p. search rules), omega (arith, total _ _ c.args.table.now.small c.args.base _ c.requires.table_in_bounds))),
+)
 
-pub put_linears-end-requires-clause-table_in_bounds : goal.put_linears-end-requires-clause-table_in_bounds
-put_linears-end-requires-clause-table_in_bounds c = omega (arith, total _ _ c.requires.small c.args.base _ c.requires.table_in_bounds, c.put_diagonals-middle.ensures.value)
+pub put_commands-end-requires : goal.put_commands-end-requires
+put_commands-end-requires c κs within = (
+  search (rules, ⊑_meet, ⊑_static) depth 12,
+  (
+    search rules,
+    (
+      (λ i x l p. search rules),
+      omega (arith, total _ _ c.args.table.now.small c.args.base _ c.requires.table_in_bounds, c.put_commands-middle.ensures.value),
+    ),
+  ),
+)
 
-pub put_u8-requires : goal.put_u8-requires
-put_u8-requires c =
-    omega (arith, total _ _ c.requires.small c.args.base _ c.requires.table_in_bounds, c.put_diagonals-middle.ensures.value, c.put_linears-end.ensures.value)
+pub write-requires : goal.write-requires
+write-requires c =
+    omega (arith, total _ _ c.args.table.now.small c.args.base _ c.requires.table_in_bounds, c.put_commands-middle.ensures.value, c.put_commands-end.ensures.value)
 
 pub returns : goal.returns
 unfolding encode_in
 returns c =
-    let n = c.args.n in
-    let t = c.args.table.now in
+    let n = c.args.table.now.n in
+    let t = c.args.table.now.numbers.now in
     let o = c.args.out.now in
-    let aim = target n t c.requires.small c.args.base in
-    let read = target_read n t c.requires.small c.args.base _ c.subtracted.ensures c.requires.base_bound c.ranges.base in
+    let aim = target n t c.args.table.now.small c.args.base in
+    let read = target_read n t c.args.table.now.small c.args.base _ c.subtracted.ensures c.requires.base_bound c.ranges.base in
     let scale : Wrote o 0 (encode_scale 1 aim) 13 c.put_scale.new.out =
     (omega (arith, length_scale 1 aim), c.put_scale.ensures ∙ ap (λ x. written o 0 (encode_scale 1 x)) read) in
-    let diagonals = and_then o 0 _ (encode_multipliers (diagonals_in n t)) scale (c.put_diagonals-middle.ensures.value, c.put_diagonals-middle.ensures.out_after) in
-    let linears = and_then o 0 _ (encode_multipliers (linears_in n t)) diagonals (c.put_linears-end.ensures.value, c.put_linears-end.ensures.out_after) in
-    c.put_u8.ensures
-    ∙ ap (λ x. put_at 1 x c.put_linears-end.result 0x3F) linears.1
-    ∙ put_at_next o 0 _ c.put_linears-end.result 1 0x3F linears.0
+    let diagonals = and_then o 0 _ (encode_multipliers (diagonals_in n t)) scale (c.put_commands-middle.ensures.value, c.put_commands-middle.ensures.out_after) in
+    let linears = and_then o 0 _ (encode_multipliers (linears_in n t)) diagonals (c.put_commands-end.ensures.value, c.put_commands-end.ensures.out_after) in
+    c.write.ensures
+    ∙ ap (λ x. put_at 1 x c.put_commands-end.result 0x3F) linears.1
+    ∙ put_at_next o 0 _ c.put_commands-end.result 1 0x3F linears.0
     ∙ ap (written o 0) (rw (one_byte 0x3F (omega arith)) (encode_parts 1 aim (diagonals_in n t) (linears_in n t)))

@@ -14,7 +14,7 @@ unfolding encode_scale
 returns c =
     let out = c.args.out.now in
     let target = of_z w64 c.args.target in
-    c.put_i64.ensures
-    ∙ ap₂ (λ l x. put_at 8 l 5 (of_z w64 x)) (c.put_u32.ensures ∙ ap (λ l. put_at 4 l 1 1) c.put_u8.ensures) (to_z-of_z c.ranges.target)
+    c.write-3.ensures
+    ∙ ap₂ (λ l x. put_at 8 l 5 (of_z w64 x)) (c.write-2.ensures ∙ ap (λ l. put_at 4 l 1 1) c.write.ensures) (to_z-of_z c.ranges.target)
     ∙ put_at_three out 0 1 4 8 0x30 1 target 1 5 refl refl
     ∙ ap (written out 0) (ap (λ l. l ++ (bytes_of 4 1 ++ bytes_of 8 target)) (one_byte 0x30 (omega arith)))

@@ -1,44 +1,35 @@
--- The quotient toward zero is the answer or one less, as the test says.
-use mathlib.Core.Path.{◌≡◌}
-use Prim.Native.Nat.{ℕ, ◌≤◌}
+-- The quotient of −t, which `div_euclid` rounds down, taken from 0.
+use Prim.Native.Nat.{ℕ, zero, suc, ◌+◌, ◌-◌, ◌/◌, ◌≤◌}
+use mathlib.Core.Path.{◌≡◌, refl, ◌∙◌, ap, ap₂}
+use native.Mathlib.Nat.{add-div_right, zero-div, div-eq_of_lt}
 use native.Mathlib.Omega.{arith}
-use lib.IntN.{ℤ, pos, nat_abs, ◌+ℤ◌, ◌*ℤ◌}
-use lib.Signed.{quot_z}
+use lib.IntN.{ℤ, pos, negsuc, neg_ℤ, ◌-ℤ◌, +ℤ_idl}
 use mir.Syntax.{w64}
 use mir.Val.{to_z, of_z}
-use Rattle.integers.proofs.Order.{nat_abs-+}
-use Rattle.integers.proofs.CeilDiv.{nat_abs-quot_z, nat_abs-quot_z-*, ceil_more, ceil_same, is_ceil_div}
-use Rattle.integers.proofs.Machine.{read_signed, read_unsigned, lt_z-true, lt_z-false}
-use Rattle.certificate.specs.Limits.{max_scale, max_target}
+use mir.Facts.{to_z-of_z}
+use Rattle.std.specs.Int.{int_div_euclid}
+use Rattle.integers.specs.CeilDiv.{ceil_div}
+use Rattle.integers.proofs.Order.{nat_abs_sub}
+use Rattle.integers.proofs.CeilDiv.{nat_abs-ceil_div}
+use Rattle.integers.proofs.Machine.{read_signed, read_unsigned}
 use Rattle.bound.proofs.dominance.ceil_div.Goals as goal
 
--- the numbers on the way are small, and their bits read back as they are
-record Small (t : ℤ) (s : ℕ) : Type 0 where
-  t_read : to_z w64 (of_z w64 t) ≡ t
-  s_read : to_z w64 s ≡ pos s
-  q_read : to_z w64 (of_z w64 (quot_z t (pos s))) ≡ quot_z t (pos s)
-  product_read : to_z w64 (of_z w64 (quot_z t (pos s) *ℤ pos s)) ≡ quot_z t (pos s) *ℤ pos s
-  next_read : to_z w64 (of_z w64 (quot_z t (pos s) +ℤ pos 1)) ≡ quot_z t (pos s) +ℤ pos 1
+rounded_up : (t : ℤ) (s : ℕ) → 1 ≤ s → neg_ℤ (int_div_euclid (neg_ℤ t) (pos s)) ≡ ceil_div t s
+unfolding ceil_div
+rounded_up (pos zero) s h =
+    let e : (0 + (s - 1)) / s ≡ 0 = div-eq_of_lt (omega arith) in
+    rw (zero-div s, e)
+rounded_up (pos (suc a)) s h =
+    let e : suc a + (s - 1) ≡ a + s = omega arith in
+    rw (e, add-div_right a h) (ap pos (omega arith))
+rounded_up (negsuc a) s h = refl
 
-small : (t : ℤ) (s : ℕ) → nat_abs t ≤ max_target → s ≤ max_scale → Small t s
-small t s h k = record {
-  t_read = read_signed w64 t (omega arith);
-  s_read = read_unsigned w64 s (omega arith);
-  q_read = read_signed w64 (quot_z t (pos s)) (omega (arith, nat_abs-quot_z t s));
-  product_read = read_signed w64 (quot_z t (pos s) *ℤ pos s) (omega (arith, nat_abs-quot_z-* t s));
-  next_read = read_signed w64 (quot_z t (pos s) +ℤ pos 1) (omega (arith, nat_abs-quot_z t s, nat_abs-+ (quot_z t (pos s)) (pos 1)));
-}
-
-pub returns-then-q-d : goal.returns-then-q-d
-returns-then-q-d c =
-    let r = small c.args.t c.args.s c.requires.t_bound (omega arith) in
-    rw (r.t_read, r.s_read, r.q_read, r.next_read)
-    (is_ceil_div c.args.s (omega arith) c.args.t _ (ceil_more c.args.s (omega arith) c.args.t
-    (lt_z-true _ _ (rw (r.t_read, r.s_read, r.q_read, r.product_read) at c.if-q-d.true))))
-
-pub returns-else-q-d : goal.returns-else-q-d
-returns-else-q-d c =
-    let r = small c.args.t c.args.s c.requires.t_bound (omega arith) in
-    rw (r.t_read, r.s_read, r.q_read)
-    (is_ceil_div c.args.s (omega arith) c.args.t _ (ceil_same c.args.s (omega arith) c.args.t
-    (lt_z-false _ _ (rw (r.t_read, r.s_read, r.q_read, r.product_read) at c.if-q-d.false))))
+pub returns : goal.returns
+returns c =
+    let t = c.args.t in
+    let s = c.args.s in
+    let n : to_z w64 (of_z w64 (pos 0 -ℤ to_z w64 (of_z w64 t))) ≡ neg_ℤ t = rw (to_z-of_z c.ranges.t) (read_signed w64 (pos 0 -ℤ t) (omega (arith, nat_abs_sub (pos 0) t)) ∙ +ℤ_idl (neg_ℤ t)) in
+    let q : c.div_euclid.result ≡ int_div_euclid (neg_ℤ t) (pos s) = c.div_euclid.ensures ∙ ap₂ int_div_euclid n (read_unsigned w64 s (omega arith)) in
+    let r : pos 0 -ℤ to_z w64 (of_z w64 c.div_euclid.result) ≡ ceil_div t s =
+    ap (λ x. pos 0 -ℤ x) (to_z-of_z {w = w64} (record { sfits = c.div_euclid.type_inv }) ∙ q) ∙ +ℤ_idl _ ∙ rounded_up t s (omega arith) in
+    rw r (read_signed w64 (ceil_div t s) (omega (arith, nat_abs-ceil_div t s)))

@@ -37,9 +37,6 @@ module _ (reg : Register) (plan : ℕ) (bound z : ℤ) (w : Within reg) (l : nat
   gap_read = rw (cost_read, bound_read) (read_signed w64 (z -ℤ bound) gap_small)
 
   answers : ◌≡◌ {A = JobRead} (record {
-    number = 0;
-    part = 0;
-    position = 0;
     register = reg;
     plan = plan;
     bound = to_z w64 (of_z w64 bound);
@@ -48,8 +45,8 @@ module _ (reg : Register) (plan : ℕ) (bound z : ℤ) (w : Within reg) (l : nat
   }) (accepted_read reg plan bound)
   answers = rw (gap_read, cost_read, bound_read, e)
 
-pub overflow_sub-gap : goal.overflow_sub-gap
-overflow_sub-gap c = gap_fits c.args.register c.args.plan c.args.bound c.cost_of-cost.result c.requires.within c.requires.bound_bound c.cost_of-cost.ensures
+pub overflow_sub-result : goal.overflow_sub-result
+overflow_sub-result c = gap_fits c.args.register c.args.plan c.args.bound c.cost_of-cost.result c.requires.within c.requires.bound_bound c.cost_of-cost.ensures
 
 pub returns : goal.returns
 returns c = answers c.args.register c.args.plan c.args.bound c.cost_of-cost.result c.requires.within c.requires.bound_bound c.cost_of-cost.ensures
