@@ -1,7 +1,7 @@
 -- What reading a job comes to, part by part, from what the readers of its parts answer.
 use Prim.Native.Nat.{ℕ, ◌+◌, ◌-◌, ◌≤◌, ◌<◌}
 use mathlib.Core.Path.{◌≡◌, refl, sym, ◌∙◌, ap}
-use mathlib.Core.List.{List, []}
+use mathlib.Core.List.{List}
 use native.Mathlib.Omega.{arith}
 use lib.IntN.{ℤ, nat_abs}
 use lib.ListN.{length, take, drop, length-drop}
@@ -12,7 +12,7 @@ use Rattle.wire.specs.declared.refusals.Refused.{Refused}
 use Rattle.wire.specs.declared.refusals.Read.{Read}
 use Rattle.wire.specs.Part.{Reading, refused, accepted}
 use Rattle.wire.specs.Rows.{Progress}
-use Rattle.wire.specs.Outcome.{Outcome, refuses, accepts, next, and_then, starting_at, added_by}
+use Rattle.wire.specs.Outcome.{Outcome, refuses, accepts, next, starting_at, added_by}
 use Rattle.wire.specs.Results.{reading_of}
 use Rattle.wire.proofs.Outcome.{position_of, not_both}
 use Rattle.register.specs.declared.Register.{Register}
@@ -30,9 +30,9 @@ use Rattle.bound.specs.Bound.{bound}
 use Rattle.bound.specs.Format.{certificate_in_job}
 use Rattle.bound.proofs.Accept as CertificateAccept
 use Rattle.bound.proofs.Bound.{bound_small}
-use Rattle.plan.specs.Format.{plan_part, plan_in_job}
-use Rattle.job.specs.Outcome.{Parts, of_register, with_scheme, with_certificate, with_plan, part_two, part_three, part_four, order, in_turn, ended, outcome, table_after, table_from_certificate}
-use Rattle.job.specs.Rest.{rest, from_plan, from_certificate, from_scheme, table_from_scheme, end_of}
+use Rattle.plan.specs.Format.{plan_in_job}
+use Rattle.job.specs.Outcome.{ended, outcome, table_after, table_from_certificate}
+use Rattle.job.specs.Rest.{from_plan, from_certificate, from_scheme, table_from_scheme, end_of}
 use Rattle.job.specs.Answer.{accepted_read, job_read}
 use Rattle.job.proofs.Positions.{part_within, certificate_within}
 

@@ -2,7 +2,6 @@
 
 #![tactic(auto)]
 
-
 ghost use Rattle.std.specs.Prelude.{◌≡◌, ◌+◌, ◌≤◌, ◌<◌, ◌^◌, nat_abs, length};
 ghost use Rattle.wire.specs.Outcome.{accepts, next, starting_at};
 ghost use Rattle.wire.specs.Results.{number_of, reading_of, outcome_of};
@@ -14,10 +13,11 @@ ghost use Rattle.job.specs.Outcome.{outcome, table_after};
 ghost use Rattle.job.specs.Rest.{end_of};
 ghost use Rattle.job.specs.Answer.{accepted_read, job_read, outcome_with, table_with, refused_answer, job_answer, job_table};
 
-use crate::stub::{Quadratization, check_certificate, read_plan, read_register, read_scheme};
+use bound::check::check_certificate;
 use forms::WorkingTable;
-use plan::cost_of;
-use register::Register;
+use plan::{cost_of, read_plan};
+use register::{Register, read_register};
+use scheme::{Quadratization, read_scheme};
 use wire::{Fault, Read, Refusal, Refused};
 
 // How many jobs of one supplier were accepted and refused so far.

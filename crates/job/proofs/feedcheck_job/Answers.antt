@@ -1,5 +1,5 @@
 -- By the supplier's number, then by the outcome of the job.
-use mathlib.Core.Path.{◌≡◌, ◌∙◌, ap, ap₂}
+use mathlib.Core.Path.{◌≡◌, ◌∙◌, ap}
 use native.Mathlib.Omega.{arith}
 use mir.Syntax.{w64}
 use mir.Val.{SFits, to_z, of_z}

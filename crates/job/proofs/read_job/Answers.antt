@@ -1,20 +1,18 @@
 -- By what reading each part in the rest of the job leads to, and the bytes past the last one's end.
-use Prim.Native.Nat.{ℕ, ◌+◌, ◌≤◌, ◌<◌, ◌^◌}
-use mathlib.Core.Path.{◌≡◌, sym, ◌∙◌, ap}
-use mathlib.Core.List.{List}
+use Prim.Native.Nat.{ℕ, ◌+◌, ◌≤◌, ◌<◌}
+use mathlib.Core.Path.{◌≡◌, ◌∙◌, ap}
 use native.Mathlib.Omega.{arith}
-use lib.IntN.{ℤ, nat_abs}
+use lib.IntN.{nat_abs}
 use lib.ListN.{length, drop}
 use mir.Syntax.{w64}
 use mir.Val.{to_z, of_z}
 use borrow.Author.Rules.{rules}
 use Rattle.integers.proofs.Machine.{read_signed}
-use Rattle.wire.specs.declared.refusals.Read.{Read}
 use Rattle.wire.specs.Outcome.{refuses, accepts, added_by}
 use Rattle.wire.specs.Results.{number_of, reading_of, outcome_of}
 use Rattle.register.specs.declared.Register.{Register}
 use Rattle.register.specs.Register.{coefficient}
-use Rattle.register.specs.Format.{register_part, register_in_job}
+use Rattle.register.specs.Format.{register_in_job}
 use Rattle.scheme.specs.declared.Scheme.{Scheme}
 use Rattle.scheme.specs.Format.{scheme_part, scheme_in_job}
 use Rattle.certificate.specs.Format.{commands_in_job}
@@ -23,8 +21,8 @@ use Rattle.bound.specs.Bound.{bound}
 use Rattle.bound.specs.Format.{certificate_in_job}
 use Rattle.bound.specs.Check.{with_residual}
 use Rattle.plan.specs.Format.{plan_part, plan_in_job}
-use Rattle.job.specs.Outcome.{table_after}
-use Rattle.job.specs.Answer.{accepted_read}
+use Rattle.job.specs.Outcome.{outcome, table_after}
+use Rattle.job.specs.Answer.{accepted_read, job_read}
 use Rattle.job.specs.Rest.{end_of}
 use Rattle.job.proofs.Positions.{part_within, certificate_within}
 use Rattle.job.proofs.Answers.{of_rest, end_is_position, ends_within, Gives, gives, refuses_here, register_refused, register_valid, register_end, scheme_refused, scheme_valid, scheme_end, then_residual, certificate_refused, bound_within, certificate_end, plan_refused, past_the_plan, at_the_end}
@@ -191,21 +189,30 @@ module _ (c : In_ok-plan) where
   four : Gives (λ plan. plan) 4 (from₄ (goal.at.In_ok-plan c).After-read_plan) (plan_in_job (reg₄ (goal.at.In_ok-plan c).After-read_plan) (drop (from₄ (goal.at.In_ok-plan c).After-read_plan) c.args.job.now)) c.in_ok-plan.field-0.value c.in_ok-plan.field-0.end
   four = gives (λ plan. plan) 4 _ _ c.read_plan.result (plan_reads (goal.at.In_ok-plan c).After-read_plan) c.in_ok-plan.field-0 c.in_ok-plan.ensures
 
-pub returns-then-end-job : goal.returns-then-end-job
-returns-then-end-job c =
-    let k = (goal.at.returns-then-end-job c).In_ok-plan in
-    record {
-      value = past_the_plan c.args.job.now (one (goal.at.returns-then-end-job c).In_ok-register) (two (goal.at.returns-then-end-job c).In_ok-scheme) (three (goal.at.returns-then-end-job c).In_ok-bound) (four k) (omega arith);
-      table_after = holds (goal.at.returns-then-end-job c).After-check_certificate;
-    }
-
-pub accepted-requires-clause-within : goal.accepted-requires-clause-within
-accepted-requires-clause-within c = (register_valid _ (one (goal.at.accepted-requires-clause-within c).In_ok-register)).within
-
+-- the bound's size, and its bits
 bound_here : (c : In_ok-bound) → (nat_abs c.in_ok-bound.field-0.value ≤ max_target) × (to_z w64 (of_z w64 c.in_ok-bound.field-0.value) ≡ c.in_ok-bound.field-0.value)
 bound_here c =
     let small = bound_within c.args.job.now (one (goal.at.In_ok-bound c).In_ok-register) (two (goal.at.In_ok-bound c).In_ok-scheme) (three c) in
     (small, read_signed w64 c.in_ok-bound.field-0.value (omega (arith, small)))
+
+module _ (c : In_ok-plan) where
+  past_here : c.in_ok-plan.field-0.end < length c.args.job.now → refuses 12 4 c.in_ok-plan.field-0.end ≡ job_read (outcome c.args.job.now)
+  past_here = past_the_plan c.args.job.now (one (goal.at.In_ok-plan c).In_ok-register) (two (goal.at.In_ok-plan c).In_ok-scheme) (three (goal.at.In_ok-plan c).In_ok-bound) (four c)
+
+  end_here : length c.args.job.now ≤ c.in_ok-plan.field-0.end →
+      accepts (accepted_read c.in_ok-register.field-0.value c.in_ok-plan.field-0.value c.in_ok-bound.field-0.value) ≡ job_read (outcome c.args.job.now)
+  end_here = at_the_end c.args.job.now (one (goal.at.In_ok-plan c).In_ok-register) (two (goal.at.In_ok-plan c).In_ok-scheme) (three (goal.at.In_ok-plan c).In_ok-bound) (four c)
+
+  holds_here : c.check_certificate.new.table ≡ table_after c.args.job.now c.args.table.now
+  holds_here = holds (goal.at.In_ok-plan c).After-check_certificate
+
+pub returns-then-end-job : goal.returns-then-end-job
+returns-then-end-job c =
+    let k = (goal.at.returns-then-end-job c).In_ok-plan in
+    record { value = past_here k (omega arith); table_after = holds_here k }
+
+pub accepted-requires-clause-within : goal.accepted-requires-clause-within
+accepted-requires-clause-within c = (register_valid _ (one (goal.at.accepted-requires-clause-within c).In_ok-register)).within
 
 pub accepted-requires-clause-bound_bound : goal.accepted-requires-clause-bound_bound
 accepted-requires-clause-bound_bound c = let (small, read) = bound_here (goal.at.accepted-requires-clause-bound_bound c).In_ok-bound in rw read small
@@ -215,8 +222,6 @@ returns c =
     let k = (goal.at.returns c).In_ok-plan in
     let b = bound_here (goal.at.returns c).In_ok-bound in
     record {
-      value =
-          ap accepts (c.accepted.ensures ∙ ap (accepted_read c.in_ok-register.field-0.value c.in_ok-plan.field-0.value) b.1)
-          ∙ at_the_end c.args.job.now (one (goal.at.returns c).In_ok-register) (two (goal.at.returns c).In_ok-scheme) (three (goal.at.returns c).In_ok-bound) (four k) (omega arith);
-      table_after = holds (goal.at.returns c).After-check_certificate;
+      value = ap accepts (c.accepted.ensures ∙ ap (accepted_read c.in_ok-register.field-0.value c.in_ok-plan.field-0.value) b.1) ∙ end_here k (omega arith);
+      table_after = holds_here k;
     }

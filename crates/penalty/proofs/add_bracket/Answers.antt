@@ -1,7 +1,7 @@
 -- The bracket is four monomials.
 use mathlib.Core.Path.{◌≡◌}
 use mathlib.Core.List.{[], ◌∷◌}
-use Prim.Native.Nat.{ℕ, ◌+◌, ◌*◌, ◌≤◌}
+use Prim.Native.Nat.{ℕ, ◌+◌, ◌*◌, ◌≤◌, ◌<◌}
 use native.Mathlib.Nat.{mul-le-mul}
 use native.Mathlib.Omega.{arith}
 use native.Mathlib.Numerals.{add-one}
@@ -11,9 +11,10 @@ use lib.IntN.{ℤ, pos, negsuc, nat_abs, ◌*ℤ◌}
 use Rattle.integers.proofs.Machine.{read_signed}
 use Rattle.integers.proofs.Order.{nat_abs-*}
 use Rattle.forms.specs.Form.{Form, mono, times}
-use Rattle.forms.specs.Store.{max_before_monomial}
+use Rattle.forms.specs.declared.SquareTable.{SquareTable}
+use Rattle.forms.specs.Store.{Room, Adds}
 use Rattle.forms.proofs.Form.{below-[], below_∷}
-use Rattle.forms.proofs.Store.{norm1}
+use Rattle.forms.proofs.Store.{norm1, bounded_weaken}
 use Rattle.forms.proofs.Added.{adds_then, adds_same, room_after}
 use Rattle.penalty.specs.Weights.{max_product_weight}
 use Rattle.penalty.specs.Penalty.{bracket}
@@ -31,25 +32,28 @@ bracketed : (k l r : ℕ) (x w : ℤ) → x ≡ w →
 unfolding times bracket
 bracketed k l r x w d = rw (d, add-one k, add-one l, add-one r)
 
-pub add_multiple-requires-2-clause-room : goal.add_multiple-requires-2-clause-room
+-- room for one more
+step : {b p q : ℕ} {x : ℤ} {t u : SquareTable} → Room b t → Adds (mono p q x ∷ []) t u → p < t.side → q < t.side → nat_abs x ≤ 3 * max_product_weight → Room (b + 6 * max_product_weight) u
 unfolding norm1
+step r a l m h = room_after r a (below_∷ l m below-[]) _ (omega (arith, h))
+
+pub add_multiple-requires-2-clause-room : goal.add_multiple-requires-2-clause-room
 add_multiple-requires-2-clause-room c =
-    room_after c.requires.room c.add_multiple.ensures (below_∷ (omega arith) (omega arith) below-[]) max_before_monomial
-    (omega (arith, weighted c.args.w (pos 3) c.requires.w_bound (omega arith)))
+    let r₁ = step c.requires.room c.add_multiple.ensures (omega arith) (omega arith) (weighted c.args.w _ c.requires.w_bound (omega arith)) in
+    bounded_weaken r₁ (omega arith)
 
 pub add_multiple-requires-3-clause-room : goal.add_multiple-requires-3-clause-room
-unfolding norm1
 add_multiple-requires-3-clause-room c =
-    room_after c.requires.room (adds_then c.add_multiple.ensures c.add_multiple-2.ensures)
-    (below_∷ (omega arith) (omega arith) (below_∷ (omega arith) (omega arith) below-[])) max_before_monomial
-    (omega (arith, weighted c.args.w (pos 3) c.requires.w_bound (omega arith), weighted c.args.w (negsuc 1) c.requires.w_bound (omega arith)))
+    let r₁ = step c.requires.room c.add_multiple.ensures (omega arith) (omega arith) (weighted c.args.w _ c.requires.w_bound (omega arith)) in
+    let r₂ = step r₁ c.add_multiple-2.ensures (omega arith) (omega arith) (weighted c.args.w _ c.requires.w_bound (omega arith)) in
+    bounded_weaken r₂ (omega arith)
 
 pub add_multiple-requires-4-clause-room : goal.add_multiple-requires-4-clause-room
-unfolding norm1
 add_multiple-requires-4-clause-room c =
-    room_after c.requires.room (adds_then (adds_then c.add_multiple.ensures c.add_multiple-2.ensures) c.add_multiple-3.ensures)
-    (below_∷ (omega arith) (omega arith) (below_∷ (omega arith) (omega arith) (below_∷ (omega arith) (omega arith) below-[]))) max_before_monomial
-    (omega (arith, weighted c.args.w (pos 3) c.requires.w_bound (omega arith), weighted c.args.w (negsuc 1) c.requires.w_bound (omega arith)))
+    let r₁ = step c.requires.room c.add_multiple.ensures (omega arith) (omega arith) (weighted c.args.w _ c.requires.w_bound (omega arith)) in
+    let r₂ = step r₁ c.add_multiple-2.ensures (omega arith) (omega arith) (weighted c.args.w _ c.requires.w_bound (omega arith)) in
+    let r₃ = step r₂ c.add_multiple-3.ensures (omega arith) (omega arith) (weighted c.args.w _ c.requires.w_bound (omega arith)) in
+    bounded_weaken r₃ (omega arith)
 
 pub returns : goal.returns
 returns c =
