@@ -3,8 +3,7 @@
 
 #![tactic(auto)]
 
-ghost use Rattle.std.specs.Prelude.{◌≡◌, ◌++◌, ◌^◌, ◌≤◌, ◌<◌, IfOk, length, drop};
-ghost use Rattle.wire.specs.Number.{written};
+ghost use Rattle.std.specs.Prelude.{◌≡◌, ◌++◌, ◌+◌, ◌^◌, ◌≤◌, ◌<◌, IfOk, length, drop};
 ghost use Rattle.register.specs.Limits.{max_choices};
 ghost use Rattle.job.specs.Outcome.{outcome};
 ghost use Rattle.listing.specs.Listing.{listing, supplier_listing};
@@ -14,7 +13,7 @@ ghost use Rattle.console.specs.Cheapest.{search_lines, cheapest_lines, cheapest_
 
 use forms::WorkingTable;
 use job::{Tally, feedcheck_job};
-use listing::{feedcheck_listing, feedcheck_supplier_listing, put_choices, put_refusal};
+use listing::{Listing, feedcheck_listing, feedcheck_supplier_listing};
 use register::{Register, feedcheck_register};
 use search::{SearchAnswer, feedcheck_search};
 use std::io;
@@ -27,7 +26,7 @@ pub const MAX_VISITS: u32 = 100_000_000;
 pub const SUPPLIER: u8 = 0;
 
 // What `feedcheck` makes of a job: the count of the bytes of its lines, and the tally with it counted, which nothing shows.
-#[derive(Clone, Copy)]
+#[derive(Clone, Copy, Debug, PartialEq, Eq)]
 pub struct Checked {
     pub count: usize,
     pub tally: Tally,
@@ -41,7 +40,7 @@ pub fn lines_of(job: &[u8], text: &mut [u8]) -> Checked
     ensures text_after { text.new ≡ listing (outcome job.now) ++ drop result.count text.old }
     ensures within { result.count ≤ length text.new }
 {
-    let mut table = [0i64; WorkingTable::NUMBERS];
+    let mut table = [0; WorkingTable::NUMBERS];
     let counted = feedcheck_job(job, &mut table, SUPPLIER, Tally::fresh());
     let answer = feedcheck_listing(job, &mut table, text);
     Checked {
@@ -57,7 +56,7 @@ pub fn supplier_lines(job: &[u8], text: &mut [u8]) -> usize
     ensures text_after { text.new ≡ supplier_listing (outcome job.now) ++ drop result text.old }
     ensures within { result ≤ length text.new }
 {
-    let mut table = [0i64; WorkingTable::NUMBERS];
+    let mut table = [0; WorkingTable::NUMBERS];
     let answer = feedcheck_supplier_listing(job, &mut table, text);
     answer.count
 }
@@ -67,7 +66,8 @@ pub const INPUT: usize = 65_536;
 
 pub const TEXT: usize = 4_096;
 
-// Reads until the buffer is full or nothing is left. Returns the count of bytes read.
+// Reads until the buffer is full or nothing is left. Returns the count of bytes read. A read gives as many as it likes, so no `for`
+// goes over the reads.
 fn read_full<R: Read>(input: &mut R, buffer: &mut [u8]) -> io::Result<usize>
     ensures { IfOk result (λ n. n ≤ length buffer.new) }
 {
@@ -82,40 +82,46 @@ fn read_full<R: Read>(input: &mut R, buffer: &mut [u8]) -> io::Result<usize>
     Ok(done)
 }
 
+// Reads a program's input from one place and prints the lines that it leads to to another.
+fn print_lines<R: Read, W: Write, F: FnOnce(&[u8], &mut [u8; TEXT]) -> usize>(
+    input: &mut R,
+    output: &mut W,
+    put_lines: F,
+) -> io::Result<()>
+    requires callable { F.IsAlwaysCallable put_lines }
+    requires within { (bytes : _) (text : _) (count : _) (after : _) → F.post put_lines bytes text count after → count ≤ listing_room }
+{
+    let mut bytes = [0; INPUT];
+    let n = read_full(input, &mut bytes)?;
+    let mut text = [0; TEXT];
+    let count = put_lines(&bytes[..n], &mut text);
+    output.write_all(&text[..count])
+}
+
 // Reads a job from one place and prints its lines to another. What a job leads to stands in fewer bytes (`reach_is` in
 // job/proofs/Prefix) than are read, so what stands past these makes no difference.
 pub fn print_listing<R: Read, W: Write>(input: &mut R, output: &mut W) -> io::Result<()> {
-    let mut job = [0u8; INPUT];
-    let n = read_full(input, &mut job)?;
-    let mut text = [0u8; TEXT];
-    let checked = lines_of(&job[..n], &mut text);
-    output.write_all(&text[..checked.count])
+    print_lines(input, output, |job, text| lines_of(job, text).count)
 }
 
 // Reads a job and prints the lines that its supplier may read. What stands past the bytes read makes no difference to these either.
 pub fn print_supplier_listing<R: Read, W: Write>(input: &mut R, output: &mut W) -> io::Result<()> {
-    let mut job = [0u8; INPUT];
-    let n = read_full(input, &mut job)?;
-    let mut text = [0u8; TEXT];
-    let count = supplier_lines(&job[..n], &mut text);
-    output.write_all(&text[..count])
+    print_lines(input, output, |job, text| supplier_lines(job, text))
 }
 
-// Writes the lines of what the search call answered for a register at the front. Returns their count of bytes.
-fn put_search(register: Register, answer: SearchAnswer, out: &mut [u8]) -> usize
+// Puts the lines of what the search call answered for a register.
+fn put_search(register: Register, answer: SearchAnswer, listing: &mut Listing)
     requires choices_le_max_choices { register.choices ≤ max_choices }
     requires position_bound { answer.position < 2 ^ 63 }
-    requires answer_in_bounds { length (search_lines register answer) ≤ length out.old }
-    ensures value { result ≡ length (search_lines register answer) }
-    ensures out_after { out.new ≡ written out.old 0 (search_lines register answer) }
+    requires room { length listing.old + length (search_lines register answer) ≤ listing_room }
+    ensures { listing.new ≡ listing.old ++ search_lines register answer }
 {
-    let number = answer.number;
-    if number != 0 {
-        return put_refusal(number, answer.position, out);
+    if answer.number == 0 {
+        listing.put_fed(register, answer.plan);
+        listing.put_line(0x53, &[answer.cost, i64::from(answer.visits)]);
+    } else {
+        listing.put_refusal(answer.number, answer.position);
     }
-    let end = put_choices(register, answer.plan, 0x46, out, 0);
-    let numbers = [answer.cost, answer.visits as i64];
-    text::put_line(out, end, 0x53, &numbers)
 }
 
 // The lines of a register's cheapest plan, at the front of the lent text. Returns their count of bytes.
@@ -127,7 +133,9 @@ pub fn cheapest_lines(register: &[u8], limit: u32, text: &mut [u8]) -> usize
 {
     let answer = feedcheck_search(register, limit);
     let read = feedcheck_register(register);
-    put_search(read.register, answer, text)
+    let mut listing = Listing::empty();
+    put_search(read.register, answer, &mut listing);
+    listing.write_to(text)
 }
 
 // Reads a register from one place and prints the lines of its cheapest plan to another. What a register leads to stands in fewer
@@ -137,9 +145,9 @@ pub fn print_cheapest<R: Read, W: Write>(
     output: &mut W,
     limit: u32,
 ) -> io::Result<()> {
-    let mut register = [0u8; INPUT];
-    let n = read_full(input, &mut register)?;
-    let mut text = [0u8; TEXT];
-    let count = cheapest_lines(&register[..n], limit, &mut text);
-    output.write_all(&text[..count])
+    print_lines(
+        input,
+        output,
+        |register, text| cheapest_lines(register, limit, text),
+    )
 }

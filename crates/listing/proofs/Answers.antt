@@ -1,19 +1,17 @@
 -- What a listing call answers and leaves, from what reading the job gave, whatever its lines of a register and a plan.
 use Prim.Native.Nat.{ℕ, ◌≤◌, ◌<◌}
-use mathlib.Core.Path.{◌≡◌, refl, sym, ap, ◌∙◌}
+use mathlib.Core.Path.{◌≡◌, sym, ap, ◌∙◌}
 use mathlib.Core.Bool.{true}
 use mathlib.Core.List.{List, ◌++◌}
 use native.Mathlib.Omega.{arith}
 use lib.Dec.{ltb}
 use lib.IntN.{ℤ}
-use lib.ListN.{length, take, drop}
-use lib.Seq.{take_at}
+use lib.ListN.{length, drop}
 use borrow.Author.Tests.{lt-ltb, le-ltb}
 use Rattle.integers.proofs.Lists.{flag}
 use Rattle.forms.specs.Table.{table_numbers}
 use Rattle.job.specs.Outcome.{outcome, table_after}
 use Rattle.wire.specs.declared.WriterAnswer.{WriterAnswer}
-use Rattle.wire.specs.Number.{written}
 use Rattle.wire.specs.Writer.{refused_answer, written_answer, bytes_answer, with_front}
 use Rattle.wire.proofs.Written.{written_front}
 use Rattle.wire.proofs.Writer.{HandedBack, bytes_short, bytes_fit, bytes_back}
@@ -26,17 +24,11 @@ module _ (bytes lent : List ℕ) where
   abbrev Leaves : WriterAnswer → List ℕ → Type 0
   Leaves a out = (a ≡ bytes_answer bytes lent) × (out ≡ with_front bytes lent)
 
-  pub no_room : (count : ℕ) → count ≡ length bytes → length lent < count → Leaves (refused_answer 11 0 0) lent
-  no_room count e l = bytes_short bytes lent (omega arith)
+  pub no_room : length lent < length bytes → Leaves (refused_answer 11 0 0) lent
+  no_room l = bytes_short bytes lent l
 
-  -- the bytes at the front of an array, copied
-  pub copied : (own : List ℕ) (count : ℕ) (array out : List ℕ) → count ≡ length bytes → array ≡ written own 0 bytes → length bytes ≤ length own →
-      count ≤ length lent → out ≡ take count array ++ drop count lent → Leaves (written_answer count) out
-  copied own count array out e f h l d =
-      let fit : length bytes ≤ length lent = omega arith in
-      let w = bytes_fit bytes lent fit in
-      let front : take (length bytes) array ≡ bytes = ap (take (length bytes)) (f ∙ written_front own bytes h) ∙ take_at bytes (drop (length bytes) own) (length bytes) refl in
-      (ap written_answer e ∙ w.0, d ∙ rw (e, front) (sym (written_front lent bytes fit)) ∙ w.1)
+  pub copied : length bytes ≤ length lent → Leaves (written_answer (length bytes)) (bytes ++ drop (length bytes) lent)
+  copied fit = let w = bytes_fit bytes lent fit in (w.0, sym (written_front lent bytes fit) ∙ w.1)
 
 -- ---- the call
 

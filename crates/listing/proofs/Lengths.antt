@@ -7,13 +7,9 @@ use mathlib.Core.Bool.{Bool, true, false}
 use mathlib.Core.List.{List, [], ◌∷◌, ◌++◌, flat_map}
 use lib.IntN.{ℤ, pos, nat_abs}
 use lib.ListN.{length, length-append}
-use lib.Dec.{eqb}
-use mir.Syntax.{w64}
-use mir.Val.{SFits}
 use Rattle.integers.specs.Integer.{bit}
 use Rattle.integers.specs.Lists.{join_below}
-use Rattle.integers.proofs.Lists.{flag, cond_cases}
-use Rattle.integers.proofs.Machine.{signed_small}
+use Rattle.integers.proofs.Lists.{cond_cases}
 use Rattle.register.specs.declared.Register.{Register}
 use Rattle.register.specs.Limits.{max_choices, max_tank, long_day}
 use Rattle.register.specs.Register.{tank, minute}
@@ -22,24 +18,11 @@ use Rattle.register.proofs.Entries.{day_within}
 use Rattle.sets.specs.Sets.{is_member}
 use Rattle.text.specs.Text.{digits_to, digits, decimal, line}
 use Rattle.text.proofs.Lines.{line_no_longer, natural_no_longer, integer_no_longer}
-use Rattle.job.specs.declared.JobRead.{JobRead}
-use Rattle.listing.specs.Listing.{PlanLines, choice_line, choice_lines, fed_line, fed_lines, supplier_lines, bound_line, accepted_lines}
-use Rattle.listing.specs.ByLetter.{lines_under, lines_for}
-use Rattle.listing.specs.Answer.{longest_number, longest_listing, listing_room, lines_of}
-
--- the lines under `T`, under `F` and under `C`
-module _ (r : Register) (plan : ℕ) where
-  pub choice_lines_lem : lines_under 0x54 r plan ≡ choice_lines r
-  unfolding lines_under choice_lines
-  choice_lines_lem = refl
-
-  pub fed_lines_lem : lines_under 0x46 r plan ≡ fed_lines r plan
-  unfolding lines_under fed_lines
-  fed_lines_lem = refl
-
-  pub supplier_lines_lem : lines_under 0x43 r plan ≡ supplier_lines r plan
-  unfolding lines_under supplier_lines
-  supplier_lines_lem = refl
+use Rattle.listing.specs.Listing.{PlanLines, choice_line, choice_lines, fed_line, fed_lines, supplier_lines, bound_line, accepted_lines, refusal_line}
+use Rattle.listing.specs.declared.Reader.{Reader}
+use Rattle.listing.specs.declared.Reader.TheVariants.{Farm, Supplier}
+use Rattle.listing.specs.Readers.{lines_for}
+use Rattle.listing.specs.Answer.{longest_number, longest_listing, listing_room}
 
 module _ (lines : PlanLines) (r : Register) (plan : ℕ) (bound cost gap : ℤ) where
   pub accepted_is : accepted_lines lines r plan bound cost gap ≡ lines r plan ++ bound_line bound cost gap
@@ -90,33 +73,35 @@ module _ (r : Register) (w : Within r) where
       bit_short true = natural_no_longer 1 max_tank (omega arith)
       bit_short false = natural_no_longer 0 max_tank (omega arith)
 
-  -- for a supplier and for a farm
-  plan_short : (supplier : Bool) (plan : ℕ) → length (lines_for supplier r plan) ≤ max_choices * (length (choice_line max_choices max_tank (long_day - 1)) + length (fed_line max_tank (long_day - 1)))
-  plan_short true plan = omega (arith, supplier_short plan)
-  plan_short false plan = omega (arith, length-append (choice_lines r) (fed_lines r plan), choices_short, fed_short plan)
+  -- whoever reads them
+  plan_short : (reader : Reader) (plan : ℕ) → length (lines_for reader r plan) ≤ max_choices * (length (choice_line max_choices max_tank (long_day - 1)) + length (fed_line max_tank (long_day - 1)))
+  plan_short Supplier plan = omega (arith, supplier_short plan)
+  plan_short Farm plan = omega (arith, length-append (choice_lines r) (fed_lines r plan), choices_short, fed_short plan)
 
 -- numbers of 64 bits
 pub small_no_longer : (z : ℤ) → nat_abs z ≤ 2 ^ 63 → length (decimal z) ≤ length (decimal longest_number)
 small_no_longer z h = integer_no_longer z (2 ^ 63 - 1) h
 
-pub lines_short : (supplier : Bool) (read : JobRead) → Within read.register → read.number < 2 ^ 8 → read.position < 2 ^ 63 →
-    SFits w64 read.bound → SFits w64 read.cost → SFits w64 read.gap → length (lines_of (lines_for supplier) read) ≤ longest_listing
-unfolding lines_of longest_listing
-lines_short supplier read w n p b c g =
-    let r = read.register in
-    flag (eqb read.number 0)
-    (λ t. rw t (omega (
+pub accepted_short : (reader : Reader) (r : Register) (plan : ℕ) (bound cost gap : ℤ) → Within r → nat_abs bound ≤ 2 ^ 63 → nat_abs cost ≤ 2 ^ 63 → nat_abs gap ≤ 2 ^ 63 →
+    length (accepted_lines (lines_for reader) r plan bound cost gap) ≤ longest_listing
+unfolding longest_listing
+accepted_short reader r plan bound cost gap w b c g =
+    omega (
       arith,
-      length_accepted (lines_for supplier) r read.plan read.bound read.cost read.gap,
-      plan_short r w supplier read.plan,
-      line_no_longer 0x42 0x42 (read.bound ∷ read.cost ∷ read.gap ∷ []) (longest_number ∷ longest_number ∷ longest_number ∷ [])
-          (small_no_longer _ (signed_small w64 read.bound b), (small_no_longer _ (signed_small w64 read.cost c), (small_no_longer _ (signed_small w64 read.gap g), tt))),
-    )))
-    (λ f. rw f (omega (
+      length_accepted (lines_for reader) r plan bound cost gap,
+      plan_short r w reader plan,
+      line_no_longer 0x42 0x42 (bound ∷ cost ∷ gap ∷ []) (longest_number ∷ longest_number ∷ longest_number ∷ [])
+          (small_no_longer bound b, (small_no_longer cost c, (small_no_longer gap g, tt))),
+    )
+
+pub refusal_short : (number at : ℕ) → number < 2 ^ 8 → at < 2 ^ 63 → length (refusal_line number at) ≤ longest_listing
+unfolding longest_listing
+refusal_short number at n l =
+    omega (
       arith,
-      line_no_longer 0x52 0x42 (pos read.number ∷ pos read.position ∷ []) (longest_number ∷ longest_number ∷ longest_number ∷ [])
-          (small_no_longer (pos read.number) (omega arith), (small_no_longer (pos read.position) (omega arith), tt)),
-    )))
+      line_no_longer 0x52 0x42 (pos number ∷ pos at ∷ []) (longest_number ∷ longest_number ∷ longest_number ∷ [])
+          (small_no_longer (pos number) (omega arith), (small_no_longer (pos at) (omega arith), tt)),
+    )
 
 pub longest_is : longest_listing ≡ 929
 unfolding longest_listing line flat_map decimal digits digits_to

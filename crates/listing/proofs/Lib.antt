@@ -5,3 +5,6 @@ pub mod Answers
 pub mod Lettered
 pub mod Lines
 pub mod SupplierLines
+pub mod Joined
+pub mod Bits
+mod Room

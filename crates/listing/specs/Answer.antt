@@ -1,12 +1,11 @@
 -- What the two listing calls answer, and the table and the buffer after them.
-use Rattle.std.specs.Prelude.{ℕ, ◌+◌, ◌*◌, ◌-◌, ◌^◌, cond, List, ltb, eqb, ℤ, negsuc, length}
+use Rattle.std.specs.Prelude.{ℕ, ◌+◌, ◌*◌, ◌-◌, ◌^◌, cond, List, ltb, ℤ, negsuc, length}
 use Rattle.wire.specs.declared.WriterAnswer.{WriterAnswer}
 use Rattle.wire.specs.Writer.{refused_answer, bytes_answer, with_front}
 use Rattle.forms.specs.Table.{table_numbers}
 use Rattle.register.specs.Limits.{max_choices, max_tank, long_day}
-use Rattle.job.specs.declared.JobRead.{JobRead}
 use Rattle.job.specs.Outcome.{outcome, table_after}
-use Rattle.listing.specs.Listing.{PlanLines, choice_line, fed_line, plan_lines, supplier_lines, bound_line, accepted_lines, refusal_line, listed}
+use Rattle.listing.specs.Listing.{PlanLines, choice_line, fed_line, plan_lines, supplier_lines, bound_line, listed}
 
 -- no listing has more bytes: a `T` and an `F` line of the highest numbers for each choice, and a `B` line of −2^63, the longest
 -- number of 64 bits. A supplier's is shorter, as a `C` line is shorter than that `T` line
@@ -57,10 +56,3 @@ supplier_answer = answer_with supplier_lines
 
 abbrev pub supplier_buffer : List ℕ → List ℤ → List ℕ → List ℕ
 supplier_buffer = buffer_with supplier_lines
-
--- the lines of what reading a job gave
-unfoldable pub lines_of : PlanLines → JobRead → List ℕ
-lines_of lines read =
-    cond (eqb read.number 0)
-    (accepted_lines lines read.register read.plan read.bound read.cost read.gap)
-    (refusal_line read.number read.position)

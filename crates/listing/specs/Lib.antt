@@ -2,5 +2,5 @@
 pub mod Listing
 pub mod Answer
 pub mod Same
--- not the paper's: the lines of choices as the code writes them, for a farm or for a supplier
-pub mod ByLetter
+-- not the paper's: the lines of choices by who reads them
+pub mod Readers

@@ -2,194 +2,214 @@
 
 #![tactic(auto)]
 
-ghost use Rattle.std.specs.Prelude.{◌≡◌, ◌++◌, ◌+◌, ◌^◌, ◌≤◌, ◌<◌, length, take, drop};
-ghost use Rattle.job.specs.Outcome.{outcome};
+ghost use Rattle.std.specs.Prelude.{◌≡◌, [], ◌++◌, ◌+◌, ◌^◌, ◌≤◌, ◌<◌, length, drop};
+ghost use Rattle.forms.specs.Table.{table_numbers};
+ghost use Rattle.job.specs.Outcome.{outcome, table_after};
 ghost use Rattle.register.specs.Limits.{max_choices};
-ghost use Rattle.register.specs.Valid.{Within};
-ghost use Rattle.wire.specs.Number.{written};
-ghost use Rattle.wire.specs.Writer.{bytes_answer, with_front};
-ghost use Rattle.listing.specs.Listing.{accepted_lines, refusal_line, listed, listing, supplier_listing};
-ghost use Rattle.listing.specs.ByLetter.{line_under, lines_under, lines_for};
-ghost use Rattle.listing.specs.Answer.{listing_room, lines_of, answer_with, buffer_with, listing_answer, listing_table, listing_buffer, supplier_answer, supplier_buffer};
+ghost use Rattle.text.specs.Text.{line};
+ghost use Rattle.wire.specs.Outcome.{answer_by};
+ghost use Rattle.wire.specs.Results.{outcome_of};
+ghost use Rattle.wire.specs.Writer.{refused_answer, written_answer};
+ghost use Rattle.listing.specs.Listing.{choice_lines, fed_lines, supplier_lines, accepted_lines, refusal_line, listed, listing, supplier_listing};
+ghost use Rattle.listing.specs.Readers.{lines_for};
+ghost use Rattle.listing.specs.Answer.{listing_room, answer_with, buffer_with, listing_answer, listing_table, listing_buffer, supplier_answer, supplier_buffer};
 
 use forms::WorkingTable;
 use job::{JobRead, read_job};
+use plan::choice_sets::has;
 use register::Register;
-use wire::WriterAnswer;
+use std::marker::Model;
+use wire::{Fault, Refusal, WriterAnswer};
 
-// The listing of a job.
-#[derive(Clone, Copy)]
-pub struct Listing;
+// A listing: lines put one after the other at the front of an array. An `ArrayVec` lends no room past its end, where
+// `text::put_line` writes.
+#[derive(Drop)]
+pub struct Listing {
+    bytes: [u8; Listing::MAX_BYTES],
+    count: usize,
+}
+
+// Clauses see the bytes of the lines.
+impl Model for Listing {
+    ghost use Rattle.std.specs.Prelude.{ℕ, List, ◌≤◌, take};
+    ghost use Rattle.listing.specs.Answer.{listing_room};
+
+    ghost Value = { List ℕ };
+
+    ghost view = { λ l. take l.count l.bytes };
+
+    ghost invariant = { λ l. l.count ≤ listing_room };
+}
+
+// Who reads a listing.
+#[derive(Clone, Copy, Debug, PartialEq, Eq)]
+pub enum Reader {
+    Farm,
+    Supplier,
+}
 
 impl Listing {
-    // No listing has more bytes.
+    // No listing of a job has more bytes.
     pub const MAX_BYTES: usize = 4096;
-}
 
-// Writes the line of a choice with a letter: `T`, `C`, or `F` where it is fed. Returns the position after it.
-fn put_choice(
-    out: &mut [u8],
-    at: usize,
-    letter: u8,
-    fed: bool,
-    choice: usize,
-    tank: u16,
-    minute: u16,
-) -> usize
-    requires choice_le_max_choices { choice ≤ max_choices }
-    requires minute_in_bounds { at + length (line_under letter fed choice tank minute) ≤ length out.old }
-    ensures value { result ≡ at + length (line_under letter fed choice tank minute) }
-    ensures out_after { out.new ≡ written out.old at (line_under letter fed choice tank minute) }
-{
-    if letter == 0x54 {
-        let numbers = [choice as i64, tank as i64, minute as i64];
-        return text::put_line(out, at, 0x54, &numbers);
+    pub fn empty() -> Listing
+        ensures { result ≡ [] }
+    {
+        Listing {
+            bytes: [0; Listing::MAX_BYTES],
+            count: 0,
+        }
     }
-    if letter == 0x43 {
-        let numbers = [choice as i64, fed as i64];
-        return text::put_line(out, at, 0x43, &numbers);
+
+    // The count of bytes.
+    pub fn len(&self) -> usize
+        ensures value { result ≡ length self.now }
+        ensures within { result ≤ listing_room }
+    {
+        self.count
     }
-    if fed {
-        let numbers = [tank as i64, minute as i64];
-        return text::put_line(out, at, 0x46, &numbers);
+
+    // Writes the lines at the front of a buffer. Returns their count of bytes.
+    pub fn write_to(&self, buffer: &mut [u8]) -> usize
+        requires { length self.now ≤ length buffer.old }
+        ensures value { result ≡ length self.now }
+        ensures buffer_after { buffer.new ≡ self.now ++ drop result buffer.old }
+        ensures within { result ≤ length buffer.new }
+    {
+        buffer[..self.count].copy_from_slice(&self.bytes[..self.count]);
+        self.len()
     }
-    at
-}
 
-// Writes the line of each choice with a letter. Returns the position after them.
-pub fn put_choices(register: Register, plan: u32, letter: u8, out: &mut [u8], start: usize) -> usize
-    requires choices_le_max_choices { register.choices ≤ max_choices }
-    requires plan_in_bounds { start + length (lines_under letter register plan) ≤ length out.old }
-    ensures value { result ≡ start + length (lines_under letter register plan) }
-    ensures out_after { out.new ≡ written out.old start (lines_under letter register plan) }
-{
-    let mut at = start;
-    let mut i = 0;
-    while i < register.choices {
-        let fed = (plan >> i) % 2 == 1;
-        at = put_choice(
-            out,
-            at,
-            letter,
-            fed,
-            i,
-            register.tanks[i],
-            register.minutes[i],
-        );
-        i += 1;
+    // Puts a line: a letter and the numbers.
+    pub fn put_line(&mut self, letter: u8, numbers: &[i64])
+        requires { length self.old + length (line letter numbers.now) ≤ listing_room }
+        ensures { self.new ≡ self.old ++ line letter numbers.now }
+    {
+        self.count = text::put_line(&mut self.bytes, self.count, letter, numbers);
     }
-    at
-}
 
-// Writes the lines of the choices at the front, those of a supplier or those of a farm. Returns their count of bytes.
-fn put_plan(register: Register, plan: u32, supplier: bool, out: &mut [u8]) -> usize
-    requires choices_le_max_choices { register.choices ≤ max_choices }
-    requires plan_in_bounds { length (lines_for supplier register plan) ≤ length out.old }
-    ensures value { result ≡ length (lines_for supplier register plan) }
-    ensures out_after { out.new ≡ written out.old 0 (lines_for supplier register plan) }
-{
-    if supplier {
-        return put_choices(register, plan, 0x43, out, 0);
+    // Puts the line of each choice: its number, tank and minute.
+    pub fn put_choices(&mut self, register: Register)
+        requires choices_le_max_choices { register.choices ≤ max_choices }
+        requires room { length self.old + length (choice_lines register) ≤ listing_room }
+        ensures { self.new ≡ self.old ++ choice_lines register }
+    {
+        for i in 0..register.choices {
+            let tank = i64::from(register.tanks[i]);
+            let minute = i64::from(register.minutes[i]);
+            self.put_line(0x54, &[i as i64, tank, minute]);
+        }
     }
-    let middle = put_choices(register, plan, 0x54, out, 0);
-    put_choices(register, plan, 0x46, out, middle)
-}
 
-// Writes the lines of an accepted job at the front. Returns their count of bytes.
-fn put_accepted(
-    register: Register,
-    plan: u32,
-    supplier: bool,
-    bound: i64,
-    cost: i64,
-    gap: i64,
-    out: &mut [u8],
-) -> usize
-    requires choices_le_max_choices { register.choices ≤ max_choices }
-    requires gap_in_bounds { length (accepted_lines (lines_for supplier) register plan bound cost gap) ≤ length out.old }
-    ensures value { result ≡ length (accepted_lines (lines_for supplier) register plan bound cost gap) }
-    ensures out_after { out.new ≡ written out.old 0 (accepted_lines (lines_for supplier) register plan bound cost gap) }
-{
-    let end = put_plan(register, plan, supplier, out);
-    let numbers = [bound, cost, gap];
-    text::put_line(out, end, 0x42, &numbers)
-}
+    // Puts the line of each fed choice: its tank and minute.
+    pub fn put_fed(&mut self, register: Register, plan: u32)
+        requires choices_le_max_choices { register.choices ≤ max_choices }
+        requires room { length self.old + length (fed_lines register plan) ≤ listing_room }
+        ensures { self.new ≡ self.old ++ fed_lines register plan }
+    {
+        for i in 0..register.choices {
+            let fed = has(plan, i);
+            if fed {
+                let tank = i64::from(register.tanks[i]);
+                let minute = i64::from(register.minutes[i]);
+                self.put_line(0x46, &[tank, minute]);
+            }
+        }
+    }
 
-// Writes the line of a refusal at the front. Returns its count of bytes.
-pub fn put_refusal(number: u8, position: usize, out: &mut [u8]) -> usize
-    requires position_bound { position < 2 ^ 63 }
-    requires position_in_bounds { length (refusal_line number position) ≤ length out.old }
-    ensures value { result ≡ length (refusal_line number position) }
-    ensures out_after { out.new ≡ written out.old 0 (refusal_line number position) }
-{
-    let numbers = [number as i64, position as i64];
-    text::put_line(out, 0, 0x52, &numbers)
-}
+    // Puts the line of each choice that a supplier may read: its number, and 1 or 0 for fed or not.
+    pub fn put_supplier_choices(&mut self, register: Register, plan: u32)
+        requires choices_le_max_choices { register.choices ≤ max_choices }
+        requires room { length self.old + length (supplier_lines register plan) ≤ listing_room }
+        ensures { self.new ≡ self.old ++ supplier_lines register plan }
+    {
+        for i in 0..register.choices {
+            let fed = has(plan, i);
+            self.put_line(0x43, &[i as i64, i64::from(fed)]);
+        }
+    }
 
-// Copies the first bytes of one run to the front of another.
-fn copy_front(from: &[u8], count: usize, out: &mut [u8])
-    requires count_in_bounds { count ≤ length from.now }
-    requires count_in_bounds_2 { count ≤ length out.old }
-    ensures { out.new ≡ take count from.now ++ drop count out.old }
-{
-    let mut i = 0;
-    while i < count {
-        out[i] = from[i];
-        i += 1;
+    // Puts the line of a refusal.
+    pub fn put_refusal(&mut self, number: u8, position: usize)
+        requires position_bound { position < 2 ^ 63 }
+        requires room { length self.old + length (refusal_line number position) ≤ listing_room }
+        ensures { self.new ≡ self.old ++ refusal_line number position }
+    {
+        self.put_line(0x52, &[i64::from(number), position as i64]);
+    }
+
+    // Puts the lines of the choices, as a reader has them.
+    fn put_plan(&mut self, register: Register, plan: u32, reader: Reader)
+        requires choices_le_max_choices { register.choices ≤ max_choices }
+        requires room { length self.old + length (lines_for reader register plan) ≤ listing_room }
+        ensures { self.new ≡ self.old ++ lines_for reader register plan }
+    {
+        match reader {
+            Reader::Farm => {
+                self.put_choices(register);
+                self.put_fed(register, plan);
+            }
+            Reader::Supplier => self.put_supplier_choices(register, plan),
+        }
+    }
+
+    // Puts the lines of an accepted job.
+    fn put_accepted(&mut self, read: JobRead, reader: Reader)
+        requires choices_le_max_choices { read.register.choices ≤ max_choices }
+        requires room { length self.old + length (accepted_lines (lines_for reader) read.register read.plan read.bound read.cost read.gap) ≤ listing_room }
+        ensures { self.new ≡ self.old ++ accepted_lines (lines_for reader) read.register read.plan read.bound read.cost read.gap }
+    {
+        self.put_plan(read.register, read.plan, reader);
+        self.put_line(0x42, &[read.bound, read.cost, read.gap]);
     }
 }
 
-// Writes the lines of what reading a job gave at the front. Returns their count of bytes.
-fn put_lines(read: JobRead, supplier: bool, out: &mut [u8]) -> usize
-    requires choices_le_max_choices { read.register.choices ≤ max_choices }
-    requires position_bound { read.position < 2 ^ 63 }
-    requires read_in_bounds { length (lines_of (lines_for supplier) read) ≤ length out.old }
-    ensures value { result ≡ length (lines_of (lines_for supplier) read) }
-    ensures out_after { out.new ≡ written out.old 0 (lines_of (lines_for supplier) read) }
+// Reads a job and lists its lines, as a reader has them. The table is as after the job.
+fn listing_of(job: &[u8], table: &mut [i64], reader: Reader) -> Listing
+    requires { table_numbers ≤ length table.old }
+    ensures value { result ≡ listed (lines_for reader) (outcome job.now) }
+    ensures table_after { table.new ≡ table_after job.now table.old }
 {
-    let number = read.number;
-    if number != 0 {
-        return put_refusal(number, read.position, out);
+    let mut listing = Listing::empty();
+    match read_job(job, table) {
+        Ok(read) => listing.put_accepted(read, reader),
+        Err(fault) => listing.put_refusal(fault.refusal.number(), fault.position),
     }
-    put_accepted(
-        read.register,
-        read.plan,
-        supplier,
-        read.bound,
-        read.cost,
-        read.gap,
-        out,
-    )
+    listing
 }
 
-// Writes the lines into the lent buffer, if it is long enough. They are put together in an array of our own first.
-fn write_lines(read: JobRead, supplier: bool, buffer: &mut [u8]) -> WriterAnswer
-    requires within { Within read.register }
-    requires position_bound { read.position < 2 ^ 63 }
-    ensures value { result ≡ bytes_answer (lines_of (lines_for supplier) read) buffer.old }
-    ensures buffer_after { buffer.new ≡ with_front (lines_of (lines_for supplier) read) buffer.old }
-{
-    let mut lines = [0u8; Listing::MAX_BYTES];
-    let count = put_lines(read, supplier, &mut lines);
-    if buffer.len() < count {
-        return WriterAnswer::refused(11, 0, 0);
-    }
-    copy_front(&lines, count, buffer);
-    WriterAnswer::written(count)
-}
-
-// Reads a job and writes its lines, those of a supplier or those of a farm.
-fn write_listing(job: &[u8], table: &mut [i64], supplier: bool, buffer: &mut [u8]) -> WriterAnswer
-    ensures value { result ≡ answer_with (lines_for supplier) job.now table.old buffer.old }
+// Reads a job and writes its lines, as a reader has them, at the front of the lent buffer. Returns their count of bytes.
+fn put_listing(
+    job: &[u8],
+    table: &mut [i64],
+    reader: Reader,
+    buffer: &mut [u8],
+) -> Result<usize, Fault>
+    ensures value { answer_by refused_answer written_answer (outcome_of result) ≡ answer_with (lines_for reader) job.now table.old buffer.old }
     ensures table_after { table.new ≡ listing_table job.now table.old }
-    ensures buffer_after { buffer.new ≡ buffer_with (lines_for supplier) job.now table.old buffer.old }
-    ensures job_len_bound { length (listed (lines_for supplier) (outcome job.now)) ≤ listing_room }
+    ensures buffer_after { buffer.new ≡ buffer_with (lines_for reader) job.now table.old buffer.old }
 {
     if table.len() < WorkingTable::NUMBERS {
-        return WriterAnswer::refused(11, 0, 0);
+        return Err(Fault::nowhere(Refusal::TooShort));
     }
-    let read = read_job(job, table);
-    write_lines(read, supplier, buffer)
+    let listing = listing_of(job, table, reader);
+    if buffer.len() < listing.len() {
+        return Err(Fault::nowhere(Refusal::TooShort));
+    }
+    Ok(listing.write_to(buffer))
+}
+
+// The answer of the call for a reader.
+fn write_listing(job: &[u8], table: &mut [i64], reader: Reader, buffer: &mut [u8]) -> WriterAnswer
+    ensures value { result ≡ answer_with (lines_for reader) job.now table.old buffer.old }
+    ensures table_after { table.new ≡ listing_table job.now table.old }
+    ensures buffer_after { buffer.new ≡ buffer_with (lines_for reader) job.now table.old buffer.old }
+    ensures job_len_bound { length (listed (lines_for reader) (outcome job.now)) ≤ listing_room }
+{
+    match put_listing(job, table, reader, buffer) {
+        Ok(count) => WriterAnswer::written(count),
+        Err(fault) => WriterAnswer::from_fault(fault),
+    }
 }
 
 // The listing of a job that a farm reads. The table is as after the job itself. The last clause is for callers: with a table long
@@ -205,7 +225,7 @@ pub extern "C" fn feedcheck_listing(
     ensures buffer_after { buffer.new ≡ listing_buffer job.now table.old buffer.old }
     ensures job_len_bound { length (listing (outcome job.now)) ≤ listing_room }
 {
-    write_listing(job, table, false, buffer)
+    write_listing(job, table, Reader::Farm, buffer)
 }
 
 // The listing of a job that its supplier may read, lent and refused as the farm's is, with the same table after it.
@@ -220,5 +240,5 @@ pub extern "C" fn feedcheck_supplier_listing(
     ensures buffer_after { buffer.new ≡ supplier_buffer job.now table.old buffer.old }
     ensures job_len_bound { length (supplier_listing (outcome job.now)) ≤ listing_room }
 {
-    write_listing(job, table, true, buffer)
+    write_listing(job, table, Reader::Supplier, buffer)
 }
