@@ -1,23 +1,16 @@
 // build.txt: name REG BUFLEN | number part position count BUFFER.
-use crate::buffers;
-use vectors::Cursor;
+use crate::{answers, buffers};
+use builder::feedcheck_build;
+use vectors::{Differs, Fields};
 
-// The call's answer is as the rest of the line says.
-fn answers(from: Cursor, line: &[u8], register: &[u8], buffer: &mut [u8]) -> bool {
-    let answer = builder::feedcheck_build(register, buffer);
-    let next = from.refusal(line, answer.number, answer.part, answer.position);
-    let next = next.unsigned(line, answer.count as u64);
-    let next = buffers::compared(next, line, buffer);
-    next.ends(line)
-}
-
-pub fn agrees(line: &[u8]) -> bool {
-    let mut register = [0u8; console::TEXT];
+pub fn agrees(mut fields: Fields) -> Result<(), Differs> {
+    let mut register = [0; console::TEXT];
     let mut buffer = buffers::lent();
-    let start = Cursor::past_name(line);
-    let first = start.bytes(line, &mut register);
-    let a = first.count;
-    let lent = buffers::length(first.next, line, &buffer);
-    let n = lent.count;
-    answers(lent.next, line, &register[..a], &mut buffer[..n])
+    let register = fields.bytes(&mut register)?;
+    let buffer = fields.part(&mut buffer)?;
+    let answer = feedcheck_build(register, buffer);
+    answers::refusal(&mut fields, answer.number, answer.part, answer.position)?;
+    fields.is(answer.count)?;
+    buffers::compared(&mut fields, buffer)?;
+    fields.end()
 }

@@ -1,43 +1,20 @@
 // check.txt: name REG SCH CERT TABLELEN | number part position bound TABLE.
-use crate::tables;
-use vectors::Cursor;
+use crate::{answers, tables};
+use bound::check::feedcheck_check;
+use vectors::{Differs, Fields};
 
-// The call's answer is as the rest of the line says.
-fn answers(
-    from: Cursor,
-    line: &[u8],
-    register: &[u8],
-    scheme: &[u8],
-    certificate: &[u8],
-    table: &mut [i64],
-) -> bool {
-    let answer = bound::check::feedcheck_check(register, scheme, certificate, table);
-    let next = from.refusal(line, answer.number, answer.part, answer.position);
-    let next = next.signed(line, answer.bound);
-    let next = tables::compared(next, line, table);
-    next.ends(line)
-}
-
-pub fn agrees(line: &[u8]) -> bool {
-    let mut register = [0u8; console::TEXT];
-    let mut scheme = [0u8; console::TEXT];
-    let mut certificate = [0u8; console::INPUT];
+pub fn agrees(mut fields: Fields) -> Result<(), Differs> {
+    let mut register = [0; console::TEXT];
+    let mut scheme = [0; console::TEXT];
+    let mut certificate = [0; console::INPUT];
     let mut table = tables::lent();
-    let start = Cursor::past_name(line);
-    let first = start.bytes(line, &mut register);
-    let a = first.count;
-    let second = first.next.bytes(line, &mut scheme);
-    let b = second.count;
-    let third = second.next.bytes(line, &mut certificate);
-    let c = third.count;
-    let lent = tables::length(third.next, line, &table);
-    let n = lent.count;
-    answers(
-        lent.next,
-        line,
-        &register[..a],
-        &scheme[..b],
-        &certificate[..c],
-        &mut table[..n],
-    )
+    let register = fields.bytes(&mut register)?;
+    let scheme = fields.bytes(&mut scheme)?;
+    let certificate = fields.bytes(&mut certificate)?;
+    let table = fields.part(&mut table)?;
+    let answer = feedcheck_check(register, scheme, certificate, table);
+    answers::refusal(&mut fields, answer.number, answer.part, answer.position)?;
+    fields.is(answer.bound)?;
+    tables::compared(&mut fields, table)?;
+    fields.end()
 }

@@ -1,17 +1,15 @@
 // cost.txt: name REG PLAN | number part position cost.
-use vectors::Cursor;
+use crate::answers;
+use plan::feedcheck_cost;
+use vectors::{Differs, Fields};
 
-pub fn agrees(line: &[u8]) -> bool {
-    let mut register = [0u8; console::TEXT];
-    let mut plan = [0u8; console::TEXT];
-    let start = Cursor::past_name(line);
-    let first = start.bytes(line, &mut register);
-    let n = first.count;
-    let fourth = first.next.bytes(line, &mut plan);
-    let m = fourth.count;
-    let answer = plan::feedcheck_cost(&register[..n], &plan[..m]);
-    let next = fourth.next;
-    let next = next.refusal(line, answer.number, answer.part, answer.position);
-    let next = next.signed(line, answer.cost);
-    next.ends(line)
+pub fn agrees(mut fields: Fields) -> Result<(), Differs> {
+    let mut register = [0; console::TEXT];
+    let mut plan = [0; console::TEXT];
+    let register = fields.bytes(&mut register)?;
+    let plan = fields.bytes(&mut plan)?;
+    let answer = feedcheck_cost(register, plan);
+    answers::refusal(&mut fields, answer.number, answer.part, answer.position)?;
+    fields.is(answer.cost)?;
+    fields.end()
 }

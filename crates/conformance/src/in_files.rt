@@ -1,54 +1,32 @@
 // examples.txt, suppliers.txt: JOB OUT; views.txt: JOB SUPPLIER; cheapest.txt: REGISTER OUT. The names of two files: the first holds
 // what a program reads, the second what it prints for it.
-ghost use Rattle.std.specs.Prelude.{◌≤◌, length};
-ghost use Rattle.listing.specs.Answer.{listing_room};
-
-use console::MAX_VISITS;
 use std::rt::Files;
 use std::{fs, io, str};
+use vectors::Fields;
 
-// A program: `feedcheck`, `supplier_view`, `cheapest`.
-#[derive(Clone, Copy)]
-pub enum Program {
-    OfJob,
-    OfSupplier,
-    OfRegister,
+// The next field, a file's name.
+fn file_name<'a>(fields: &mut Fields<'a>) -> Option<&'a str> {
+    str::from_utf8(fields.next()?).ok()
 }
 
-// What the program prints, at the front of the lent text. Returns its count of bytes.
-fn printed(program: Program, bytes: &[u8], text: &mut [u8]) -> usize
-    requires { listing_room ≤ length text.old }
-    ensures { result ≤ length text.new }
+// What a program prints for the bytes of a file is what another file holds. The program puts it at the front of the text, and
+// gives its count of bytes.
+pub fn agrees<R: Files + AllocGlobal, F: Fn(&[u8], &mut [u8; console::TEXT]) -> usize>(
+    rt: &R,
+    mut fields: Fields,
+    program: F,
+) -> io::Result<bool>
+    requires { F.IsAlwaysCallable program }
 {
-    match program {
-        Program::OfJob => {
-            let checked = console::lines_of(bytes, text);
-            checked.count
-        }
-        Program::OfSupplier => console::supplier_lines(bytes, text),
-        Program::OfRegister => console::cheapest_lines(bytes, MAX_VISITS, text),
-    }
-}
-
-// What the program prints for the bytes of a file is what another file holds.
-fn same(program: Program, bytes: &[u8], expected: &[u8]) -> bool {
-    let mut text = [0u8; console::TEXT];
-    let count = printed(program, bytes, &mut text);
-    vectors::is_same(expected, &text[..count])
-}
-
-pub fn agrees(rt: &(impl Files + AllocGlobal), program: Program, line: &[u8]) -> io::Result<bool> {
-    let end = vectors::find(line, 0, b' ');
-    if end == line.len() {
-        return Ok(false);
-    }
-    let Ok(input) = str::from_utf8(&line[..end]) else {
+    let Some(input) = file_name(&mut fields) else {
         return Ok(false);
     };
-    let Ok(output) = str::from_utf8(&line[end + 1..]) else {
+    let Some(output) = file_name(&mut fields) else {
         return Ok(false);
     };
     let bytes = fs::read(rt, input)?;
     let expected = fs::read(rt, output)?;
-    Ok(same(program, bytes.as_slice(), expected.as_slice()))
+    let mut text = [0; console::TEXT];
+    let count = program(bytes.as_slice(), &mut text);
+    Ok(text.get(..count) == Some(expected.as_slice()) && fields.end().is_ok())
 }

@@ -1,24 +1,28 @@
 // The tally carried over a list of jobs of two suppliers: of 0 one that is accepted, of 15 one that is refused and one that is
 // accepted, one with a supplier number that there is not, of 0 no byte and the first once more.
 use crate::tables;
-use job::Tally;
+use job::{Counters, Tally, feedcheck_job};
 use std::rt::Files;
 use std::{fs, io};
 
 // The tally after one more job.
 fn after(tally: Tally, supplier: u8, job: &[u8]) -> Tally {
     let mut table = tables::lent();
-    let answer = job::feedcheck_job(job, &mut table, supplier, tally);
-    answer.tally
+    feedcheck_job(job, &mut table, supplier, tally).tally
 }
 
-fn after_list(job: &[u8], cut: &[u8]) -> Tally {
-    let first = after(Tally::fresh(), 0, job);
-    let second = after(first, 15, cut);
-    let third = after(second, 15, job);
-    let fourth = after(third, 16, job);
-    let fifth = after(fourth, 0, b"");
-    after(fifth, 0, job)
+fn after_list<'a>(job: &'a [u8], cut: &'a [u8]) -> Tally {
+    let jobs: [(u8, &'a [u8]); 6] = [
+        (0, job),
+        (15, cut),
+        (15, job),
+        (16, job),
+        (0, b""),
+        (0, job),
+    ];
+    jobs.iter().fold(Tally::fresh(), |tally, (supplier, job)| {
+        after(tally, *supplier, job)
+    })
 }
 
 // The list over the job of a file, and over its first bytes in another. Prints each supplier's counts.
@@ -26,10 +30,7 @@ pub fn run(rt: &(impl Files + AllocGlobal + Print), path: &str, cut: &str) -> io
     let job = fs::read(rt, path)?;
     let part = fs::read(rt, cut)?;
     let tally = after_list(job.as_slice(), part.as_slice());
-    for supplier in 0..Tally::SUPPLIERS {
-        let pair = tally.pairs[supplier];
-        let accepted = pair.accepted;
-        let refused = pair.refused;
+    for (supplier, Counters { accepted, refused }) in tally.pairs.iter().enumerate() {
         println!(rt;
             "a list of jobs, supplier {supplier}: {accepted} accepted, {refused} refused"
         )?;

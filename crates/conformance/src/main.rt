@@ -2,6 +2,7 @@
 
 #![tactic(auto)]
 
+mod answers;
 mod buffers;
 mod builds;
 mod checks;
@@ -19,33 +20,49 @@ mod schemes;
 mod searches;
 mod tables;
 
-use files::Group;
+use console::{MAX_VISITS, cheapest_lines, lines_of, supplier_lines};
+use files::{run, run_call};
+use listing::{feedcheck_listing, feedcheck_supplier_listing};
 use std::io;
 
 fn main(rt: HostRuntime) -> io::Result<()> {
-    files::run(&rt, Group::Register, "register", "register.txt")?;
-    files::run(&rt, Group::Scheme, "scheme", "scheme.txt")?;
-    files::run(&rt, Group::Build, "build", "build.txt")?;
-    files::run(&rt, Group::Cost, "cost", "cost.txt")?;
-    files::run(&rt, Group::Penalty, "penalty", "penalty.txt")?;
-    files::run(&rt, Group::Check, "check", "check.txt")?;
-    files::run(&rt, Group::Plain, "plain", "plain.txt")?;
-    files::run(&rt, Group::Job, "job", "job.txt")?;
-    files::run(&rt, Group::Listing, "listing", "listing.txt")?;
-    files::run(
-        &rt,
-        Group::SupplierListing,
-        "supplier listing",
-        "supplier.txt",
-    )?;
-    files::run(&rt, Group::Search, "search", "search.txt")?;
-    files::run(&rt, Group::Output, "feedcheck", "feedcheck.txt")?;
-    files::run(&rt, Group::JobInFile, "examples", "examples.txt")?;
-    files::run(&rt, Group::JobInFile, "suppliers", "suppliers.txt")?;
-    files::run(&rt, Group::ViewInFile, "views", "views.txt")?;
-    files::run(&rt, Group::RegisterInFile, "cheapest", "cheapest.txt")?;
+    let rt = &rt;
+    run_call(rt, "register", "register.txt", registers::agrees)?;
+    run_call(rt, "scheme", "scheme.txt", schemes::agrees)?;
+    run_call(rt, "build", "build.txt", builds::agrees)?;
+    run_call(rt, "cost", "cost.txt", costs::agrees)?;
+    run_call(rt, "penalty", "penalty.txt", penalties::agrees)?;
+    run_call(rt, "check", "check.txt", checks::agrees)?;
+    run_call(rt, "plain", "plain.txt", plains::agrees)?;
+    run_call(rt, "job", "job.txt", jobs::agrees)?;
+    run_call(rt, "listing", "listing.txt", |fields| {
+        listings::agrees(fields, |job, table, buffer| {
+            feedcheck_listing(job, table, buffer)
+        })
+    })?;
+    run_call(rt, "supplier listing", "supplier.txt", |fields| {
+        listings::agrees(fields, |job, table, buffer| {
+            feedcheck_supplier_listing(job, table, buffer)
+        })
+    })?;
+    run_call(rt, "search", "search.txt", searches::agrees)?;
+    run_call(rt, "feedcheck", "feedcheck.txt", outputs::agrees)?;
+    run(rt, "examples", "examples.txt", |fields| {
+        in_files::agrees(rt, fields, |job, text| lines_of(job, text).count)
+    })?;
+    run(rt, "suppliers", "suppliers.txt", |fields| {
+        in_files::agrees(rt, fields, |job, text| lines_of(job, text).count)
+    })?;
+    run(rt, "views", "views.txt", |fields| {
+        in_files::agrees(rt, fields, |job, text| supplier_lines(job, text))
+    })?;
+    run(rt, "cheapest", "cheapest.txt", |fields| {
+        in_files::agrees(rt, fields, |register, text| {
+            cheapest_lines(register, MAX_VISITS, text)
+        })
+    })?;
     lists::run(
-        &rt,
+        rt,
         "examples/labs05.csdp.job",
         "examples/labs05.csdp.bad-t-up.job",
     )

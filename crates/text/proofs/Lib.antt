@@ -3,3 +3,4 @@ pub mod Digits
 pub mod Lines
 pub mod Unique
 pub mod Standing
+pub mod Writing

@@ -1,66 +1,74 @@
-// Lines of text written into a lent buffer: a letter and decimal numbers. Each function returns the position after what it wrote.
+// Lines of text written into a lent buffer: a letter and decimal numbers.
 
 #![tactic(auto)]
 
 ghost use Rattle.std.specs.Prelude.{◌≡◌, [], ◌∷◌, ◌+◌, ◌≤◌, length};
 ghost use Rattle.text.specs.Text.{digits, line};
-ghost use Rattle.wire.specs.Number.{written};
 ghost use Rattle.text.specs.Fields.{field, sign};
+ghost use Rattle.text.specs.Writing.{Writes};
+ghost use Rattle.wire.specs.Number.{written};
 
-fn put_byte(out: &mut [u8], at: usize, byte: u8) -> usize
-    requires { at + 1 ≤ length out.old }
-    ensures value { result ≡ at + 1 }
-    ensures out_after { out.new ≡ written out.old at (byte ∷ []) }
-{
-    out[at] = byte;
-    at + 1
+// A lent buffer, and the position after what is written.
+#[derive(Drop)]
+struct Writer<'a> {
+    out: &'a mut [u8],
+    at: usize,
 }
 
-// Writes the decimal digits of a number, by hand: std's printing goes to a `String`, on the heap, or through a `fmt::Write` that can fail.
-fn put_digits(out: &mut [u8], at: usize, n: u64) -> usize
-    requires { at + length (digits n) ≤ length out.old }
-    ensures value { result ≡ at + length (digits n) }
-    ensures out_after { out.new ≡ written out.old at (digits n) }
-{
-    if n < 10 {
-        return put_byte(out, at, 48 + n as u8);
+impl Writer<'_> {
+    fn put_byte(&mut self, byte: u8)
+        requires { self.old.at + 1 ≤ length self.old.out.now }
+        ensures { Writes (byte ∷ []) self.old self.new }
+    {
+        self.out[self.at] = byte;
+        self.at += 1;
     }
-    let last = put_digits(out, at, n / 10);
-    put_byte(out, last, 48 + (n % 10) as u8)
-}
 
-// Writes `-` before a number below 0, and else nothing.
-fn put_sign(out: &mut [u8], at: usize, x: i64) -> usize
-    requires { at + length (sign x) ≤ length out.old }
-    ensures value { result ≡ at + length (sign x) }
-    ensures out_after { out.new ≡ written out.old at (sign x) }
-{
-    if x < 0 {
-        return put_byte(out, at, 0x2D);
+    // Writes the decimal digits of a number, by hand: std's printing goes to a `String`, on the heap, or through a `fmt::Write` that can fail.
+    fn put_digits(&mut self, n: u64)
+        requires { self.old.at + length (digits n) ≤ length self.old.out.now }
+        ensures { Writes (digits n) self.old self.new }
+    {
+        if n < 10 {
+            self.put_byte(48 + n as u8);
+        } else {
+            self.put_digits(n / 10);
+            self.put_byte(48 + (n % 10) as u8);
+        }
     }
-    at
+
+    // Writes `-` before a number below 0, and else nothing.
+    fn put_sign(&mut self, x: i64)
+        requires { self.old.at + length (sign x) ≤ length self.old.out.now }
+        ensures { Writes (sign x) self.old self.new }
+    {
+        if x < 0 {
+            self.put_byte(0x2D);
+        }
+    }
+
+    // Writes a space and a number.
+    fn put_integer(&mut self, x: i64)
+        requires { self.old.at + length (field x) ≤ length self.old.out.now }
+        ensures { Writes (field x) self.old self.new }
+    {
+        self.put_byte(0x20);
+        self.put_sign(x);
+        self.put_digits(x.unsigned_abs());
+    }
 }
 
-// Writes a space and a number.
-fn put_integer(out: &mut [u8], at: usize, x: i64) -> usize
-    requires { at + length (field x) ≤ length out.old }
-    ensures value { result ≡ at + length (field x) }
-    ensures out_after { out.new ≡ written out.old at (field x) }
-{
-    let start = put_byte(out, at, 0x20);
-    let first = put_sign(out, start, x);
-    put_digits(out, first, x.unsigned_abs())
-}
-
-// Writes a line: a letter, the numbers and byte 0A.
+// Writes a line: a letter, the numbers and byte 0A. Returns the position after it.
 pub fn put_line(out: &mut [u8], start: usize, letter: u8, numbers: &[i64]) -> usize
     requires { start + length (line letter numbers.now) ≤ length out.old }
     ensures value { result ≡ start + length (line letter numbers.now) }
     ensures out_after { out.new ≡ written out.old start (line letter numbers.now) }
 {
-    let mut at = put_byte(out, start, letter);
+    let mut writer = Writer { out, at: start };
+    writer.put_byte(letter);
     for number in numbers {
-        at = put_integer(out, at, *number);
+        writer.put_integer(*number);
     }
-    put_byte(out, at, 0x0A)
+    writer.put_byte(0x0A);
+    writer.at
 }

@@ -3,16 +3,19 @@
 
 #![tactic(auto)]
 
-mod cursor;
-mod field;
+ghost use Rattle.std.specs.Prelude.{◌≡◌};
+ghost use Rattle.vectors.specs.Line.{is_case};
 
-pub use cursor::{Cursor, Taken};
-pub use field::{find, is_same};
+mod bytes;
+mod fields;
+mod number;
+
+pub use fields::{Differs, Fields};
+pub use number::Number;
 
 // The line is a case: no heading, and not empty.
-pub fn is_case(line: &[u8]) -> bool {
-    if line.len() == 0 {
-        return false;
-    }
-    line[0] != b'#'
+pub fn is_case(line: &[u8]) -> bool
+    ensures { result ≡ is_case line.now }
+{
+    !matches!(line, [] | [b'#', ..])
 }

@@ -1,5 +1,5 @@
 -- The number falls at each call.
-use Rattle.text.proofs.+put_digits.Given as goal
+use Rattle.text.proofs.Writer.+put_digits.Given as goal
 
 abbrev pub decreases-put_digits : goal.decreases-put_digits
 decreases-put_digits l = l.n
