@@ -25,6 +25,7 @@ use Rattle.job.proofs.Suppliers.{table_enough}
 use Rattle.job.proofs.Sound.{accepted_valid}
 use Rattle.job.proofs.Accept.{accepted_iff}
 use Rattle.job.proofs.Accept as Job
+use Rattle.listing.specs.declared.Reader.TheVariants.{Farm, Supplier}
 use Rattle.listing.specs.Listing.{PlanLines, plan_lines, refusal_line, accepted_lines, listed}
 use Rattle.listing.proofs.Outcome.{listing_short}
 use Rattle.listing.proofs.Answers.{enough, handed_back}
@@ -118,5 +119,5 @@ jobs_sound = record {
         (λ q. e ∙ same_lines p.register p'.register v v' p.plan p'.plan q ∙ sym e'),
       );
   refused = λ job table supplier tally k l d lent buffer h. (handed_back plan_lines job lent buffer h).front ∙ refusal_shown plan_lines job table supplier tally k l d;
-  room = λ job lent buffer l m. ap (λ a. a.number) (enough plan_lines job lent buffer l m (listing_short false job)).0;
+  room = λ job lent buffer l m. ap (λ a. a.number) (enough plan_lines job lent buffer l m (listing_short Farm job)).0;
 }

@@ -23,6 +23,7 @@ use Rattle.job.specs.Tally.{fresh}
 use Rattle.job.specs.Answer.{job_answer}
 use Rattle.job.proofs.Suppliers.{table_enough}
 use Rattle.job.proofs.Accept as Job
+use Rattle.listing.specs.declared.Reader.TheVariants.{Farm, Supplier}
 use Rattle.listing.specs.Listing.{plan_lines, supplier_lines, bound_line, accepted_lines, listed, supplier_listing}
 use Rattle.listing.specs.Answer.{lent_answer, lent_buffer, answer_with, buffer_with, listing_table}
 use Rattle.listing.proofs.Outcome.{listing_short}
@@ -156,7 +157,7 @@ supplier_listing_holds = record {
   accepted = supplier_job;
   refused = λ job table supplier tally k l d lent buffer h. (handed_back supplier_lines job lent buffer h).front ∙ refusal_shown supplier_lines job table supplier tally k l d;
   refused_same = refused_same;
-  room = λ job lent buffer l m. ap (λ a. a.number) (enough supplier_lines job lent buffer l m (listing_short true job)).0;
+  room = λ job lent buffer l m. ap (λ a. a.number) (enough supplier_lines job lent buffer l m (listing_short Supplier job)).0;
   table_back = λ job table buffer buffer'. refl;
   tells = λ job job' table table' supplier supplier' tally tally' j j' lent lent' buffer buffer' h h'.
       let e = j.lines lent buffer h in

@@ -38,8 +38,10 @@ use Rattle.plain.proofs.Answers.{parts_accepted}
 use Rattle.plain.proofs.Call as P
 use Rattle.job.specs.Outcome.{outcome}
 use Rattle.job.proofs.Suppliers.{known}
+use Rattle.listing.specs.declared.Reader.{Reader}
+use Rattle.listing.specs.declared.Reader.TheVariants.{Farm, Supplier}
 use Rattle.listing.specs.Listing.{listed}
-use Rattle.listing.specs.ByLetter.{lines_for}
+use Rattle.listing.specs.Readers.{lines_for}
 use Rattle.listing.specs.Answer.{listing_room, answer_with, listing_table, buffer_with}
 use Rattle.listing.proofs.Outcome.{listing_short}
 use Rattle.soundness.specs.Calls.{front, scheme_call, check_call, plain_call, build_call, job_call, listing_with, listing_call, supplier_listing_call}
@@ -172,12 +174,12 @@ of_plain = record { writes = plain_writes; reads_back = plain_reads; checks = pl
 
 -- ---- the listings
 
-of_listing : (supplier : Bool) → ListingWrites (lines_for supplier) (listing_with (lines_for supplier)) job_call
+of_listing : (reader : Reader) → ListingWrites (lines_for reader) (listing_with (lines_for reader)) job_call
 unfolding answer_with buffer_with listing_table
-of_listing supplier = record {
-  writes = λ job table l. writes_bytes _ (listed (lines_for supplier) (outcome job)) listing_room (λ lent. rw (le-ltb (length table) table_numbers l) refl) (listing_short supplier job);
+of_listing reader = record {
+  writes = λ job table l. writes_bytes _ (listed (lines_for reader) (outcome job)) listing_room (λ lent. rw (le-ltb (length table) table_numbers l) refl) (listing_short reader job);
   table_back = λ job table lent supplier tally k. sym (known job table supplier tally k).1;
 }
 
 pub writers : Writers build_call scheme_call plain_call check_call listing_call supplier_listing_call job_call
-writers = record { of_build = of_build; of_plain = of_plain; of_listing = of_listing false; of_supplier_listing = of_listing true }
+writers = record { of_build = of_build; of_plain = of_plain; of_listing = of_listing Farm; of_supplier_listing = of_listing Supplier }

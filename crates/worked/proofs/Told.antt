@@ -47,6 +47,7 @@ use Rattle.bound.specs.Bound.{row_holds, carries, bound}
 use Rattle.certificate.specs.Format.{scale_checks, multiplier_checks, square_checks, commands_in_job}
 use Rattle.bound.specs.Format.{dominance_checked, certificate_in_job}
 use Rattle.job.specs.Outcome.{Parts, outcome}
+use Rattle.listing.specs.declared.Reader.TheVariants.{Farm}
 use Rattle.listing.specs.Listing.{plan_lines, supplier_lines, choice_lines, fed_lines, accepted_lines, listed, listing, supplier_listing}
 use Rattle.listing.specs.Answer.{listing_room}
 use Rattle.listing.proofs.Outcome.{listing_short}
@@ -168,7 +169,7 @@ shown_whole : (s : List ℕ) → front ((listing_call s zeros room).0, (listing_
 shown_whole s =
     let l : table_numbers ≤ length zeros = omega (arith, length-replicate table_numbers (pos 0)) in
     let m : listing_room ≤ length room = omega (arith, length-replicate {A = ℕ} listing_room 0) in
-    (handed_back plan_lines s zeros room (ap (λ a. a.number) (enough plan_lines s zeros room l m (listing_short false s)).0)).front
+    (handed_back plan_lines s zeros room (ap (λ a. a.number) (enough plan_lines s zeros room l m (listing_short Farm s)).0)).front
 
 pub farm_told : Hides job_call listing_call → ⊥
 farm_told h =
