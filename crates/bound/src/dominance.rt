@@ -51,5 +51,5 @@ pub fn ceil_div(t: i64, s: u32) -> i64
     requires le_s { (1 ≤ s) × (s ≤ max_scale) }
     ensures { result ≡ ceil_div t s }
 {
-    -(-t).div_euclid(s as i64)
+    -(-t).div_euclid(i64::from(s))
 }

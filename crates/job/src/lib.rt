@@ -36,7 +36,7 @@ pub struct Tally {
 }
 
 // What an accepted job gives: the register, the plan, the bound, the plan's cost and the gap between them.
-#[derive(Clone, Copy)]
+#[derive(Clone, Copy, Debug, PartialEq, Eq)]
 pub struct JobRead {
     pub register: Register,
     pub plan: u32,

@@ -99,8 +99,8 @@ pub fn refuse_if(fails: bool, refusal: Refusal) -> Result<(), Refusal>
     if fails { Err(refusal) } else { Ok(()) }
 }
 
-#[tactic(auto, unfolding(crate::specs::Checks::refusal, crate::specs::Checks::command_checks))]
 // The checks of every command: that it may stand here, and that its bytes are there.
+#[tactic(auto, unfolding(crate::specs::Checks::refusal, crate::specs::Checks::command_checks))]
 pub fn check_command(here: bool, left: usize, size: usize) -> Result<(), Refusal>
     ensures { number_in result ≡ refusal (command_checks here left size []) }
 {
@@ -108,8 +108,8 @@ pub fn check_command(here: bool, left: usize, size: usize) -> Result<(), Refusal
     refuse_if(left < size, Refusal::CutShort)
 }
 
-#[tactic(auto, unfolding(crate::specs::Part::by_itself))]
 // A part as a run of bytes by itself, by its number: nothing may stand behind what was read.
+#[tactic(auto, unfolding(crate::specs::Part::by_itself))]
 pub fn by_itself<T: Copy>(
     bytes: &[u8],
     part: u8,

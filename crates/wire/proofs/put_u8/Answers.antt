@@ -1,8 +1,0 @@
--- A byte is its own remainder.
-use native.Mathlib.Nat.{mod-eq_of_lt}
-use Rattle.wire.specs.Number.{put_at, bytes_of}
-use Rattle.wire.proofs.put_u8.Goals as goal
-
-pub returns : goal.returns
-unfolding put_at bytes_of
-returns c = rw (mod-eq_of_lt c.ranges.x.fits)

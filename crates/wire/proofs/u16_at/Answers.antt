@@ -1,7 +1,0 @@
--- Two bytes, by the law that splits a number's bytes.
-use native.Mathlib.Omega.{arith}
-use Rattle.wire.proofs.Number.{nat_at_split}
-use Rattle.wire.proofs.u16_at.Goals as goal
-
-pub returns : goal.returns
-returns c = omega (arith, nat_at_split 1 1 c.args.bytes.now c.args.at (omega arith))
