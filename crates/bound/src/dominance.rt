@@ -10,7 +10,8 @@ ghost use Rattle.residual.specs.Limits.{max_r};
 ghost use Rattle.residual.specs.Built.{cells};
 ghost use Rattle.bound.specs.Dominance.{FirstShort};
 
-// What the entry at a column adds to the sum of the absolute values beside the diagonal of a row.
+// What the entry at a column adds to the sum of the absolute values beside the diagonal of a row. It is signed, to be taken from
+// the diagonal entry; `plain` adds up magnitudes of entries a row and a column further, so it has a function of its own.
 fn off_diagonal_term(table: &[i64], side: usize, row: usize, column: usize) -> i64
     requires bounded { Bounded side max_r table.now }
     requires row_lt_side { (row < side) × (column < side) }

@@ -5,7 +5,7 @@
 pub mod check;
 mod dominance;
 
-// The answer of the call: a refusal's number, part and position, or zeros and the bound.
+// The answer of the call, a C record: a refusal's number, part and position, or zeros and the bound.
 #[repr(C)]
 #[derive(Clone, Copy, Debug, PartialEq, Eq)]
 pub struct CheckAnswer {

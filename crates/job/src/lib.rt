@@ -45,7 +45,8 @@ pub struct JobRead {
     pub gap: i64,
 }
 
-// The answer of the call: a refusal's number, part and position, or zeros, the bound, the plan's cost and the gap; and the tally.
+// The answer of the call, a C record: a refusal's number, part and position, or zeros, the bound, the plan's cost and the gap; and
+// the tally.
 #[repr(C)]
 #[derive(Clone, Copy, Debug, PartialEq, Eq)]
 pub struct JobAnswer {
@@ -69,6 +70,7 @@ impl Counters {
         count.saturating_add(1)
     }
 
+    // One more accepted job. Each count is a field, so each has a function of its own.
     fn with_accepted(self) -> Counters
         ensures { result ≡ with_accepted self }
     {
@@ -179,6 +181,7 @@ pub fn read_job(job: &[u8], table: &mut [i64]) -> Result<JobRead, Fault>
         check_certificate(&job[end..], &quadratization, table),
     )?;
     let Read { value: plan, end } = in_job(4, end, read_plan(&job[end..], register))?;
+    // The last part ends the job; `by_itself` is for a part that also starts it.
     if end < job.len() {
         return Err(Fault {
             refusal: Refusal::PastEnd,
