@@ -12,7 +12,8 @@ impl WorkingTable {
     pub const NUMBERS: usize = 4_225;
 }
 
-// A table of side `side`, row by row at the front of a lent run of numbers.
+// A table of side `side`, row by row at the front of a lent run of numbers. How large its numbers may be is a clause of each function:
+// no ghost field stands beside a `&mut`, and the bound grows from call to call.
 #[derive(Drop)]
 pub struct SquareTable<'a> {
     pub numbers: &'a mut [i64],

@@ -20,7 +20,7 @@ use forms::{SquareTable, WorkingTable};
 use scheme::{Quadratization, open_parts};
 use wire::{Fault, Refusal};
 
-// The answer of the call: a refusal's number, part and position, or zeros.
+// The answer of the call, a record of C: a refusal's number, part and position, or zeros.
 #[repr(C)]
 #[derive(Clone, Copy, Debug, PartialEq, Eq)]
 pub struct PenaltyAnswer {
@@ -41,7 +41,8 @@ impl PenaltyAnswer {
     }
 }
 
-// Whether variable v is product k, or k is an operand of v, or of an operand of v, and so on down.
+// Whether variable v is product k, or k is an operand of v, or of an operand of v, and so on down: variables are numbers, as the
+// format has them, and each operand is followed by a call of its own.
 fn reaches(quadratization: &Quadratization, k: usize, v: usize) -> bool
     requires { v < variables quadratization.now.register.choices quadratization.now.scheme }
     ensures { result ≡ reaches quadratization.now.register.choices quadratization.now.scheme k v }

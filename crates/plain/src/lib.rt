@@ -40,7 +40,7 @@ fn sum_of<F: Fn(usize) -> u64>(n: usize, term: F) -> u64
     total
 }
 
-// A multiplier command that names one variable. There is none where the multiplier is 0.
+// A multiplier command that names one variable, by its byte. There is none where the multiplier is 0.
 #[derive(Clone, Copy, Debug, PartialEq, Eq)]
 struct Command {
     kind: u8,
@@ -56,7 +56,7 @@ impl Command {
         (self.m != 0) as usize
     }
 
-    // Writes the command. Returns the position after it.
+    // Writes the command. Returns the position after it: only two functions write so, and a writer would be one more struct for them.
     fn put(self, out: &mut [u8], at: usize) -> usize
         requires { at + length (encode_multipliers (unless_zero self.kind self.name self.m)) ≤ length out.old }
         ensures value { result ≡ at + length (encode_multipliers (unless_zero self.kind self.name self.m)) }
@@ -89,7 +89,7 @@ impl FunctionTable<'_> {
         self.numbers[i * (self.n + 1) + j]
     }
 
-    // |coefficient of variable i times variable j|, 0 where they are one.
+    // |coefficient of variable i times variable j|, 0 where they are one: unsigned, to be summed, where the check of a row subtracts.
     fn off_diagonal_term(&self, i: usize, j: usize) -> u64
         requires { (i < self.now.n) × (j < self.now.n) }
         ensures { pos result ≡ except i (λ k. abs (products_in self.now.n self.now.numbers.now i k)) j }
