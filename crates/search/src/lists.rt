@@ -1,5 +1,5 @@
 // For each choice the terms whose part of the sum may change when it is decided, and the change that they make.
-ghost use Rattle.std.specs.Prelude.{◌≡◌, ℕ, ◌+◌, ◌*◌, ◌≤◌, ◌<◌, get_or, pos, nat_abs};
+ghost use Rattle.std.specs.Prelude.{◌≡◌, ℕ, ◌+◌, ◌*◌, ◌≤◌, ◌<◌, get_or, pos, nat_abs, replicate};
 ghost use Rattle.register.specs.Limits.{max_choices, max_terms, max_coefficient};
 ghost use Rattle.register.specs.Valid.{Within};
 ghost use Rattle.search.specs.Lent.{terms_in, is_listed, ListedUnder, AllListed, Kept, term_gained, change_of};
@@ -44,7 +44,10 @@ fn gained_by(mask: u32, coefficient: i32, fed: u32) -> i32
 impl TermLists {
     const PLACES: usize = Register::MAX_CHOICES * Register::MAX_TERMS;
 
-    pub fn fresh() -> TermLists {
+    // No term is listed under any choice.
+    pub fn fresh() -> TermLists
+        ensures { result.counts ≡ replicate max_choices 0 }
+    {
         TermLists {
             masks: [0; TermLists::PLACES],
             coefficients: [0; TermLists::PLACES],
