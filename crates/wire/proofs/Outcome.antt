@@ -60,7 +60,11 @@ pub given_refuses : {A : Type 0} (k : ℕ) (x : Reading (Progress A)) {n part at
 given_refuses k (refused i j) e = let (a, (b, c)) = refuses_same e in (rw (a, c), sym b)
 given_refuses k (accepted p end) e = absurd (not_both (sym e))
 
--- ---- where a reading stops
+-- ---- where a reading stops, and the number of its refusal, 0 where it is accepted
+
+abbrev pub number_of : {S : Type 0} → Reading S → ℕ
+number_of (refused number at) = number
+number_of (accepted read end) = 0
 
 abbrev pub position_of : {S : Type 0} → Reading S → ℕ
 position_of (refused number at) = at
