@@ -200,6 +200,7 @@ fn put_listing(
 }
 
 // The answer of the call for a reader.
+#[tactic(auto, using(crate::proofs::Outcome::listing_short))]
 fn write_listing(job: &[u8], table: &mut [i64], reader: Reader, buffer: &mut [u8]) -> WriterAnswer
     ensures value { result ≡ answer_with (lines_for reader) job.now table.old buffer.old }
     ensures table_after { table.new ≡ listing_table job.now table.old }
