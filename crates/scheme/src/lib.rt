@@ -90,8 +90,9 @@ impl SchemeAnswer {
     }
 }
 
-// The scheme at the front of a run of bytes, with a register. The reader of each part has a loop of its own, with a `match` on the
-// command's byte; the laws of such a loop stand once, in `wire`.
+// The scheme at the front of a run of bytes, with a register.
+// The reader of each part has a loop of its own: one over a trait takes a hundred lines more for the three, and 8 per cent more time
+// for a register without windows. The laws of such a loop stand once, in `wire`.
 pub fn read_scheme(bytes: &[u8], register: &Register) -> Result<Read<Scheme>, Refused>
     requires { Valid register.now }
     ensures { reading_of result ≡ added_by (λ scheme. scheme) (scheme_in_job register.now bytes.now) }

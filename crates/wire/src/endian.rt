@@ -1,4 +1,5 @@
-// Numbers in a run of bytes, the least byte first, below zero by two's complement.
+// Numbers in a run of bytes, the least byte first, below zero by two's complement. No trait of std's stands for all integers, so each
+// type has an impl.
 ghost use Rattle.std.specs.Prelude.{◌≡◌, ℕ, List, ◌+◌, ◌≤◌, length};
 ghost use Rattle.std.specs.Int.{w8, w16, w32, w64};
 ghost use mir.Val.{of_z};

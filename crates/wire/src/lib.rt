@@ -12,8 +12,8 @@ ghost use Rattle.wire.specs.Results.{number_of};
 pub use endian::{FromBytes, ToBytes};
 pub use refusals::{Fault, Read, Refusal, Refused, by_itself, check_command, refuse_if};
 
-// The answer of a call that writes bytes into a lent buffer: a refusal's number, part and position, or zeros and the count of
-// bytes written.
+// The answer, a record of C, of a call that writes bytes into a lent buffer: a refusal's number, part and position, or zeros and
+// the count of bytes written.
 #[repr(C)]
 #[derive(Clone, Copy, Debug, PartialEq, Eq)]
 pub struct WriterAnswer {

@@ -33,7 +33,8 @@ pub struct Refused {
     pub position: usize,
 }
 
-// A refusal, and where: the part by its number and the position in it or in the job, or zeros where no command is at fault.
+// A refusal, and where: the part by its number, as the answers of C have it, and the position in it or in the job, or zeros where no
+// command is at fault.
 #[derive(Clone, Copy, Debug, PartialEq, Eq)]
 pub struct Fault {
     pub refusal: Refusal,
