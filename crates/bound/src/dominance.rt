@@ -31,6 +31,7 @@ pub fn first_short(table: &[i64], side: usize) -> Option<usize>
     ensures first { FirstShort side (cells side table.now) (unwrap_or result side) }
     ensures row_lt_side { IfSome result (λ row. row < side) }
 {
+    // The row that is found leaves both loops, by its label.
     let mut short = None;
     'rows: for row in 0..side {
         // The diagonal entry less the absolute values passed.

@@ -5,6 +5,7 @@ ghost use Rattle.register.specs.Limits.{max_choices};
 use register::Register;
 
 // As many variables as a term has choices, or fewer, each a byte, at the front of an array: the library allocates nothing.
+// Nothing compares or prints one.
 #[derive(Clone, Copy)]
 pub struct Members {
     pub count: usize,
@@ -27,7 +28,7 @@ impl Members {
         self.count += 1;
     }
 
-    // The choices of a term, rising, where there are n.
+    // The choices of a term, rising, where there are n. The crate that tells whether a plan has a choice stands on plans.
     pub fn choices_of(n: usize, mask: u32) -> Members
         requires { n ≤ max_choices }
         ensures { listed result ≡ choices_of n mask }

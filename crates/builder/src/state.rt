@@ -7,7 +7,7 @@ use scheme::Scheme;
 #[derive(Clone, Copy, Debug, PartialEq, Eq)]
 pub struct Full;
 
-// The scheme so far, for so many choices, and the sets of its variables.
+// The scheme so far, for so many choices, and the sets of its variables. Nothing compares or prints one.
 #[derive(Clone, Copy)]
 pub struct Work {
     pub choices: usize,

@@ -31,13 +31,14 @@ fn scale_refusal(scale: u32, target: i64) -> Result<(), Refusal>
     )
 }
 
-// The set of a variable, 0 past the last.
+// The set of a variable, 0 past the last, as the definitions read it.
 fn set_of(sets: &[u32], v: u8) -> u32
     ensures { result ≡ get_or sets.now v 0 }
 {
     sets.get(v as usize).copied().unwrap_or(0)
 }
 
+// Of masks; no type of std's is a set of bits.
 #[tactic(auto, unfolding(sets::specs::Sets::is_proper_subset, sets::specs::Sets::is_subset))]
 fn is_proper_subset(a: u32, b: u32) -> bool
     ensures { result ≡ is_proper_subset a b }
@@ -46,6 +47,7 @@ fn is_proper_subset(a: u32, b: u32) -> bool
 }
 
 // What a multiplier command's kind asks, by the sets of the variables, where there are n choices, count variables and so many rows.
+// The kind is the command's byte, in ranges.
 fn rule_of(sets: &[u32], n: usize, count: usize, rows: usize, t: Multiplier) -> Rule
     ensures { (reg : Register) (sch : Scheme) → Known reg sch n count rows sets.now → TestsOf (rule_asked reg sch t) result }
 {

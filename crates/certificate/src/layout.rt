@@ -26,7 +26,7 @@ pub fn command_size(command: u8) -> usize
     }
 }
 
-// The number at a place among those that a multiplier command names, 0 where it names fewer.
+// The number at a place among those that a multiplier command names, 0 where it names fewer, as the definitions read it.
 fn name_at(names: &[u8], place: usize) -> u8
     ensures { result ≡ get_or names.now place 0 }
 {

@@ -82,6 +82,7 @@ impl Certificate {
 
     pub const MAX_SQUARES: usize = 64;
 
+    // Each record has a function that makes a fresh one, since each has fields of its own.
     pub fn fresh() -> Certificate
         ensures { result ≡ fresh_counts }
     {
@@ -112,6 +113,7 @@ impl Square {
     pub const MAX_ENTRY: u16 = 10_000;
 
     #[tactic(auto, unfolding(crate::specs::Answer::fresh_square))]
+    // Each record has a function that makes a fresh one, since each has fields of its own.
     pub fn fresh() -> Square
         ensures { result ≡ fresh_square }
     {

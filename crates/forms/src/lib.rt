@@ -21,7 +21,7 @@ pub struct SquareTable<'a> {
 }
 
 // Makes the first `n` numbers 0.
-fn clear(t: &mut [i64], n: usize)
+pub fn clear(t: &mut [i64], n: usize)
     requires { n ≤ length t.old }
     ensures { t.new ≡ cleared n t.old }
 {

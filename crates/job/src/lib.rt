@@ -94,6 +94,7 @@ impl Tally {
     // How many suppliers there are. Their numbers are 0 to 15.
     pub const SUPPLIERS: usize = 16;
 
+    // Each record has a function that makes a fresh one, since each has fields of its own.
     pub fn fresh() -> Tally
         ensures { result ≡ fresh_tally }
     {

@@ -22,7 +22,7 @@ use std::marker::Model;
 use wire::{Fault, Refusal, WriterAnswer};
 
 // A listing: lines put one after the other at the front of an array. An `ArrayVec` lends no room past its end, where
-// `text::put_line` writes.
+// `text::put_line` writes. Nothing compares or prints one.
 #[derive(Drop)]
 pub struct Listing {
     bytes: [u8; Listing::MAX_BYTES],
@@ -80,7 +80,7 @@ impl Listing {
         self.len()
     }
 
-    // Puts a line: a letter and the numbers.
+    // Puts a line: a letter, which is the byte that is written, and the numbers.
     pub fn put_line(&mut self, letter: u8, numbers: &[i64])
         requires { length self.old + length (line letter numbers.now) ≤ listing_room }
         ensures { self.new ≡ self.old ++ line letter numbers.now }

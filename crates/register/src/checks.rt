@@ -102,7 +102,7 @@ fn row_refusal(k: usize, total: i16, zeros: bool) -> Result<(), Refusal>
     refuse_if(!zeros, Refusal::NotThere)
 }
 
-// A day length.
+// A day length: one of three, each of which is a limit with a name.
 #[tactic(auto, unfolding(wire::specs::Checks::refusal, crate::specs::Format::length_checks))]
 fn length_refusal(length: u16) -> Result<(), Refusal>
     ensures { number_in result ≡ refusal (length_checks length) }

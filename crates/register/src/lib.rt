@@ -85,6 +85,7 @@ impl Register {
 
     pub const LONG_DAY: u16 = 1_500;
 
+    // Each record has a function that makes a fresh one, since each has fields of its own.
     pub fn fresh() -> Register
         ensures { result ≡ fresh }
     {

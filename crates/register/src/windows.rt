@@ -8,7 +8,7 @@ ghost use Rattle.register.specs.Answer.{NoFall};
 use super::Register;
 
 // A tank may be fed at a minute, by the windows, whose tanks do not fall. The first `passed` of them need not be looked at where
-// they are of lower tanks.
+// they are of lower tanks. It answers of several windows together, so it is a loop and no method of slices.
 pub fn may_feed(register: &Register, passed: usize, tank: u16, minute: u16) -> bool
     requires { (passed ≤ register.now.windows) × (register.now.windows ≤ max_windows) }
     ensures { NoFall register.now.windows register.now.window_tanks → ((j : ℕ) → j < passed → window_tank register.now j < tank) → result ≡ may_feed register.now.windows register.now.window_tanks register.now.window_froms register.now.window_tos tank minute }

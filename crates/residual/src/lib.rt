@@ -191,7 +191,7 @@ fn put_scaled_function(bytes: &[u8], quadratization: &Quadratization, table: &mu
     table.add_monomial(0, 0, -target);
 }
 
-// Adds and subtracts what each command after the first says, where the table holds what the first says.
+// Adds and subtracts what each command after the first says, by its byte, where the table holds what the first says.
 fn put_commands(bytes: &[u8], quadratization: &Quadratization, table: &mut SquareTable)
     requires side_value { table.old.side ≡ side_of quadratization.now.register.choices quadratization.now.scheme }
     requires table_numbers_in_bounds { table_numbers ≤ length table.old.numbers.now }

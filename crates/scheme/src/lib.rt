@@ -63,6 +63,7 @@ impl Scheme {
     // Choices and products together.
     pub const MAX_VARIABLES: usize = 64;
 
+    // Each record has a function that makes a fresh one, since each has fields of its own.
     pub fn fresh() -> Scheme
         ensures { result ≡ fresh }
     {

@@ -7,7 +7,7 @@ ghost use Rattle.scheme.specs.Scheme.{side};
 use super::Scheme;
 use register::Register;
 
-// A quadratization of a register's cost.
+// A quadratization of a register's cost. Nothing compares or prints one.
 #[derive(Clone, Copy)]
 pub struct Quadratization {
     pub register: Register,

@@ -7,7 +7,7 @@ ghost use Rattle.scheme.specs.Sets.{SetsBelow, union_in};
 
 use super::Scheme;
 
-// The entry at a place, 0 past the end.
+// The entry at a place, 0 past the end, as the definitions read it.
 pub fn entry(entries: &[u32], i: usize) -> u32
     ensures { result ≡ get_or entries.now i 0 }
 {

@@ -17,6 +17,7 @@ pub struct Change {
 }
 
 // The listed terms: masks and coefficients in as many places for each choice as there can be terms, and how many they are.
+// Nothing compares or prints one.
 #[derive(Clone, Copy)]
 pub struct TermLists {
     pub masks: [u32; TermLists::PLACES],

@@ -58,7 +58,7 @@ impl Writer<'_> {
     }
 }
 
-// Writes a line: a letter, the numbers and byte 0A. Returns the position after it, since a caller keeps a buffer and a count.
+// Writes a line: a letter, which is the byte that is written, the numbers and byte 0A. Returns the position after it, since a caller keeps a buffer and a count.
 pub fn put_line(out: &mut [u8], start: usize, letter: u8, numbers: &[i64]) -> usize
     requires { start + length (line letter numbers.now) ≤ length out.old }
     ensures value { result ≡ start + length (line letter numbers.now) }
