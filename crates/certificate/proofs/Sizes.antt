@@ -3,6 +3,7 @@ use Prim.Native.Nat.{ℕ, suc, ◌+◌, ◌*◌, ◌≤◌}
 use mathlib.Core.Path.{◌≡◌, refl, ap}
 use mathlib.Core.Bool.{Bool, true, false, cond}
 use mathlib.Core.List.{List, [], ◌∷◌, ◌++◌, map}
+use mathlib.Core.Logic.{◌⊎◌, inl, inr}
 use native.Mathlib.Omega.{arith}
 use lib.Dec.{eqb}
 use borrow.Author.Tests.{ne_eqb}
@@ -49,11 +50,21 @@ no_command b h d =
     let inside : List (ℕ × List ℕ) = (0x30, scale_widths) ∷ (map (λ kind. (kind, multiplier_widths kind)) multiplier_kinds ++ ((0x3A, square_widths) ∷ [])) in
     All-append (λ e. b ≡ e.0 → ⊥) inside ((0x3F, []) ∷ []) (All-map (λ e. (0x30 ≤ e.0) × (e.0 ≤ 0x3B)) (λ e. b ≡ e.0 → ⊥) (λ e r q. h (omega arith) (omega arith)) inside (omega arith)) (d, tt)
 
+pub size_none : (b : ℕ) → (0x30 ≤ b → b ≤ 0x3B → ⊥) → (b ≡ 0x3F → ⊥) → command_size b ≡ 1
+unfolding command_size total
+size_none b h d = ap (λ ws. suc (total ws)) (by_key_none [] b widths_by_byte (no_command b h d))
+
 -- `35` to `39` name one variable each
 pub size_one : (b : ℕ) → 0x35 ≤ b → b ≤ 0x39 → command_size b ≡ 10
 unfolding command_size by_key arity total all_below
 size_one b p q =
     among_all (λ b. command_size b ≡ 10) (0x35 ∷ 0x36 ∷ 0x37 ∷ 0x38 ∷ 0x39 ∷ []) (refl ▹ refl ▹ refl ▹ refl ▹ refl ▹ tt) b (in_range 0x35 5 (0x35 ∷ 0x36 ∷ 0x37 ∷ 0x38 ∷ 0x39 ∷ []) tt b p (omega arith))
+
+-- and so does `31`
+pub size_ten : (b : ℕ) → (b ≡ 0x31) ⊎ ((0x35 ≤ b) × (b ≤ 0x39)) → command_size b ≡ 10
+unfolding command_size by_key arity total
+size_ten b (inl e) = rw e
+size_ten b (inr r) = size_one b r.0 r.1
 
 -- a multiplier command: its byte, the numbers that it names and the 8 bytes of its multiplier
 pub size_multiplier : (b : ℕ) → IsMultiplier b → command_size b ≡ 9 + arity b

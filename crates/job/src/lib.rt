@@ -67,7 +67,7 @@ impl Counters {
     fn raised(count: u32) -> u32
         ensures { result ≡ one_more count }
     {
-        count.saturating_add(1)
+        count.saturating_add(1).min(Counters::MAX_COUNT)
     }
 
     // One more accepted job. Each count is a field, so each has a function of its own.

@@ -71,7 +71,7 @@ module _ (limit : ℕ) (w : Best) (walked : Walked) (ok : Bool) (h : UpTo limit 
     where
       go : Dec (w.visits ≤ limit) → best_answer walked.best walked.visits ≡ limited limit w
       go (yes m) = rw ((h.same m).0, le-ltb limit w.visits m) (flag w.met (λ a. rw a) (λ a. rw a))
-      go (no m) = absurd (true≢false (sym z ∙ h.passed (omega arith)))
+      go (no m) = absurd (true≢false (sym z ∙ (h.passed (omega arith)).0))
 
 -- as the code takes the best plan
 

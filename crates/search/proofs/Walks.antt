@@ -78,7 +78,7 @@ module _ (sum : ℕ → ℕ → ℤ) (fits : ℕ → Bool) where
   module _ (limit : ℕ) where
     -- the first visit passes the limit
     pub up_to_first : (d fed : ℕ) (w : Best) → w.visits ≤ limit → limit < w.visits + 1 → UpTo limit (walk sum fits d fed w) (walked_of (visited w)) false
-    up_to_first d fed w k l = record { same = λ m. absurd (omega (arith, walk_visits d fed w)); passed = λ m. refl; stops = omega arith }
+    up_to_first d fed w k l = record { same = λ m. absurd (omega (arith, walk_visits d fed w)); passed = λ m. (refl, omega arith); stops = omega arith }
 
     pub up_to_left : (d fed : ℕ) (w : Best) → w.visits + 1 ≤ limit → is_left (sum d fed) w ≡ true → UpTo limit (walk sum fits d fed w) (walked_of (visited w)) true
     up_to_left d fed w l e = rw (walk_left d fed w e) (record { same = λ m. (refl, refl); passed = λ m. absurd (omega arith); stops = omega arith })
@@ -96,10 +96,18 @@ module _ (sum : ℕ → ℕ → ℤ) (fits : ℕ → Bool) where
       abbrev pub u : Best
       u = walk sum fits d fed (visited w)
 
+      -- a walk that stops has passed the limit
+      past : ok ≡ false → limit < walked.visits
+      past f = go (dec_le u.visits limit)
+        where
+          go : Dec (u.visits ≤ limit) → limit < walked.visits
+          go (yes m) = absurd (true≢false (sym (h.same m).1 ∙ f))
+          go (no m) = (h.passed (omega arith)).1
+
       pub up_to_unfed : ok ≡ false → UpTo limit (walk sum fits (suc d) fed w) walked ok
       up_to_unfed f = rw (walk_on d fed w e) (record {
         same = λ m. let k = walk_visits d (fed + 2 ^ d) u in absurd (true≢false (sym (h.same (omega arith)).1 ∙ f));
-        passed = λ m. f;
+        passed = λ m. (f, past f);
         stops = h.stops;
       })
 
@@ -109,7 +117,7 @@ module _ (sum : ℕ → ℕ → ℤ) (fits : ℕ → Bool) where
         where
           go : Dec (u.visits ≤ limit) → walked ≡ walked_of u
           go (yes m) = (h.same m).0
-          go (no m) = absurd (true≢false (sym z ∙ h.passed (omega arith)))
+          go (no m) = absurd (true≢false (sym z ∙ (h.passed (omega arith)).0))
 
       pub up_to_fed : (walked' : Walked) (ok' : Bool) → UpTo limit (walk sum fits d (fed + 2 ^ d) u) walked' ok' → UpTo limit (walk sum fits (suc d) fed w) walked' ok'
       up_to_fed walked' ok' k = rw (walk_on d fed w e) k

@@ -128,5 +128,5 @@ is_left_by (Some best) s = le_z best.cost s
 -- visits than the limit, by one
 pub record UpTo (limit : ℕ) (w : Best) (walked : Walked) (ok : Bool) : Type 0 where
   pub same : w.visits ≤ limit → (walked ≡ walked_of w) × (ok ≡ true)
-  pub passed : limit < w.visits → ok ≡ false
+  pub passed : limit < w.visits → (ok ≡ false) × (limit < walked.visits)
   pub stops : walked.visits ≤ limit + 1
