@@ -1,7 +1,7 @@
 -- What the reader of a job gives, by the job's outcome, and how long the lines are.
 use Prim.Native.Nat.{ℕ, ◌^◌, ◌≤◌, ◌<◌}
 use native.Mathlib.Omega.{arith}
-use mathlib.Core.Path.{◌≡◌}
+use mathlib.Core.Path.{◌≡◌, refl, ◌∙◌, ap}
 use mathlib.Core.List.{List}
 use lib.ListN.{length}
 use Rattle.integers.proofs.Order.{nat_abs_sub}
@@ -21,6 +21,16 @@ use Rattle.listing.specs.Readers.{lines_for}
 use Rattle.listing.specs.Answer.{longest_listing, listing_room}
 use Rattle.listing.proofs.Lengths.{accepted_short, refusal_short, longest_fits}
 
+-- the lines of what the reader of a job gives
+pub lines_of : PlanLines → Outcome JobRead → List ℕ
+lines_of lines (refuses number part at) = refusal_line number at
+lines_of lines (accepts read) = accepted_lines lines read.register read.plan read.bound read.cost read.gap
+
+pub read_lines : (lines : PlanLines) (o : Outcome Parts) → lines_of lines (job_read o) ≡ listed lines o
+unfolding lines_of listed
+read_lines lines (refuses number part at) = refl
+read_lines lines (accepts p) = refl
+
 module _ (s : List ℕ) where
   -- a job that is accepted
   module _ (read : JobRead) (e : accepts read ≡ job_read (outcome s)) where
@@ -33,13 +43,9 @@ module _ (s : List ℕ) where
             let r : read.register ≡ p.register = cc in
             rw r h.register.within
 
-    pub read_lines : (lines : PlanLines) → accepted_lines lines read.register read.plan read.bound read.cost read.gap ≡ listed lines (outcome s)
-    unfolding listed
-    read_lines lines = by (outcome s) e
-      where
-        by : (o : Outcome Parts) → accepts read ≡ job_read o → accepted_lines lines read.register read.plan read.bound read.cost read.gap ≡ listed lines o
-        by (refuses number part at) d = absurd cc
-        by (accepts p) d = cc
+    pub accepted_listed : (lines : PlanLines) → accepted_lines lines read.register read.plan read.bound read.cost read.gap ≡ listed lines (outcome s)
+    unfolding lines_of
+    accepted_listed lines = ap (lines_of lines) e ∙ read_lines lines (outcome s)
 
   -- a job that is refused
   module _ (number part at : ℕ) (e : refuses number part at ≡ job_read (outcome s)) where
@@ -52,13 +58,9 @@ module _ (s : List ℕ) where
             omega (arith, k.1, reach_is)
         by (accepts p) k d = absurd cc
 
-    pub refused_lines : (lines : PlanLines) → refusal_line number at ≡ listed lines (outcome s)
-    unfolding listed
-    refused_lines lines = by (outcome s) e
-      where
-        by : (o : Outcome Parts) → refuses number part at ≡ job_read o → refusal_line number at ≡ listed lines o
-        by (refuses n p a) d = cc
-        by (accepts p) d = absurd cc
+    pub refused_listed : (lines : PlanLines) → refusal_line number at ≡ listed lines (outcome s)
+    unfolding lines_of
+    refused_listed lines = ap (lines_of lines) e ∙ read_lines lines (outcome s)
 
 -- the lines of every job, whoever reads them, are no longer than the longest
 pub listing_longest : (reader : Reader) (s : List ℕ) → length (listed (lines_for reader) (outcome s)) ≤ longest_listing
