@@ -1,15 +1,15 @@
 -- Entries of a list that is filled one by one.
-use Prim.Native.Nat.{ℕ, zero, suc, ◌-◌, ◌<◌, ◌≤◌}
+use Prim.Native.Nat.{ℕ, zero, suc, ◌+◌, ◌-◌, ◌<◌, ◌≤◌}
 use native.Mathlib.Omega.{arith}
 use native.Mathlib.Decide.{ℕ_discrete}
 use mathlib.Core.Path.{◌≡◌, refl, sym, ◌∙◌, subst}
 use mathlib.Core.Logic.{◌⊎◌, inl, inr, ⊎_elim}
 use mathlib.Core.List.{List}
-use lib.ListN.{length, get_or, set, replicate, length-set, length-replicate}
+use lib.ListN.{length, get_or, set, replicate, length-append, length-set, length-replicate}
 use lib.Seq.{get_or-set_same, get_or-set_other, set-get_or, set-set, ext_get_or}
 use lib.Dec.{ltb}
 use borrow.Author.Tests.{ltb-true, ltb-false}
-use Rattle.integers.specs.Lists.{Column, Table}
+use Rattle.integers.specs.Lists.{join_below, Column, Table}
 use Rattle.integers.proofs.Lists.{flag}
 
 -- i is below n or is n
@@ -19,6 +19,16 @@ below_or_last i n h = go (ℕ_discrete i n)
     go : Dec (i ≡ n) → (i < n) ⊎ (i ≡ n)
     go (yes e) = inr e
     go (no d) = inl (omega arith)
+
+-- one of the lists that are put together, with those before it, is no longer than all
+pub join_longer {ℓ} : {A : Type ℓ} (f : ℕ → List A) (i n : ℕ) → i < n → length (join_below i f) + length (f i) ≤ length (join_below n f)
+unfolding join_below
+join_longer f i zero l = absurd (omega arith)
+join_longer f i (suc n) l =
+    ⊎_elim
+    (λ (k : i < n). omega (arith, join_longer f i n k, length-append (join_below n f) (f n)))
+    (λ (e : i ≡ n). rw e (omega (arith, length-append (join_below n f) (f n))))
+    (below_or_last i n l)
 
 -- ---- one entry more: f are the entries before, and g those after, which are f below n and v at n
 

@@ -1,14 +1,13 @@
 -- Bytes put after others by a loop, some for each number below n.
-use Prim.Native.Nat.{ℕ, zero, suc, ◌+◌, ◌≤◌, ◌<◌}
+use Prim.Native.Nat.{ℕ, ◌+◌, ◌≤◌, ◌<◌}
 use native.Mathlib.Numerals.{add-one}
 use native.Mathlib.Omega.{arith}
 use mathlib.Core.Path.{◌≡◌, sym, ap, ◌∙◌}
-use mathlib.Core.Logic.{⊎_elim}
 use mathlib.Core.List.{List, ◌++◌, append_assoc}
 use Rattle.std.proofs.lemmas.List.{append-nil}
 use lib.ListN.{length, length-append}
 use Rattle.integers.specs.Lists.{join_below}
-use Rattle.integers.proofs.Entries.{below_or_last}
+use Rattle.integers.proofs.Entries.{join_longer}
 
 module _ (f : ℕ → List ℕ) (n : ℕ) (before : List ℕ) where
   -- after i turns
@@ -20,19 +19,10 @@ module _ (f : ℕ → List ℕ) (n : ℕ) (before : List ℕ) where
   unfolding join_below
   begins = record { few = omega arith; joined = sym (append-nil before) }
 
-  longer : (i n : ℕ) → i < n → length (join_below i f) + length (f i) ≤ length (join_below n f)
-  unfolding join_below
-  longer i zero l = absurd (omega arith)
-  longer i (suc n) l =
-      ⊎_elim
-      (λ (k : i < n). omega (arith, longer i n k, length-append (join_below n f) (f n)))
-      (λ (e : i ≡ n). rw e (omega (arith, length-append (join_below n f) (f n))))
-      (below_or_last i n l)
-
   module _ {i : ℕ} {out : List ℕ} (going : Going i out) where
     -- the bytes of a turn have room where all have
     pub room : {limit : ℕ} → i < n → length before + length (join_below n f) ≤ limit → length out + length (f i) ≤ limit
-    room l h = omega (arith, ap length going.joined, length-append before (join_below i f), longer i n l)
+    room l h = omega (arith, ap length going.joined, length-append before (join_below i f), join_longer f i n l)
 
     pub turn : i < n → {out' : List ℕ} → out' ≡ out ++ f i → Going (i + 1) out'
     unfolding join_below

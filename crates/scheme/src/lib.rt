@@ -79,7 +79,7 @@ impl Scheme {
 }
 
 impl SchemeAnswer {
-    fn refused(fault: Fault) -> SchemeAnswer
+    fn from_fault(fault: Fault) -> SchemeAnswer
         ensures { result ≡ refused_answer (number_of fault.refusal) fault.part fault.position }
     {
         SchemeAnswer {
@@ -173,6 +173,6 @@ pub extern "C" fn feedcheck_scheme(register: &[u8], scheme: &[u8]) -> SchemeAnsw
             position: 0,
             scheme: quadratization.scheme,
         },
-        Err(fault) => SchemeAnswer::refused(fault),
+        Err(fault) => SchemeAnswer::from_fault(fault),
     }
 }

@@ -2,7 +2,6 @@
 use Prim.Native.Nat.{ℕ, ◌≤◌, ◌<◌}
 use native.Mathlib.Omega.{arith}
 use mathlib.Core.Path.{◌≡◌, refl, sym, ◌∙◌, ap}
-use mathlib.Core.Bool.{false}
 use mathlib.Core.List.{List, [], ◌∷◌, ◌++◌}
 use lib.IntN.{ℤ, pos, ◌-ℤ◌}
 use lib.ListN.{length}
@@ -25,7 +24,7 @@ use Rattle.job.proofs.Suppliers.{table_enough}
 use Rattle.job.proofs.Sound.{accepted_valid}
 use Rattle.job.proofs.Accept.{accepted_iff}
 use Rattle.job.proofs.Accept as Job
-use Rattle.listing.specs.declared.Reader.TheVariants.{Farm, Supplier}
+use Rattle.listing.specs.declared.Reader.TheVariants.{Farm}
 use Rattle.listing.specs.Listing.{PlanLines, plan_lines, refusal_line, accepted_lines, listed}
 use Rattle.listing.proofs.Outcome.{listing_short}
 use Rattle.listing.proofs.Answers.{enough, handed_back}

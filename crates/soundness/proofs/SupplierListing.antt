@@ -2,7 +2,7 @@
 use native.Mathlib.Omega.{arith}
 use Prim.Native.Nat.{ℕ}
 use mathlib.Core.Path.{◌≡◌, refl, sym, ap, ap₂, ◌∙◌}
-use mathlib.Core.Bool.{true, cond}
+use mathlib.Core.Bool.{cond}
 use mathlib.Core.List.{List, ◌++◌}
 use lib.Dec.{ltb}
 use lib.IntN.{ℤ, pos}
@@ -23,7 +23,7 @@ use Rattle.job.specs.Tally.{fresh}
 use Rattle.job.specs.Answer.{job_answer}
 use Rattle.job.proofs.Suppliers.{table_enough}
 use Rattle.job.proofs.Accept as Job
-use Rattle.listing.specs.declared.Reader.TheVariants.{Farm, Supplier}
+use Rattle.listing.specs.declared.Reader.TheVariants.{Supplier}
 use Rattle.listing.specs.Listing.{plan_lines, supplier_lines, bound_line, accepted_lines, listed, supplier_listing}
 use Rattle.listing.specs.Answer.{lent_answer, lent_buffer, answer_with, buffer_with, listing_table}
 use Rattle.listing.proofs.Outcome.{listing_short}

@@ -1,15 +1,14 @@
 -- Bytes written into a buffer, one after the other.
-use Prim.Native.Nat.{ℕ, zero, suc, ◌+◌, ◌≤◌, ◌<◌}
+use Prim.Native.Nat.{ℕ, ◌+◌, ◌≤◌, ◌<◌}
 use native.Mathlib.Nat.{add-zero, zero-add, add_assoc, mod-eq_of_lt}
 use native.Mathlib.Numerals.{add-one}
 use native.Mathlib.Omega.{arith}
 use mathlib.Core.Path.{◌≡◌, refl, sym, ap, ◌∙◌}
-use mathlib.Core.Logic.{⊎_elim}
 use mathlib.Core.List.{List, [], ◌∷◌, ◌++◌, append_assoc}
 use lib.ListN.{length, drop, length-append}
 use lib.Seq.{sets-eq, length-sets}
 use Rattle.integers.specs.Lists.{join_below}
-use Rattle.integers.proofs.Entries.{below_or_last}
+use Rattle.integers.proofs.Entries.{join_longer}
 use Rattle.wire.specs.Number.{bytes_of, put_at, written}
 use Rattle.wire.proofs.Number.{length-bytes_of, sets_append}
 
@@ -91,21 +90,12 @@ module _ (f : ℕ → List ℕ) (n start : ℕ) (s : List ℕ) where
   unfolding join_below
   begins = record { few = omega arith; wrote = nothing s start }
 
-  longer : (i n : ℕ) → i < n → length (join_below i f) + length (f i) ≤ length (join_below n f)
-  unfolding join_below
-  longer i zero l = absurd (omega arith)
-  longer i (suc n) l =
-      ⊎_elim
-      (λ (k : i < n). omega (arith, longer i n k, length-append (join_below n f) (f n)))
-      (λ (e : i ≡ n). rw e (omega (arith, length-append (join_below n f) (f n))))
-      (below_or_last i n l)
-
   module _ {i at : ℕ} {out : List ℕ} (going : Going i at out) where
     pub length_going : length out ≡ length s
     length_going = ap length going.wrote.1 ∙ length-written s start (join_below i f)
 
     pub room : i < n → start + length (join_below n f) ≤ length s → at + length (f i) ≤ length out
-    room l h = omega (arith, going.wrote.0, longer i n l, length_going)
+    room l h = omega (arith, going.wrote.0, join_longer f i n l, length_going)
 
     pub turn : i < n → {next : ℕ} {out' : List ℕ} → Wrote out at (f i) next out' → Going (i + 1) next out'
     unfolding join_below
