@@ -31,6 +31,18 @@ times k = map (λ m. mono m.p m.q (k *ℤ m.c))
 unfoldable pub value : (ℕ → ℤ) → Form → ℤ
 value y f = sum_over f (λ m. m.c *ℤ y m.p *ℤ y m.q)
 
+-- D² times the product of two places where variable i is y i / D: D² for the constant, D · y i for a linear term, and y i · y j for a
+-- product of two variables or a square
+unfoldable pub product_over : ℕ → (ℕ → ℤ) → ℕ → ℕ → ℤ
+product_over D y zero zero = pos D *ℤ pos D
+product_over D y zero (suc j) = pos D *ℤ y j
+product_over D y (suc i) zero = pos D *ℤ y i
+product_over D y (suc i) (suc j) = y i *ℤ y j
+
+-- a form homogenized: D² times its value where variable i is y i / D
+unfoldable pub homogenized : Form → ℕ → (ℕ → ℤ) → ℤ
+homogenized f D y = sum_over f (λ m. m.c *ℤ product_over D y m.p m.q)
+
 -- the coefficient of the product of places p and q, in either order: of 0 and 0 the constant, of 0 and another place its
 -- linear coefficient, of a place and itself that of its square
 unfoldable pub coefficient_of : Form → ℕ → ℕ → ℤ

@@ -4,7 +4,7 @@
 use mathlib.Core.Path.{◌≡◌, refl}
 use mathlib.Core.Logic.{◌⊎◌, inl, inr, ◌↔◌}
 use Prim.Native.Nat.{ℕ, suc, ◌+◌, ◌*◌, ◌≤◌}
-use native.Mathlib.Nat.{mul-le-mul_left, mul-le-mul}
+use native.Mathlib.Nat.{mul-le-mul_left, mul-le-mul, le_of_mul-le-mul_left}
 use native.Mathlib.Omega.{arith}
 use native.Mathlib.Decide.{dec_le}
 use lib.IntN.{ℤ, pos, negsuc, neg_ℤ, ◌+ℤ◌, ◌-ℤ◌, ◌*ℤ◌, nat_abs}
@@ -72,6 +72,13 @@ pub *ℤ_monoˡ : (c a b : ℤ) → pos 0 ≤ℤ c → a ≤ℤ b → (c *ℤ a)
   where
     scale : (n : ℕ) (a b : ℤ) → a ≤ℤ b → (pos n *ℤ a) ≤ℤ (pos n *ℤ b)
     scale n = diff₂ _ λ p q r s. simp diffs λ k. omega (arith, mul-le-mul_left n k)
+
+-- and back, where the factor is above 0
+pub *ℤ_cancelˡ : (n : ℕ) (a b : ℤ) → 1 ≤ n → (pos n *ℤ a) ≤ℤ (pos n *ℤ b) → a ≤ℤ b
+*ℤ_cancelˡ n a b l = go a b
+  where
+    go : (a b : ℤ) → (pos n *ℤ a) ≤ℤ (pos n *ℤ b) → a ≤ℤ b
+    go = diff₂ _ λ p q r s. simp diffs λ h. le_of_mul-le-mul_left {k = n} (omega (arith, h)) (omega arith)
 
 pub *ℤ_nonneg : (a b : ℤ) → pos 0 ≤ℤ a → pos 0 ≤ℤ b → pos 0 ≤ℤ (a *ℤ b)
 *ℤ_nonneg (pos m) (pos n) h k = pos_nonneg (m * n)

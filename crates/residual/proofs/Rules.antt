@@ -1,6 +1,5 @@
--- The rules of the multiplier commands are sound: null forms are 0 at the filling that a plan induces, of the plans that P holds
--- of, and the forms subtracted are at least 0 at every point of the relaxation, as their multipliers are. Each names places of
--- the table only. Our rules are sound over the plans that fit, and where the register has no rows over every plan.
+-- The rules of the multiplier commands are sound: null forms are 0 at the filling that a plan that fits induces, and the forms
+-- subtracted are at least 0 at every point of the relaxation, as their multipliers are. Each names places of the table only.
 use Prim.Native.Nat.{ℕ, ◌≤◌, ◌<◌}
 use mathlib.Core.Path.{◌≡◌, sym, ◌∙◌, ap}
 use mathlib.Core.List.{List, [], ◌∷◌}
@@ -22,7 +21,6 @@ use Rattle.forms.proofs.Form.{Below, below-[], below_times, value-[], value-time
 use Rattle.register.specs.Register.{row_total, row_entry}
 use Rattle.register.specs.declared.Register.{Register}
 use Rattle.plan.specs.Fits.{Fits}
-use Rattle.plan.proofs.Fits.{every_fits}
 use Rattle.scheme.specs.declared.Scheme.{Scheme}
 use Rattle.scheme.specs.Scheme.{left, right, variables, side}
 use Rattle.scheme.specs.Filling.{factor, induced}
@@ -40,18 +38,11 @@ use Rattle.certificate.proofs.Conditions.{tested}
 use Rattle.residual.proofs.Forms.{null_difference, nonneg_difference, nonneg_single, nonneg_together}
 
 -- what is proved of each rule
-pub record Sound (P : ℕ → Type 0) (n : ℕ) (s : Scheme) (ρ : Rule) : Type 0 where
-  pub below : T ρ.there → Below (side n s) ρ.form
-  pub null : T ρ.null → T ρ.there → T ρ.fits → (plan : ℕ) → P plan → value (factor (induced n s plan)) ρ.form ≡ pos 0
+pub record Sound (r : Register) (s : Scheme) (ρ : Rule) : Type 0 where
+  pub below : T ρ.there → Below (side r.choices s) ρ.form
+  pub null : T ρ.null → T ρ.there → T ρ.fits → (plan : ℕ) → Fits r plan → value (factor (induced r.choices s plan)) ρ.form ≡ pos 0
   pub above : T (not ρ.null) → pos 0 ≤ℤ ρ.least
-  pub nonneg : T (not ρ.null) → T ρ.there → (D : ℕ) (y : ℕ → ℤ) → Relaxed n s D y → pos 0 ≤ℤ value (places (pos D) y) ρ.form
-
-abbrev pub EveryPlan : ℕ → Type 0
-EveryPlan plan = Unit {0}
-
--- over plans with P, and so over those of them with Q
-pub sound_among : {P Q : ℕ → Type 0} {n : ℕ} {s : Scheme} {ρ : Rule} → ((plan : ℕ) → Q plan → P plan) → Sound P n s ρ → Sound Q n s ρ
-sound_among q h = record { below = h.below; null = λ u t f plan x. h.null u t f plan (q plan x); above = h.above; nonneg = h.nonneg }
+  pub nonneg : T (not ρ.null) → T ρ.there → (D : ℕ) (y : ℕ → ℤ) → Relaxed r.choices s D y → pos 0 ≤ℤ value (places (pos D) y) ρ.form
 
 -- what holds of each row holds of what is looked up
 by_key_all {ℓ} : {A : Type ℓ} (P : A → Type 0) (none : A) (k : ℕ) (es : List (ℕ × A)) → P none → All (λ e. P e.1) es → P (by_key none k es)
@@ -87,11 +78,11 @@ module _ (r : Register) (s : Scheme) where
 
   module _ (products : Products n s) where
     null_rule_lem : {there ordered fits : Bool} {form : Form} → (T there → Below (side n s) form) → (T fits → (plan : ℕ) → value (factor (induced n s plan)) form ≡ pos 0) →
-        Sound (Fits r) n s (null_rule there ordered fits form)
+        Sound r s (null_rule there ordered fits form)
     null_rule_lem b v = record { below = b; null = λ _ _ f plan _. v f plan; above = λ t. absurd t; nonneg = λ t. absurd t }
 
     -- of a row: its form is 0 where the plan fits the row
-    row_rule_lem : (k i : ℕ) → Sound (Fits r) n s (row_rule (ltb k r.rows && ltb i (variables n s)) (row_form_of r k i))
+    row_rule_lem : (k i : ℕ) → Sound r s (row_rule (ltb k r.rows && ltb i (variables n s)) (row_form_of r k i))
     row_rule_lem k i = record {
       below = λ h. let (_, l) = both h in below_row n (row_entry r k) (row_total r k) i (omega arith) (omega (arith, ltb→lt i (variables n s) l));
       null = λ _ h _ plan f.
@@ -109,14 +100,14 @@ module _ (r : Register) (s : Scheme) where
         once x e = sym (one_*ℤ x) ∙ e
 
     subtracted_rule_lem : {there : Bool} {form : Form} → (T there → Below (side n s) form) → (T there → (D : ℕ) (y : ℕ → ℤ) → Relaxed n s D y → pos 0 ≤ℤ value (places (pos D) y) form) →
-        Sound (Fits r) n s (subtracted_rule there form)
+        Sound r s (subtracted_rule there form)
     subtracted_rule_lem b v = record { below = b; null = λ t. absurd t; above = λ _. ≤ℤ_refl (pos 0); nonneg = λ _. v }
 
     -- 1 where the plan feeds all of a set, else 0
     abbrev fed : ℕ → ℕ → ℤ
     fed plan e = bit (is_subset e plan)
 
-    rules_sound : (i j k l : ℕ) → All (λ e. Sound (Fits r) n s e.1) (rules r s i j k l)
+    rules_sound : (i j k l : ℕ) → All (λ e. Sound r s e.1) (rules r s i j k l)
     rules_sound i j k l =
         null_rule_lem (λ h. omega (arith, ltb→lt))
         (λ _ plan. null_difference _ (place i) (place i) 0 (place i) (two_variables n s plan i i ∙ ap (fed plan) (or_self _) ∙ sym (one_variable n s plan i)))
@@ -139,45 +130,44 @@ module _ (r : Register) (s : Scheme) where
         ▹ row_rule_lem i j
         ▹ tt
 
-    pub rule_sound : (t : Multiplier) → Sound (Fits r) n s (rule_of r s t)
-    rule_sound = rule_all (Sound (Fits r) n s) r s (null_rule_lem (λ _. below-[]) (λ f. absurd f)) rules_sound
+    pub rule_sound : (t : Multiplier) → Sound r s (rule_of r s t)
+    rule_sound = rule_all (Sound r s) r s (null_rule_lem (λ _. below-[]) (λ f. absurd f)) rules_sound
 
-    -- where the register has no rows, over every plan
-    pub rule_sound_every : r.rows ≡ 0 → (t : Multiplier) → Sound EveryPlan n s (rule_of r s t)
-    rule_sound_every e t = sound_among (λ plan _. every_fits r e plan) (rule_sound t)
+    -- ---- what a multiplier adds and subtracts
 
-  -- ---- what a multiplier adds and subtracts, where the rules are sound over the plans with P
+    module _ (t : Multiplier) (ok : Allowed r s t) where
+      abbrev rule : Rule
+      rule = rule_of r s t
 
-  module _ {P : ℕ → Type 0} (sound : (t : Multiplier) → Sound P n s (rule_of r s t)) (t : Multiplier) (ok : Allowed r s t) where
-    abbrev rule : Rule
-    rule = rule_of r s t
+      sound : Sound r s rule
+      sound = rule_sound t
 
-    passes : RulePasses rule t.m
-    passes = (tested r s t ok).rule
+      passes : RulePasses rule t.m
+      passes = (tested r s t ok).rule
 
-    form_below : Below (side n s) (times t.m rule.form)
-    form_below = below_times t.m ((sound t).below passes.there)
+      form_below : Below (side n s) (times t.m rule.form)
+      form_below = below_times t.m (sound.below passes.there)
 
-    pub null_below : Below (side n s) (null_part r s t)
-    unfolding null_part
-    null_below = cond_cases (Below (side n s)) rule.null _ [] (λ _. form_below) (λ _. below-[])
+      pub null_below : Below (side n s) (null_part r s t)
+      unfolding null_part
+      null_below = cond_cases (Below (side n s)) rule.null _ [] (λ _. form_below) (λ _. below-[])
 
-    pub subtracted_below : Below (side n s) (subtracted_part r s t)
-    unfolding subtracted_part
-    subtracted_below = cond_cases (Below (side n s)) rule.null [] _ (λ _. below-[]) (λ _. form_below)
+      pub subtracted_below : Below (side n s) (subtracted_part r s t)
+      unfolding subtracted_part
+      subtracted_below = cond_cases (Below (side n s)) rule.null [] _ (λ _. below-[]) (λ _. form_below)
 
-    -- a null form vanishes at the filling that a plan with P induces
-    pub null_0 : (plan : ℕ) → P plan → value (factor (induced n s plan)) (null_part r s t) ≡ pos 0
-    unfolding null_part
-    null_0 plan h =
-        cond_cases (λ f. value (factor (induced n s plan)) f ≡ pos 0) rule.null (times t.m rule.form) []
-        (λ u. value-times (factor (induced n s plan)) t.m rule.form ∙ ap (λ x. t.m *ℤ x) ((sound t).null u passes.there passes.fits plan h) ∙ *ℤ-zero t.m)
-        (λ _. value-[] (factor (induced n s plan)))
+      -- a null form vanishes at the filling that a plan that fits induces
+      pub null_0 : (plan : ℕ) → Fits r plan → value (factor (induced n s plan)) (null_part r s t) ≡ pos 0
+      unfolding null_part
+      null_0 plan h =
+          cond_cases (λ f. value (factor (induced n s plan)) f ≡ pos 0) rule.null (times t.m rule.form) []
+          (λ u. value-times (factor (induced n s plan)) t.m rule.form ∙ ap (λ x. t.m *ℤ x) (sound.null u passes.there passes.fits plan h) ∙ *ℤ-zero t.m)
+          (λ _. value-[] (factor (induced n s plan)))
 
-    -- a subtracted form is never negative on the relaxation
-    pub subtracted_nonneg : (D : ℕ) (y : ℕ → ℤ) → Relaxed n s D y → pos 0 ≤ℤ value (places (pos D) y) (subtracted_part r s t)
-    unfolding subtracted_part
-    subtracted_nonneg D y relaxed =
-        cond_cases (λ f. pos 0 ≤ℤ value (places (pos D) y) f) rule.null [] (times t.m rule.form)
-        (λ _. rw value-[] (≤ℤ_refl (pos 0)))
-        (λ u. rw value-times (*ℤ_nonneg t.m _ (≤ℤ_trans _ _ _ ((sound t).above u) passes.m_above) ((sound t).nonneg u passes.there D y relaxed)))
+      -- a subtracted form is never negative on the relaxation
+      pub subtracted_nonneg : (D : ℕ) (y : ℕ → ℤ) → Relaxed n s D y → pos 0 ≤ℤ value (places (pos D) y) (subtracted_part r s t)
+      unfolding subtracted_part
+      subtracted_nonneg D y relaxed =
+          cond_cases (λ f. pos 0 ≤ℤ value (places (pos D) y) f) rule.null [] (times t.m rule.form)
+          (λ _. rw value-[] (≤ℤ_refl (pos 0)))
+          (λ u. rw value-times (*ℤ_nonneg t.m _ (≤ℤ_trans _ _ _ (sound.above u) passes.m_above) (sound.nonneg u passes.there D y relaxed)))

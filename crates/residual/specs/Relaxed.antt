@@ -1,10 +1,12 @@
--- The relaxed problem of a supplier's solver: fractions y_i / D between 0 and 1 in place of 0 and 1.
+-- The relaxed problem of a supplier's solver: fractions between 0 and 1 in place of 0 and 1, each product held to its operands by the
+-- inequalities of source document 002, section 4.1.
 use Rattle.std.specs.Prelude.{ℕ, ◌≤◌, ◌<◌, ℤ, pos, ◌+ℤ◌, ◌-ℤ◌, ◌≤ℤ◌}
 use Rattle.scheme.specs.declared.Scheme.{Scheme}
 use Rattle.scheme.specs.Scheme.{left, right, variables}
 
--- y_i / D for each variable, over a common denominator D: each is between 0 and 1, and a product is no more than either operand
--- and no less than their sum less 1
+-- a point: the fraction of variable i is y i / D, of whole numbers from 0 to D. A product k of l and r is no more than either of them,
+-- and no less than their sum less 1. In an accepted scheme operands stand before their product, so only the N numbers of the variables
+-- are looked at
 pub record Relaxed (n : ℕ) (s : Scheme) (D : ℕ) (y : ℕ → ℤ) : Type 0 where
   pub positive : 1 ≤ D
   pub low : (i : ℕ) → i < variables n s → pos 0 ≤ℤ y i

@@ -1,4 +1,5 @@
 -- The statements hold of our calls; demand 3 fails for a penalty call that hands back the table as it was lent.
+pub mod Relaxation
 pub mod Ours
 pub mod Every
 pub mod Lent

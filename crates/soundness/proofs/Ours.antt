@@ -7,13 +7,7 @@ use lib.ListN.{length}
 use lib.Signed.{◌≤ℤ◌}
 use Rattle.integers.proofs.Order.{≤ℤ_antisym}
 use Rattle.wire.specs.Number.{Bytes}
-use Rattle.wire.specs.Part.{Reading, refused, accepted}
-use Rattle.wire.specs.Rows.{Progress}
-use Rattle.wire.proofs.Part.{NumberedReading, by_itself_numbered}
 use Rattle.forms.specs.Table.{table_numbers}
-use Rattle.register.specs.declared.Register.{Register}
-use Rattle.register.specs.Register.{coefficient}
-use Rattle.scheme.specs.declared.Scheme.{Scheme}
 use Rattle.scheme.specs.Filling.{Filling}
 use Rattle.scheme.proofs.Opened.{Opened, opens, opened_encodings, register_bytes, scheme_bytes, answer_opened}
 use Rattle.penalty.specs.Answer.{penalty_table}
@@ -24,45 +18,17 @@ use Rattle.penalty.proofs.Sets.{carried_below}
 use Rattle.penalty.proofs.Answers as Penalty
 use Rattle.penalty.proofs.Demand.{made_answer, made_holds}
 use Rattle.bound.specs.declared.CheckAnswer.{CheckAnswer}
-use Rattle.certificate.specs.Certificate.{Certificate}
-use Rattle.bound.specs.Format.{certificate_by_itself}
-use Rattle.bound.specs.Bound.{bound}
-use Rattle.bound.specs.Check.{check_answer}
-use Rattle.bound.proofs.Accept.{whole_valid, whole_encodes, encoding_accepted}
-use Rattle.bound.proofs.Answers.{after_certificate, parts_accepted, job_numbered}
-use Rattle.bound.proofs.Bound.{plan_bound}
+use Rattle.bound.proofs.Accept.{encoding_accepted}
 use Rattle.bound.proofs.SecondOrder.{second_order_lem}
 use Rattle.plain.proofs.ReadBack.{plain_encodes, handed_back, enough, own_accepted}
-use Rattle.soundness.specs.Calls.{penalty_call, check_call, plain_call}
+use Rattle.soundness.specs.Calls.{penalty_call, check_call, plain_call, job_call}
 use Rattle.soundness.specs.Demand3.{register_of, coefficients, scheme_of, Accepted, Plan, cost, FitsPlan, FitsFilling, CarriesAt, value_read, EqualLeastWhere, Certified, second_order_of, table_back, checked, own_back, AsWritten, Demand3}
+use Rattle.soundness.proofs.Relaxation.{bound_read, checked_relaxed, relaxation, plans_bounded}
 
 -- a function has one least value where P holds
 least_one : {A : Type 0} (P : A → Type 0) (f : A → ℤ) (m m' : ℤ) → LeastWhere P f m → LeastWhere P f m' → m ≡ m'
 least_one P f m m' a b =
     ≤ℤ_antisym m m' (rw (← b.reached) (a.lowest b.witness b.holds)) (rw (← a.reached) (b.lowest a.witness a.holds))
-
--- an answer of no refusal comes from a certificate that is accepted
-record Reads (c : ℕ → ℤ) (reg : Register) (sch : Scheme) (s : List ℕ) : Type 0 where
-  read : Progress Certificate
-  end : ℕ
-  reads : certificate_by_itself c reg sch s ≡ accepted read end
-
-module _ (t s : List ℕ) (reg : Register) (sch : Scheme) (o : Opened t s reg sch) (lent : List ℤ) (l : table_numbers ≤ length lent) (k : List ℕ) where
-  answer_is : check_answer t s k lent ≡ after_certificate (certificate_by_itself (coefficient reg) reg sch k)
-  answer_is = sym (parts_accepted t s k lent l reg sch o).answers
-
-  reads_accepted : (check_answer t s k lent).number ≡ 0 → Reads (coefficient reg) reg sch k
-  unfolding certificate_by_itself
-  reads_accepted z =
-      go (certificate_by_itself (coefficient reg) reg sch k) refl (by_itself_numbered k _ (job_numbered (coefficient reg) reg sch k)) (ap (λ a. a.number) (sym answer_is) ∙ z)
-    where
-      go : (x : Reading (Progress Certificate)) → certificate_by_itself (coefficient reg) reg sch k ≡ x → NumberedReading x → (after_certificate x).number ≡ 0 → Reads (coefficient reg) reg sch k
-      go (refused n at) e d z = absurd (d z)
-      go (accepted p end) e d z = record { read = p; end = end; reads = e }
-
-  -- and its bound is that of the certificate
-  bound_read : (p : Progress Certificate) (end : ℕ) → certificate_by_itself (coefficient reg) reg sch k ≡ accepted p end → ((check_answer t s k lent).number ≡ 0) × ((check_answer t s k lent).bound ≡ bound p.parsed)
-  bound_read p end e = let a = answer_is ∙ ap after_certificate e in (ap (λ a. a.number) a, ap (λ a. a.bound) a)
 
 -- ---- the demand, of accepted parts 1 and 2 and a table long enough
 
@@ -97,13 +63,9 @@ module _ (t s : List ℕ) (z : Accepted t s) (lent : List ℤ) (l : table_number
       let one = least_one (FitsFilling t) (value_read t s back) m same.least h same.over_fillings in
       record { plan = plan; carries = refl; fits = f; costs = same.minimisers z f (e ∙ one) ∙ sym one }
 
-  -- (c)
+  -- (c), a case of the bound in the relaxation
   bounds : (certificate : List ℕ) → (check certificate).number ≡ 0 → (plan : Plan t) → FitsPlan t plan → (check certificate).bound ≤ℤ cost t plan
-  bounds certificate e plan f =
-      let k = reads_accepted t s _ _ o lent l certificate e in
-      let valid = whole_valid _ _ _ certificate k.read k.end k.reads in
-      rw (bound_read t s _ _ o lent l certificate k.read k.end k.reads).1
-      (plan_bound (coefficients t) (register_of t) (scheme_of t s) k.read.parsed o.scheme_valid valid plan.fed f)
+  bounds certificate = plans_bounded check_call job_call relaxation t s certificate lent
 
   -- (d)
   second_order_part : (certificate : List ℕ) (k : Certified t s certificate) (x : ℕ → ℤ) → pos 0 ≤ℤ second_order_of t s k.cert x
@@ -120,12 +82,7 @@ module _ (t s : List ℕ) (z : Accepted t s) (lent : List ℤ) (l : table_number
     part_2 = record { conditions = o.scheme_valid; bytes = scheme_bytes t s (register_of t) (scheme_of t s) o };
     penalty_accepted = made_answer t s lent l (register_of t) (scheme_of t s) o;
     penalty_form = sym (Penalty.parts_accepted t s lent l (register_of t) (scheme_of t s) o).holds;
-    certificates = λ certificate b e.
-        let k = reads_accepted t s _ _ o lent l certificate e in
-        record {
-          cert = k.read.parsed;
-          part_3 = record { conditions = whole_valid _ _ _ certificate k.read k.end k.reads; bytes = whole_encodes _ _ _ certificate k.read k.end k.reads b };
-        };
+    certificates = λ certificate b e. let k = checked_relaxed t s certificate lent e in record { cert = k.cert; part_3 = k.part_3 b };
     certified = λ certificate k.
         bound_read t s _ _ o lent l certificate _ _
         (encoding_accepted (register_of t) o.register_valid (scheme_of t s) o.scheme_valid (coefficients t) k.cert certificate k.part_3.conditions k.part_3.bytes);

@@ -132,7 +132,7 @@ module _ (penalty_call : PenaltyCall) (check_call : CheckCall) (plain_call : Pla
     -- (b) such a filling at this least value carries a plan that fits and whose cost it is
     pub minimisers : (m : ℤ) → LeastWhere (FitsFilling register) (value_read register scheme (table_back register scheme table)) m →
         (z : Filling) → FitsFilling register z → value_read register scheme (table_back register scheme table) z ≡ m → CarriesAt register z m
-    -- (c) no plan that fits is cheaper than the bound of any certificate that the check accepts
+    -- (c) no plan that fits is cheaper than the bound of any certificate that the check accepts, which is a case of `Relaxation`
     pub bounds : (certificate : List ℕ) → (checked register scheme certificate table).number ≡ 0 →
         (plan : Plan register) → FitsPlan register plan → (checked register scheme certificate table).bound ≤ℤ cost register plan
     -- (d) the second-order part of such a certificate is nowhere below 0, whatever signs x has. The check accepts just the

@@ -1,7 +1,7 @@
 -- What the calls are held to, each statement a predicate of any such calls: what they accept, what a refusal says, what they
--- write, demand 3, what a farm reads of a job, and what it is promised of feeding windows, of the day's length,
--- of the cheapest plan, of the rows that fix how many feedings there are and of what was before there were any, of the tallies of
--- suppliers, and of what a supplier may read.
+-- write, demand 3, the bound in the relaxation, what a farm reads of a job, and what it is promised of feeding windows, of the day's
+-- length, of the cheapest plan, of the rows that fix how many feedings there are and of what was before there were any, of the tallies
+-- of suppliers, and of what a supplier may read.
 pub mod Calls
 pub mod Parts
 pub mod Written
@@ -9,6 +9,7 @@ pub mod Acceptance
 pub mod Refusals
 pub mod Writers
 pub mod Demand3
+pub mod Relaxation
 pub mod Jobs
 pub mod Windows
 pub mod DayLengths
