@@ -2,4 +2,5 @@ pub mod Alone
 pub mod Own
 pub mod Jobs
 pub mod Told
+pub mod Relaxed
 pub mod Table
