@@ -1,6 +1,6 @@
 // The example of the scope through include/feedcheck.h, every call, a register with windows, days of each length, a register with
-// rows, a tally of several suppliers, and what a supplier may read. Prints a line and exits 1 where an answer is another than the
-// scope's.
+// rows, a tally of several suppliers, what a supplier may read, the names and sentences of the refusals, and the version. Prints a
+// line and exits 1 where an answer is another than the scope's.
 #include <stddef.h>
 #include <stdio.h>
 #include <string.h>
@@ -164,6 +164,37 @@ static void try_supplier_listing(int64_t *table) {
     expect("supplier's listing, short table", short_lent(table, FEEDCHECK_TABLE_NUMBERS - 1, strlen(LINES)) && table[0] == 77);
 }
 
+// The names, in the order of their numbers.
+static const int REFUSALS[17] = {
+    FEEDCHECK_REFUSED_NO_COMMAND, FEEDCHECK_REFUSED_CUT_SHORT, FEEDCHECK_REFUSED_TOO_MANY, FEEDCHECK_REFUSED_OUT_OF_RANGE,
+    FEEDCHECK_REFUSED_NOT_THERE, FEEDCHECK_REFUSED_MISORDERED, FEEDCHECK_REFUSED_NOT_RISING, FEEDCHECK_REFUSED_SETS_UNFIT,
+    FEEDCHECK_REFUSED_FALLS_SHORT, FEEDCHECK_REFUSED_NO_PRODUCT_LEFT, FEEDCHECK_REFUSED_TOO_SHORT, FEEDCHECK_REFUSED_PAST_END,
+    FEEDCHECK_REFUSED_OUTSIDE_WINDOWS, FEEDCHECK_REFUSED_PAST_LIMIT, FEEDCHECK_REFUSED_MISFIT, FEEDCHECK_REFUSED_NONE_FITS,
+    FEEDCHECK_REFUSED_UNKNOWN_SUPPLIER};
+
+// Each refusal has a sentence of its own, and every other number says that there is none.
+static void try_refusals(void) {
+    const char *none = feedcheck_refusal_text(FEEDCHECK_ACCEPTED);
+    expect("refusals, accepted", FEEDCHECK_ACCEPTED == 0 && strcmp(none, "no refusal") == 0);
+    for (int number = 1; number <= 17; number++) {
+        const char *text = feedcheck_refusal_text((uint8_t)number);
+        expect("refusals, names", REFUSALS[number - 1] == number);
+        expect("refusals, sentence", strlen(text) > 0 && strcmp(text, none) != 0);
+        for (int other = 1; other < number; other++)
+            expect("refusals, sentences differ", strcmp(text, feedcheck_refusal_text((uint8_t)other)) != 0);
+    }
+    for (int number = 18; number <= 255; number++)
+        expect("refusals, no refusal", strcmp(feedcheck_refusal_text((uint8_t)number), none) == 0);
+    expect("refusals, misfit",
+           strcmp(feedcheck_refusal_text(FEEDCHECK_REFUSED_MISFIT), "the plan does not fit the rows") == 0);
+}
+
+static void try_version(void) {
+    char version[64];
+    snprintf(version, sizeof version, "%d.%d.%d", FEEDCHECK_VERSION_MAJOR, FEEDCHECK_VERSION_MINOR, FEEDCHECK_VERSION_PATCH);
+    expect("version", strcmp(version, FEEDCHECK_VERSION) == 0);
+}
+
 int main(void) {
     static int64_t table[FEEDCHECK_TABLE_NUMBERS];
     uint8_t buffer[FEEDCHECK_MAX_LISTING];
@@ -227,7 +258,11 @@ int main(void) {
     w = feedcheck_listing(JOB, sizeof JOB, table, FEEDCHECK_TABLE_NUMBERS, buffer, sizeof buffer);
     expect("listing", w.number == 0 && w.count == strlen(LINES) && memcmp(buffer, LINES, w.count) == 0);
     try_supplier_listing(table);
+    try_refusals();
+    try_version();
     if (!failed)
-        printf("header: the example, the windows, the days, the rows, the suppliers and their listing are answered as the scope says\n");
+        printf("header %s: the example, the windows, the days, the rows, the suppliers and their listing are answered as the scope "
+               "says, and each refusal has its name and sentence\n",
+               FEEDCHECK_VERSION);
     return failed;
 }

@@ -1,6 +1,6 @@
 /* Counts the jobs of several suppliers in one tally. The words are a supplier's number, 0 to 15, and a file, as often as wanted.
  * Prints the refusal of each job that is refused, and at the end the counters of each supplier that has any. Exit status 0: every
- * job was accepted, 1: one was refused, 2: the words are wrong, or a file can't be read. */
+ * job was accepted, 1: one was refused, 2: no answer, since the words are wrong or a file can't be read. */
 #include <inttypes.h>
 #include <stdio.h>
 #include <stdlib.h>
@@ -8,7 +8,7 @@
 #include "feedcheck.h"
 
 /* Reads a file, as much of it as can matter. Its length, or -1 where it can't be read. */
-static long read_file(const char *path, uint8_t *job) {
+static long read_file(const char *path, uint8_t *bytes) {
     FILE *file = fopen(path, "rb");
     long length;
 
@@ -16,7 +16,7 @@ static long read_file(const char *path, uint8_t *job) {
         perror(path);
         return -1;
     }
-    length = (long)fread(job, 1, FEEDCHECK_MAX_JOB_READ, file);
+    length = (long)fread(bytes, 1, FEEDCHECK_MAX_JOB_READ, file);
     if (ferror(file)) {
         perror(path);
         length = -1;
@@ -32,6 +32,15 @@ static int supplier_of(const char *word) {
     long number = strtol(word, &end, 10);
 
     return end == word || *end != '\0' || number < 0 || number > UINT8_MAX ? -1 : (int)number;
+}
+
+/* Part 0: no command is at fault. */
+static void print_refusal(const char *path, uint8_t number, uint8_t part, size_t position) {
+    printf("%s: refusal %d", path, number);
+    if (part != 0) {
+        printf(" in part %d at byte %zu", part, position);
+    }
+    printf(": %s\n", feedcheck_refusal_text(number));
 }
 
 static int usage(void) {
@@ -73,8 +82,8 @@ int main(int count, char **words) {
         }
         answer = feedcheck_job(job, (size_t)length, table, FEEDCHECK_TABLE_NUMBERS, (uint8_t)supplier, tally);
         tally = answer.tally;
-        if (answer.number != 0) {
-            printf("%s: refusal %d in part %d at byte %zu\n", words[i + 1], answer.number, answer.part, answer.position);
+        if (answer.number != FEEDCHECK_ACCEPTED) {
+            print_refusal(words[i + 1], answer.number, answer.part, answer.position);
             status = 1;
         }
     }

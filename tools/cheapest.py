@@ -9,23 +9,33 @@ and in Python's whole numbers. It shares no code with the library; its answers a
 A comparison follows the search rule, and with at most 20 choices it also works out what every plan costs. It walks at most 200,000
 visits of a search. One that has more is not walked to the end: it is named and counted apart, and of its NAME.cheapest only so much is
 looked at, that it doesn't speak of fewer visits.
+
+It takes minutes where the program `cheapest` takes seconds. `--limit N` bounds that: a search that would take more than N visits is
+refused, `R 14 0`.
+
+The exit status is 0 where there is a plan and 1 where the register or the search is refused; with `--compare` it is 0 where all lines
+are as expected, else 1, also where DIR has no NAME.register ("0 passed, 0 failed"). Where something else is wrong it is 2, one line on
+standard error says what, and nothing is printed. Such a line also says that FILE is a text and not a register; its bytes are refused
+all the same.
 """
-import pathlib
 import re
 import sys
 
 sys.dont_write_bytecode = True
 
-from check_job import Job, Refused
+from check_job import Job, Refused, text
+from command_line import Misuse, expect, files, put, read, run, say
+from job_text import TEXT, is_text
 
 LIMIT = 100_000_000
+LARGEST_LIMIT = 4_294_967_295
 WALKED = 200_000
 EVERY = 20
 TOO_MANY = "R 14 0\n"
 NONE_FITS = "R 16 0\n"
 
 
-def read(data):
+def register_of(data):
     """The register; raises its refusal."""
     register = Job(data)
     register.register()
@@ -71,24 +81,21 @@ class Search:
 
 
 def lines(data, limit):
+    """The lines of a register, and whether it has a plan."""
     try:
-        register = read(data)
+        register = register_of(data)
         search = Search(register, limit)
     except Refused as refusal:
         number, _, position = refusal.args
-        return [f"R {number} {position}"]
-    return register.feedings(search.plan) + [f"S {search.best} {search.visits}"]
-
-
-def text(data, limit):
-    return "".join(line + "\n" for line in lines(data, limit))
+        return [f"R {number} {position}"], False
+    return register.feedings(search.plan) + [f"S {search.best} {search.visits}"], True
 
 
 def is_cheapest(data, expected):
     """Whether a text has the first of the cheapest plans that fit and its cost, by the costs of all plans, or says that none fits. Of a
     refused register and of one with more choices than that is done for nothing is said."""
     try:
-        register = read(data)
+        register = register_of(data)
     except Refused:
         return True
     if len(register.choices) > EVERY:
@@ -106,38 +113,42 @@ def has_more(expected):
 
 
 def compare(folder):
-    registers = sorted(pathlib.Path(folder).glob("*.register"))
+    registers = files(folder, ".register")
     failed, longer = [], []
     for path in registers:
-        data, expected = path.read_bytes(), path.with_suffix(".cheapest").read_text()
-        walked = text(data, WALKED)
+        data, expected = read(path), read(path.with_suffix(".cheapest")).decode(errors="replace")
+        walked = text(lines(data, WALKED)[0])
         more = walked == TOO_MANY
         agrees = has_more(expected) if more else walked == expected
         if not (agrees and is_cheapest(data, expected)):
             failed.append(path.name)
         elif more:
             longer.append(path.name)
-    for name in failed:
-        print("not the expected lines:", name)
-    for name in longer:
-        print(f"not walked to the end, more than {WALKED:,} visits:", name)
+    said = [f"not the expected lines: {name}" for name in failed]
+    said += [f"not walked to the end, more than {WALKED:,} visits: {name}" for name in longer]
     apart = f", {len(longer)} not walked to the end" if longer else ""
-    print(f"{len(registers) - len(failed) - len(longer)} passed, {len(failed)} failed{apart}")
+    put(text(said + [f"{len(registers) - len(failed) - len(longer)} passed, {len(failed)} failed{apart}"]))
     return 1 if failed or not registers else 0
 
 
-def main():
-    words = sys.argv[1:]
-    if len(words) == 2 and words[0] == "--compare":
-        sys.exit(compare(words[1]))
-    if len(words) == 3 and words[0] == "--limit" and words[1].isdecimal():
-        limit = int(words[1])
-    elif len(words) == 1:
-        limit = LIMIT
-    else:
-        sys.exit(__doc__)
-    sys.stdout.write(text(pathlib.Path(words[-1]).read_bytes(), limit))
+def limit_of(word):
+    if not re.fullmatch("[0-9]{1,10}", word) or int(word) > LARGEST_LIMIT:
+        raise Misuse(f"N is to be a whole number from 0 to {LARGEST_LIMIT}, and is {word}")
+    return int(word)
+
+
+def main(words):
+    if words[:1] == ["--compare"]:
+        return compare(*expect(words[1:], "DIR"))
+    limited = words[:1] == ["--limit"]
+    number, file = expect(words[1:], "N", "FILE") if limited else (str(LIMIT), *expect(words, "FILE"))
+    limit, data = limit_of(number), read(file)
+    printed, is_found = lines(data, limit)
+    put(text(printed))
+    if is_text(data):
+        say(f"{file}: {TEXT}")
+    return 0 if is_found else 1
 
 
 if __name__ == "__main__":
-    main()
+    run(__doc__, main)

@@ -7,13 +7,18 @@ code with the library; its answers are a second opinion, not a proof.
     tools/check_job.py --both FILE       prints both listings side by side, the supplier's on the right
     tools/check_job.py --rest FILE       prints R, row by row, with what each row has left over, where `3F` is reached
     tools/check_job.py --compare DIR     compares each NAME.job in DIR with NAME.out, and with NAME.supplier where there is one
+
+The exit status is 0 where the job is accepted and 1 where it is refused; with `--compare` it is 0 where all lines are as expected, else
+1, also where DIR has no NAME.job ("0 passed, 0 failed"). Where something else is wrong it is 2, one line on standard error says what,
+and nothing is printed. Such a line also says that `--rest` has nothing to print, where a job is refused before `3F`, and that FILE is a
+text and not a job; its bytes are refused all the same.
 """
-import pathlib
 import sys
 
 sys.dont_write_bytecode = True
 
-from job_text import COMMANDS, DAYS, ROW, SQUARE, USUAL_DAY, operands, size
+from command_line import expect, files, put, read, run, say, tally
+from job_text import COMMANDS, DAYS, ROW, SQUARE, TEXT, USUAL_DAY, is_text, operands, size
 
 
 class Refused(Exception):
@@ -23,7 +28,7 @@ class Refused(Exception):
 class Job:
     def __init__(self, job):
         self.job, self.at, self.next, self.part = job, 0, 0, 1
-        self.table = None
+        self.table, self.refusal = None, None
 
     def need(self, holds, number):
         if not holds:
@@ -146,23 +151,35 @@ class Job:
 
     def certificate(self):
         _, v = self.take(0x30)
-        self.need(1 <= v["s"] <= 1_000_000 and abs(v["T"]) <= 4 * 10 ** 15, 4)
-        self.s, self.T = v["s"], v["T"]
-        side, multipliers, squares = len(self.sets) + 1, [], []
+        self.scale(v)
         while True:
             byte, v = self.take(*range(0x31, 0x3C), 0x3F)
             if byte == 0x3F:
-                break
+                self.table = self.residual()
+                return self.carry()
             if byte == 0x3A:
-                entries = [v[name] for name in SQUARE]
-                self.need(len(squares) < 64, 3)
-                self.need(1 <= v["weight"] <= 1_000_000 and all(abs(x) <= 10_000 for x in entries), 4)
-                self.need(not any(entries[side:]), 5)
-                squares.append((v["weight"], entries))
+                self.square(v)
             else:
-                self.need(len(multipliers) < 1_024, 3)
-                added = byte <= 0x34 or byte == 0x3B
-                multipliers.append((v["m"] if added else -v["m"], self.row_form(v) if byte == 0x3B else self.form(byte, v)))
+                self.multiplier(byte, v)
+
+    def scale(self, v):
+        self.need(1 <= v["s"] <= 1_000_000 and abs(v["T"]) <= 4 * 10 ** 15, 4)
+        self.s, self.T, self.multipliers, self.squares = v["s"], v["T"], [], []
+
+    def multiplier(self, byte, v):
+        self.need(len(self.multipliers) < 1_024, 3)
+        added = byte <= 0x34 or byte == 0x3B
+        self.multipliers.append((v["m"] if added else -v["m"], self.row_form(v) if byte == 0x3B else self.form(byte, v)))
+
+    def square(self, v):
+        entries = [v[name] for name in SQUARE]
+        self.need(len(self.squares) < 64, 3)
+        self.need(1 <= v["weight"] <= 1_000_000 and all(abs(x) <= 10_000 for x in entries), 4)
+        self.need(not any(entries[len(self.sets) + 1:]), 5)
+        self.squares.append((v["weight"], entries))
+
+    def residual(self):
+        side = len(self.sets) + 1
         table = [[0] * side for _ in range(side)]
 
         def add(times, form):
@@ -173,14 +190,16 @@ class Job:
         add(self.s, [(0, 0, self.base)])
         for (l, r), (_, coefficient) in zip(self.splits, self.terms):
             add(self.s, [(0 if l == r else l + 1, r + 1, coefficient)])
-        for times, form in multipliers:
+        for times, form in self.multipliers:
             add(times, form)
         add(-1, [(0, 0, self.T)])
-        for weight, v in squares:
+        for weight, v in self.squares:
             for i in range(side):
                 for j in range(side):
                     table[i][j] -= weight * v[i] * v[j]
-        self.table = table
+        return table
+
+    def carry(self):
         self.need(all(left >= 0 for left in self.left_over()), 9)
 
     def left_over(self):
@@ -210,14 +229,14 @@ class Job:
         return [f"F {t} {m}" for i, (t, m) in enumerate(self.choices) if plan >> i & 1]
 
     def listings(self):
-        """The lines that the farm reads, and those that the supplier reads."""
+        """The lines that the farm reads, and those that the supplier reads. Where the job is refused, the one line is kept too."""
         try:
-            for self.part, read in enumerate([self.register, self.scheme, self.certificate, self.plan], 1):
-                read()
+            for self.part, reader in enumerate([self.register, self.scheme, self.certificate, self.plan], 1):
+                reader()
         except Refused as refusal:
             number, _, position = refusal.args
-            refused = [f"R {number} {position}"]
-            return refused, refused
+            self.refusal = f"R {number} {position}"
+            return [self.refusal], [self.refusal]
         cost, bound = self.cost(self.fed), -(-self.T // self.s)
         last = f"B {bound} {cost} {cost - bound}"
         choices = [f"T {i} {t} {m}" for i, (t, m) in enumerate(self.choices)]
@@ -226,16 +245,16 @@ class Job:
 
 
 def farm(job):
-    return Job(job).listings()[0]
+    return job.listings()[0]
 
 
 def supplier(job):
-    return Job(job).listings()[1]
+    return job.listings()[1]
 
 
 def both(job):
     """Both listings side by side, the two lines of a choice in one row and the two last lines in one."""
-    left, right = Job(job).listings()
+    left, right = job.listings()
     beside = right[:-1] + [""] * (len(left) - len(right)) + right[-1:]
     width = max(map(len, left))
     return [f"{line:{width}} | {other}".rstrip() for line, other in zip(left, beside)]
@@ -243,9 +262,8 @@ def both(job):
 
 def rest(job):
     """R, row by row."""
-    read = Job(job)
-    read.listings()
-    rows = zip(read.table, read.left_over()) if read.table else []
+    job.listings()
+    rows = zip(job.table, job.left_over()) if job.table else []
     return [f"row {i}, left over {left}: " + " ".join(map(str, row)) for i, (row, left) in enumerate(rows)]
 
 
@@ -257,34 +275,36 @@ def text(lines):
 
 
 def compare(folder):
-    passed, failed = 0, []
-    for path in sorted(pathlib.Path(folder).glob("*.job")):
-        for lines, suffix in zip(Job(path.read_bytes()).listings(), (".out", ".supplier")):
-            expected = path.with_suffix(suffix)
-            if suffix == ".supplier" and not expected.exists():
-                continue
-            if text(lines) == expected.read_text():
-                passed += 1
-            else:
-                failed.append(expected.name)
-    for name in failed:
-        print("not the expected lines:", name)
-    print(f"{passed} passed, {len(failed)} failed")
-    return 0 if passed and not failed else 1
+    trials = []
+    for path in files(folder, ".job"):
+        for lines, ending in zip(Job(read(path)).listings(), (".out", ".supplier")):
+            expected = path.with_suffix(ending)
+            if ending == ".out" or expected.exists():
+                trials.append((f"not the expected lines: {expected.name}", text(lines).encode() == read(expected)))
+    return tally(trials)
 
 
-def main():
-    words = sys.argv[1:]
-    if len(words) == 2 and words[0] == "--compare":
-        sys.exit(compare(words[1]))
-    if len(words) == 2 and words[0] in PRINTED:
-        lines_of = PRINTED[words[0]]
-    elif len(words) == 1:
-        lines_of = farm
-    else:
-        sys.exit(__doc__)
-    sys.stdout.write(text(lines_of(pathlib.Path(words[-1]).read_bytes())))
+def remarks(job, printed):
+    """What is to be said of a job that the lines that are printed do not say."""
+    if not printed:
+        yield f"refused before `3F`, so there is no R to print: {job.refusal}"
+    if is_text(job.job):
+        yield TEXT
+
+
+def main(words):
+    if words[:1] == ["--compare"]:
+        return compare(*expect(words[1:], "DIR"))
+    lines_of = PRINTED[words.pop(0)] if words and words[0] in PRINTED else farm
+    [file] = expect(words, "FILE")
+    job = Job(read(file))
+    lines = lines_of(job)
+    put(text(lines))
+    said = "; ".join(remarks(job, lines))
+    if said:
+        say(f"{file}: {said}")
+    return 1 if job.refusal else 0
 
 
 if __name__ == "__main__":
-    main()
+    run(__doc__, main)

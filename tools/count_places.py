@@ -1,10 +1,20 @@
 #!/usr/bin/env python3
-# Prints a line for each place: point<TAB>file:line<TAB>what. Run at the top of the repository.
-# With --sum: per point and crate. With --second: another way of counting points 1 to 3.
-# Reads only crates/*/src/*.rt. With a word as 1 or 1a: only that point or that part of it.
+"""Prints a line for each place: point<TAB>file:line<TAB>what. Run at the top of the repository; a tool of a past landing.
+
+    tools/count_places.py [--sum] [--second] [POINT ..]
+
+With --sum: per point and crate. With --second: another way of counting points 1 to 3.
+Reads only crates/*/src/*.rt. With a POINT as 1 or 1a: only that point or that part of it.
+"""
 import glob, re, sys
 from collections import defaultdict, OrderedDict
 
+sys.dont_write_bytecode = True
+
+from command_line import Misuse, Trouble, put, run
+
+# the points and their parts
+POINTS = '1a 1b 1c 1d 1e 1u 2 3a 3b 4a 4b 4c 4d 4e 5a 5b 6a 6b 6c 6d 6e 7a 7b 7c 7d'.split()
 FILES = sorted(glob.glob('crates/*/src/*.rt'))
 TEXT = {f: open(f, encoding='utf-8').read() for f in FILES}
 LINES = {f: TEXT[f].split('\n') for f in FILES}
@@ -421,18 +431,30 @@ def second():
     return out
 
 
-args = [a for a in sys.argv[1:]]
-rows = second() if '--second' in args else places
-words = [a for a in args if not a.startswith('--')]
-if words:
-    rows = [r for r in rows if any(r[0] == w or r[0].rstrip('abcdeu') == w and not w[-1].isalpha() for w in words)]
-rows.sort(key=lambda r: (r[0], r[1], r[2]))
-if '--sum' in args:
-    tot = defaultdict(lambda: defaultdict(int))
-    for p, f, l, w in rows:
-        tot[p][crate(f)] += 1
-    for p in sorted(tot):
-        print(p, sum(tot[p].values()), ' '.join(f'{c}={n}' for c, n in sorted(tot[p].items())), sep='\t')
-else:
-    for p, f, l, w in rows:
-        print(p, f'{f}:{l}', w, sep='\t')
+def main(args):
+    known = ['1', '2', '3'] if '--second' in args else sorted({p[0] for p in POINTS} | set(POINTS))
+    words = [a for a in args if a not in ('--sum', '--second')]
+    for w in words:
+        if w not in known:
+            raise Misuse(f"{w} is no option here" if w.startswith('-') else f"{w} is none of the points {' '.join(known)}")
+    if not FILES:
+        raise Trouble('there is no file crates/*/src/*.rt here; run it at the top of the repository')
+    rows = second() if '--second' in args else places
+    if words:
+        rows = [r for r in rows if any(r[0] == w or r[0].rstrip('abcdeu') == w and not w[-1].isalpha() for w in words)]
+    rows.sort(key=lambda r: (r[0], r[1], r[2]))
+    lines = []
+    if '--sum' in args:
+        tot = defaultdict(lambda: defaultdict(int))
+        for p, f, l, w in rows:
+            tot[p][crate(f)] += 1
+        for p in sorted(tot):
+            lines.append([p, str(sum(tot[p].values())), ' '.join(f'{c}={n}' for c, n in sorted(tot[p].items()))])
+    else:
+        lines = [[p, f'{f}:{l}', w] for p, f, l, w in rows]
+    put(''.join('\t'.join(line) + '\n' for line in lines))
+    return 0
+
+
+if __name__ == '__main__':
+    run(__doc__, main)

@@ -4,19 +4,34 @@
     tools/job_text.py show FILE        prints the lines of the bytes in FILE
     tools/job_text.py make FILE        writes the bytes of the lines in FILE to standard output
     tools/job_text.py register FILE    writes part 1 of the job in FILE to standard output
+    tools/job_text.py cut FILE NAME    cuts the job in FILE into the files NAME.register, NAME.scheme, NAME.certificate and NAME.plan
     tools/job_text.py blank FILE       writes the job in FILE with 0 for each tank, minute, "from" and "to" to standard output
+    tools/job_text.py plan REGISTER LINES    writes part 4, the plan that LINES names, to standard output; LINES may be - for standard input
 
 A line is a command: position, part, command byte, name, operands, and in parentheses what they mean. `make` looks only at the
 command byte and the operands, so positions need not be mended after a change, and in lines written by hand `-` may stand in their
-place; it passes over empty lines and lines that begin with `#`. A square's entries are c for the constant and z0 to z63 for the
-variables, those of a row of the register z0 to z31 for the choices; those that are 0 are left out. A time is hours and minutes since
-the day began, 24:59 for the last minute of a day of 25 hours; it is left out where the minute is not one of the day, whose length is
-that of the `18` directly after `10`, or the usual one.
+place; it passes over empty lines and lines that begin with `#`. A number may be decimal, hexadecimal (0x7) or binary (0b111). A
+square's entries are c for the constant and z0 to z63 for the variables, those of a row of the register z0 to z31 for the choices;
+those that are 0 are left out. A time is hours and minutes since the day began, 24:59 for the last minute of a day of 25 hours; it is
+left out where the minute is not one of the day, whose length is that of the `18` directly after `10`, or the usual one.
+Where a file begins with a command of part 2, 3 or 4, only that is said which holds whatever register stands before it. A scheme, a
+certificate or a plan is explained in full behind its register (`cat my.register my.scheme > both`, and `show both`).
 From the first byte that is no command, or begins a command that is cut off, or stands after the plan, the bytes are shown as
-they are, after `raw`, and `blank` leaves them as they are. `register` looks only for the end of part 1, not whether what stands
-before it is right.
+they are, after `raw`, and `blank` leaves them as they are. `register` and `cut` look only for the end of a part, not whether what
+stands before it is right. What stands behind part 3 is the fourth file, so the four files, one after the other, are the job.
+
+LINES is what `cheapest` or `feedcheck` prints. Each line `F tank minute` feeds the choice of part 1 of REGISTER that has this tank and
+this minute; lines that begin with T, S or B, and empty ones, are passed over. Of the register `plan` looks only at the choices.
+
+The exit status is 0, or 2 where that can't be done; one line on standard error then says why, and nothing is on standard output.
+Where a part has no end, or NAME is empty or ends with /, `cut` writes no file.
 """
+import re
 import sys
+
+sys.dont_write_bytecode = True
+
+from command_line import Misuse, Trouble, expect, put, read, run, write
 
 # the lengths that a day may have, in minutes: where the clocks go forward, as usual, where they go back
 SHORT_DAY, USUAL_DAY, LONG_DAY = 1_380, 1_440, 1_500
@@ -57,6 +72,16 @@ HEXADECIMAL = ("mask", "fed")
 HIDDEN = ("tank", "minute", "from", "to")
 # command byte: entries that are left out where they are 0
 ENTRIES = {0x14: ROW, 0x3A: SQUARE}
+# the commands that end parts 1 to 3, and the names that `cut` gives the files of the four parts
+ENDS = (0x1F, 0x2F, 0x3F)
+PARTS = ("register", "scheme", "certificate", "plan")
+# the choices of a register, whose fed ones have a bit each in the plan's mask
+MOST_CHOICES = 32
+# what looks like a minus sign and is none in a number here
+NO_MINUS = "\u2010\u2011\u2012\u2013\u2014\u2015\u207b\u2212\u2796\ufe58\ufe63\uff0d"
+
+ORDER = "a line has position, part, command byte, name, operands"
+TEXT = "text where bytes are due; tools/job_text.py make turns its lines into bytes"
 
 
 def size(byte):
@@ -123,10 +148,11 @@ def less(b):
 
 class Meaning:
     """What the commands so far have named: the day's length, 0 where it is none of those that a day may have, the windows, the rows, the
-    sets of the variables, the operands of the products, how many terms and splits; and the last command."""
+    sets of the variables, the operands of the products, how many terms and splits; and the last command. Where the first command is none
+of part 1, the register is somewhere else, and nothing is said for which it is needed."""
 
     def __init__(self):
-        self.last, self.day = None, USUAL_DAY
+        self.last, self.day, self.is_apart = None, USUAL_DAY, False
         self.windows, self.rows, self.sets, self.products, self.terms, self.splits = [], [], [], {}, 0, 0
 
     def outside(self, tank, minute):
@@ -168,6 +194,8 @@ class Meaning:
     def after(self, byte, v):
         """What a command means, and what it adds to what is named."""
         before, self.last = self.last, byte
+        if before is None:
+            self.is_apart = COMMANDS[byte][0] > 1
         if byte == 0x11:
             self.sets.append(1 << len(self.sets))
             time = f", {time_of(v['minute'])}" if v["minute"] < self.day else ""
@@ -188,6 +216,8 @@ class Meaning:
         if byte == 0x18 and before == 0x10:
             self.day = v["length"] if v["length"] in DAYS else 0
             return f"{self.day // 60} hours" if self.day else ""
+        if byte == 0x21 and self.is_apart:
+            return f"z{v['l']} z{v['r']}"
         if byte == 0x21:
             k = len(self.sets)
             self.products[k] = v["l"], v["r"]
@@ -195,13 +225,14 @@ class Meaning:
             return f"variable {k} = z{v['l']} z{v['r']}: {choices_of(self.sets[k])}"
         if byte == 0x22:
             self.splits += 1
-            return f"term {self.splits - 1} = {product_of(v['l'], v['r'])}: {choices_of(self.union(v['l'], v['r']))}"
+            said = f"term {self.splits - 1} = {product_of(v['l'], v['r'])}"
+            return said if self.is_apart else f"{said}: {choices_of(self.union(v['l'], v['r']))}"
         if byte == 0x30:
             return f"bound {-(-v['T'] // v['s'])}" if v["s"] else ""
         if 0x31 <= byte <= 0x39:
             return self.form(byte, v)
         if byte == 0x3B:
-            return self.row_form(v)
+            return "" if self.is_apart else self.row_form(v)
         if byte == 0x40:
             return choices_of(v["fed"]) + "".join(f", does not fit row {k}" for k in self.unfit(v["fed"]))
         return ""
@@ -221,14 +252,84 @@ def show(job):
     return lines
 
 
+def range_of(width, signed):
+    """The least and the largest number of an operand."""
+    values = 1 << 8 * width
+    return (-values // 2, values // 2 - 1) if signed else (0, values - 1)
+
+
+def number_of(operand, word, width, signed):
+    if word[0] in NO_MINUS:
+        raise Trouble(f"{operand} {word}: write - before a negative number")
+    try:
+        number = int(word, 0)
+    except ValueError:
+        raise Trouble(f"{operand} {word} is no number: decimal without zeros before it, 0x and hexadecimal, or 0b and binary") from None
+    low, high = range_of(width, signed)
+    if not low <= number <= high:
+        raise Trouble(f"{operand} {word} is not within {low} and {high}")
+    return number
+
+
+def values_of(byte, name, words):
+    """The operands of a command, by name, of words that are names and numbers by turns."""
+    forms, values = dict(COMMANDS[byte][2]), {}
+    for operand, word in zip(words[::2], words[1::2]):
+        if operand not in forms:
+            raise Trouble(f"{name} has no operand {operand}")
+        if operand in values:
+            raise Trouble(f"{operand} is given twice")
+        values[operand] = number_of(operand, word, *forms[operand])
+    for operand in forms:
+        if operand not in values and operand not in ENTRIES.get(byte, ()):
+            raise Trouble(f"{operand} is missing")
+    return values
+
+
 def bytes_of(words):
     """The bytes of a line's words."""
+    if len(words) < 3:
+        raise Trouble(f"no command byte: {ORDER}")
     if words[2] == "raw":
-        return bytes.fromhex("".join(words[3:]))
-    byte, names, numbers = int(words[2], 16), words[4::2], words[5::2]
-    if len(names) != len(numbers) or not set(names) <= {name for name, _ in COMMANDS[byte][2]}:
-        raise ValueError("operands")
-    return encode(byte, {name: int(number, 0) for name, number in zip(names, numbers)})
+        return raw(words[3:])
+    byte = int(words[2], 16) if re.fullmatch("(0x)?[0-9A-Fa-f]{2}", words[2]) else None
+    if byte not in COMMANDS:
+        raise Trouble(f"{words[2]} is no command byte: {ORDER}")
+    _, name, operands = COMMANDS[byte]
+    if len(words) > 3 and len(words) % 2:
+        missing = f"the name {name} is missing before {words[3]}: {ORDER}"
+        raise Trouble(missing if words[3] in dict(operands) else f"{words[-1]} has no number")
+    return encode(byte, values_of(byte, name, words[4:]))
+
+
+def raw(words):
+    try:
+        return bytes.fromhex("".join(words))
+    except ValueError:
+        raise Trouble("what stands after raw is no row of bytes, two hexadecimal digits each") from None
+
+
+def lines_of(data):
+    """The lines of a text, None where bytes are none."""
+    try:
+        text = data.decode("utf-8-sig")
+    except UnicodeDecodeError:
+        return None
+    return None if re.search("[\x00-\x08\x0E-\x1F\x7F]", text) else re.split("\r\n|\r|\n", text)
+
+
+def is_text(data):
+    """Whether bytes are a text for `make` and not a job: its first word is a position, or `-`, or begins with `#`."""
+    words = [word for line in lines_of(data) or () for word in line.split()]
+    return bool(words) and (words[0] == "-" or words[0].startswith("#") or words[0].isdecimal())
+
+
+def job_in(file):
+    """The bytes of a file that is not to be a text for `make`."""
+    data = read(file)
+    if is_text(data):
+        raise Trouble(f"{file}: {TEXT}")
+    return data
 
 
 def make(lines):
@@ -239,19 +340,26 @@ def make(lines):
         if words and not words[0].startswith("#"):
             try:
                 job += bytes_of(words)
-            except (ValueError, KeyError, IndexError, OverflowError):
-                sys.exit(f"line {number} is no command: {line.strip()}")
+            except Trouble as trouble:
+                raise Trouble(f"line {number}: {trouble}") from None
     return job
+
+
+def cut(job):
+    """The four parts of a job, the fourth being all that stands behind part 3; fewer where commands of a part don't lead to its end."""
+    parts, start = [], 0
+    for at, byte in commands(job):
+        if len(parts) == len(ENDS) or COMMANDS[byte][0] != len(parts) + 1:
+            break
+        if byte in ENDS:
+            parts.append(job[start:at + 1])
+            start = at + 1
+    return parts + [job[start:]] if len(parts) == len(ENDS) else parts
 
 
 def register_of(job):
     """The bytes up to the end of part 1, None where commands of part 1 don't lead to it."""
-    for at, byte in commands(job):
-        if COMMANDS[byte][0] != 1:
-            break
-        if byte == 0x1F:
-            return job[:at + 1]
-    return None
+    return next(iter(cut(job)), None)
 
 
 def blank(job):
@@ -262,23 +370,92 @@ def blank(job):
     return blanked + job[len(blanked):]
 
 
-def main():
-    if len(sys.argv) != 3 or sys.argv[1] not in ("show", "make", "register", "blank"):
-        sys.exit(__doc__)
-    if sys.argv[1] == "make":
-        with open(sys.argv[2], encoding="utf-8") as file:
-            sys.stdout.buffer.write(make(file))
-        return
-    with open(sys.argv[2], "rb") as file:
-        job = file.read()
-    if sys.argv[1] == "show":
-        print("\n".join(show(job)))
-        return
-    written = register_of(job) if sys.argv[1] == "register" else blank(job)
-    if written is None:
-        sys.exit("part 1 has no end")
-    sys.stdout.buffer.write(written)
+def made(file):
+    """The bytes of the lines in a file."""
+    lines = lines_of(read(file))
+    if lines is None:
+        raise Trouble(f"{file}: bytes where text in UTF-8 is due; tools/job_text.py show prints the lines of a job")
+    try:
+        return make(lines)
+    except Trouble as trouble:
+        raise Trouble(f"{file}: {trouble}") from None
+
+
+def first_part(file):
+    register = register_of(job_in(file))
+    if register is None:
+        raise Trouble(f"{file}: part 1 has no end")
+    return register
+
+
+def write_parts(file, name):
+    if not name or name.endswith("/"):
+        raise Misuse(f"NAME is to be what the names of four files begin with, and {f'ends with /: {name}' if name else 'is empty'}")
+    parts = cut(job_in(file))
+    if len(parts) < len(PARTS):
+        raise Trouble(f"{file}: part {len(parts) + 1} has no end")
+    for part, run_of_bytes in zip(PARTS, parts):
+        write(f"{name}.{part}", run_of_bytes)
+    return b""
+
+
+def fed_by(lines, choices, register):
+    """The mask of the choices that lines of a listing name."""
+    fed, is_listing = 0, False
+    for number, line in enumerate(lines, 1):
+        words = line.split()
+        if not words:
+            continue
+        is_listing = True
+        if words[0] == "R":
+            raise Trouble(f"line {number}: {line} is a refusal and no plan")
+        if words[0] not in ("F", "T", "S", "B"):
+            raise Trouble(f"line {number}: {line} is no line of cheapest or feedcheck")
+        if words[0] == "F":
+            if words[1:] not in choices:
+                raise Trouble(f"line {number}: {line} names no choice of {register}")
+            bit = 1 << choices.index(words[1:])
+            if fed & bit:
+                raise Trouble(f"line {number}: {line} stands there twice")
+            fed |= bit
+    if not is_listing:
+        raise Trouble("no line of cheapest or feedcheck")
+    return fed
+
+
+def plan_of(register, file):
+    """Part 4, by the choices of a register and the lines of a file."""
+    part = first_part(register)
+    found = [operands(part, at) for at, byte in commands(part) if byte == 0x11]
+    if len(found) > MOST_CHOICES:
+        raise Trouble(f"{register}: {len(found)} choices, and {MOST_CHOICES} are allowed")
+    lines = lines_of(read(file))
+    if lines is None:
+        raise Trouble(f"{file}: bytes where lines of cheapest or feedcheck are due")
+    try:
+        return encode(0x40, {"fed": fed_by(lines, [[str(v["tank"]), str(v["minute"])] for v in found], register)})
+    except Trouble as trouble:
+        raise Trouble(f"{file}: {trouble}") from None
+
+
+# what the tool does, by its first word: the names of the words that follow, and what is then written to standard output
+CALLS = {
+    "show": (("FILE",), lambda file: "".join(line + "\n" for line in show(job_in(file)))),
+    "make": (("FILE",), made),
+    "register": (("FILE",), first_part),
+    "cut": (("FILE", "NAME"), write_parts),
+    "blank": (("FILE",), lambda file: blank(job_in(file))),
+    "plan": (("REGISTER", "LINES"), plan_of),
+}
+
+
+def main(words):
+    if not words or words[0] not in CALLS:
+        raise Misuse(f"{words[0]} is none of {', '.join(CALLS)}" if words else f"one of {', '.join(CALLS)} is missing")
+    names, call = CALLS[words[0]]
+    put(call(*expect(words[1:], *names)))
+    return 0
 
 
 if __name__ == "__main__":
-    main()
+    run(__doc__, main)

@@ -1,7 +1,8 @@
 #!/usr/bin/env python3
 """Spells this repository's own definitions and lemmas as the kit's guides do: snake case, and a dash only between two names.
+A tool of a past landing: it changes the files of each FOLDER, a checkout as the kit's port.py leaves it, and is run once.
 
-usage: tools/port_names.py FOLDER..      (each FOLDER a checkout, as the kit's port.py leaves it; run it once)
+    tools/port_names.py FOLDER ..
 
 port_names.tsv beside it has a row for each name: old, new, and where a third field stands, the end of the path of the one
 file that the row is for, in place of any other row of that name. With 'not a field' behind it, the row is for the uses of
@@ -13,6 +14,10 @@ In the proofs of a function a name that Rattle makes, behind one of the heads c 
 import os
 import re
 import sys
+
+sys.dont_write_bytecode = True
+
+from command_line import Misuse, Trouble, expect, put, run
 
 HERE = os.path.dirname(os.path.realpath(__file__))
 WORD = re.compile(r'[^\s(){}.;:,@"«»`\[\]|&!]+')
@@ -92,6 +97,11 @@ def edit(text, table, special):
 
 
 def main(folders):
+    if not folders:
+        raise Misuse("FOLDER is missing")
+    for top in expect(folders, *folders):
+        if not os.path.isdir(top):
+            raise Trouble(f"{top} is no folder")
     table, here = rows()
     changed = 0
     for top in folders:
@@ -116,11 +126,9 @@ def main(folders):
                     changed += 1
                     with open(path, "w", encoding="utf-8") as f:
                         f.write(new)
-    print(f"port_names: {changed} files changed")
+    put(f"port_names: {changed} files changed\n")
+    return 0
 
 
 if __name__ == "__main__":
-    if len(sys.argv) < 2:
-        print(__doc__, file=sys.stderr)
-        raise SystemExit(2)
-    main(sys.argv[1:])
+    run(__doc__, main)

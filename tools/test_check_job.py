@@ -1,8 +1,8 @@
 #!/usr/bin/env python3
 """Tries the two listings of tools/check_job.py. Of the jobs in `examples` and in the folders given: each that is accepted is moved to
 other tanks and minutes, five times; each time the supplier's lines must stay and the farm's must not. A job that is refused must have
-its one line in both. Then the two listings side by side, of one job of each kind, and of the pair of jobs in `examples` that differ
-only in tanks, minutes and windows.
+its one line in both, and R is there to be printed exactly where `3F` is reached. Then the two listings side by side, of one job of each
+kind, and of the pair of jobs in `examples` that differ only in tanks, minutes and windows.
 
     tools/test_check_job.py [FOLDER ..]
 """
@@ -12,7 +12,8 @@ import sys
 
 sys.dont_write_bytecode = True
 
-from check_job import both, farm, supplier
+from check_job import Job, both, farm, rest, supplier
+from command_line import files, run, tally
 from job_text import USUAL_DAY, blank, commands, encode, operands
 
 EXAMPLES = pathlib.Path(__file__).resolve().parent.parent / "examples"
@@ -49,32 +50,40 @@ def moved(job, chance):
     return b"".join(encode(byte, values) for byte, values in parts)
 
 
-def main():
+def lines(lines_of, job):
+    return lines_of(Job(job))
+
+
+def reaches_end(job, read):
+    """Whether the line of a job, the first, tells that `3F` of part 3 was reached: the job is accepted, refused 9, or refused at or after
+    the plan."""
+    kind, number, *position = read[0].split()
+    end = next((at + 1 for at, byte in commands(job) if byte == 0x3F), len(job) + 1)
+    return kind == "T" or number == "9" or int(position[0]) >= end
+
+
+def main(folders):
     chance = random.Random(7)
-    folders = [EXAMPLES, *map(pathlib.Path, sys.argv[1:])]
     trials = []
-    for path in [path for folder in folders for path in sorted(folder.glob("*.job"))]:
+    for path in [path for folder in [EXAMPLES, *folders] for path in files(folder, ".job")]:
         job = path.read_bytes()
-        read = farm(job)
+        read, rows = lines(farm, job), lines(rest, job)
+        trials.append((f"R where there is none, or none where there is one: {path.name}", bool(rows) == reaches_end(job, read)))
         if read[0].startswith("R"):
-            trials.append((f"not the one line of a refused job: {path.name}", supplier(job) == read and len(read) == 1))
+            trials.append((f"not the one line of a refused job: {path.name}", lines(supplier, job) == read and len(read) == 1))
             continue
         for other in [moved(job, chance) for _ in range(5)]:
-            trials.append((f"the supplier reads something else: {path.name}", supplier(other) == supplier(job)))
-            trials.append((f"the farm reads nothing else: {path.name}", farm(other) != read))
+            trials.append((f"the supplier reads something else: {path.name}", lines(supplier, other) == lines(supplier, job)))
+            trials.append((f"the farm reads nothing else: {path.name}", lines(farm, other) != read))
             trials.append((f"something else was moved: {path.name}", blank(other) == blank(job)))
     for name, rows in BOTH.items():
-        trials.append((f"not the rows of both listings: {name}", both((EXAMPLES / f"{name}.job").read_bytes()) == rows))
-    trials.append(("not the rows of both listings: nothing fed", both(NOTHING) == NOTHING_BOTH))
+        trials.append((f"not the rows of both listings: {name}", lines(both, (EXAMPLES / f"{name}.job").read_bytes()) == rows))
+    trials.append(("not the rows of both listings: nothing fed", lines(both, NOTHING) == NOTHING_BOTH))
     night, other = ((EXAMPLES / f"windows.{name}.job").read_bytes() for name in ("night", "night.moved"))
     trials.append(("not the same but for tanks, minutes and windows", night != other and blank(night) == blank(other)))
-    trials.append(("the supplier reads something else of the pair", supplier(night) == supplier(other)))
-    failed = [said for said, holds in trials if not holds]
-    for said in failed:
-        print(said)
-    print(f"{len(trials) - len(failed)} passed, {len(failed)} failed")
-    sys.exit(1 if failed else 0)
+    trials.append(("the supplier reads something else of the pair", lines(supplier, night) == lines(supplier, other)))
+    return tally(trials)
 
 
 if __name__ == "__main__":
-    main()
+    run(__doc__, main)

@@ -1,9 +1,10 @@
 #!/usr/bin/env python3
 """Tries tools/job_text.py: bytes to lines and back, and the lines of what `blank` writes, on every example, on every file of the folders
 given, and on damaged copies of five jobs, one without windows, one with them, one with a day's length too and two with a row: each
-front of it, each byte changed to eight others, each byte left out. Then the bytes that `blank` writes of some others, the lines of
-registers with windows, lengths and rows, right ones and others, and of what names a row, lines that are no command, registers written
-by hand, and part 1 of jobs.
+front of it, each byte changed to eight others, each byte left out; and that the parts of what can be cut into four are the whole of it.
+Then the bytes that `blank` writes of some others, the lines of registers with windows, lengths and rows, right ones and others, of what
+names a row, and of parts apart from their register, where nothing is said that the whole job shows otherwise, lines that are no command
+and what is said of them, registers written by hand, the parts of jobs, and which bytes are a text.
 
     tools/test_job_text.py [FOLDER ..]
 """
@@ -13,7 +14,8 @@ import sys
 
 sys.dont_write_bytecode = True
 
-from job_text import blank, make, register_of, show
+from command_line import Trouble, files, run, tally
+from job_text import COMMANDS, ENDS, blank, commands, cut, is_text, lines_of, make, register_of, show
 
 EXAMPLES = pathlib.Path(__file__).resolve().parent.parent / "examples"
 
@@ -96,6 +98,39 @@ SHOWN = [
         ("3F", "00274  3  3F end"),
         ("40 01000000", "00275  4  40 plan      fed 0x00000001  (choices 0, does not fit row 0, does not fit row 1, does not fit row 3)"),
     ],
+    # a scheme apart from its register, and a certificate behind it
+    [
+        ("21 00 01", "00000  2  21 product   l 0  r 1  (z0 z1)"),
+        ("21 02 02", "00003  2  21 product   l 2  r 2  (z2 z2)"),
+        ("22 00 00", "00006  2  22 split     l 0  r 0  (term 0 = z0)"),
+        ("22 04 01", "00009  2  22 split     l 4  r 1  (term 1 = z4 z1)"),
+        ("2F", "00012  2  2F end"),
+        ("30 02000000 0300000000000000", "00013  3  30 scale     s 2  T 3  (bound 2)"),
+        ("35 00 0100000000000000", "00026  3  35 subtract  k 0  m 1  (z_l - z0)"),
+        ("3F", "00036  3  3F end"),
+    ],
+    # a scheme without products, and a certificate apart from both: every form, with its own numbers
+    [
+        ("2F", "00000  2  2F end"),
+        ("40 05000000", "00001  4  40 plan      fed 0x00000005  (choices 0 2)"),
+    ],
+    [
+        ("30 01000000 FDFFFFFFFFFFFFFF", "00000  3  30 scale     s 1  T -3  (bound -3)"),
+        ("31 09 0100000000000000", "00013  3  31 add       i 9  m 1  (z9^2 - z9)"),
+        ("32 00 09 0100000000000000", "00023  3  32 add       i 0  j 9  m 1  (z0 - z0 z9)"),
+        ("33 09 00 01 0100000000000000", "00034  3  33 add       i 9  j 0  k 1  m 1  (z9 - z0 z1)"),
+        ("34 00 01 02 03 0100000000000000", "00046  3  34 add       i 0  j 1  k 2  l 3  m 1  (z0 z1 - z2 z3)"),
+        ("35 09 0100000000000000", "00059  3  35 subtract  k 9  m 1  (z_l - z9)"),
+        ("36 09 0100000000000000", "00069  3  36 subtract  k 9  m 1  (z_r - z9)"),
+        ("37 09 0100000000000000", "00079  3  37 subtract  k 9  m 1  (z9 - z_l - z_r + 1)"),
+        ("38 09 0100000000000000", "00089  3  38 subtract  i 9  m 1  (z9)"),
+        ("39 09 0100000000000000", "00099  3  39 subtract  i 9  m 1  (1 - z9)"),
+        ("3B 00 09 0100000000000000", "00109  3  3B add       row 0  i 9  m 1"),
+        ("3F", "00120  3  3F end"),
+        ("40 00000000", "00121  4  40 plan      fed 0x00000000  (no choice)"),
+    ],
+    # a plan by itself
+    [("40 03000000", "00000  4  40 plan      fed 0x00000003  (choices 0 1)")],
     # a plan that fits, and a row that is cut off
     [
         ("10 00000000", "00000  1  10 base      cost 0"),
@@ -110,29 +145,73 @@ SHOWN = [
     ],
 ]
 
+NO_NUMBER = "is no number: decimal without zeros before it, 0x and hexadecimal, or 0b and binary"
+ORDER = "a line has position, part, command byte, name, operands"
+
+# lines that are no command, and what is said of each
 NO_COMMANDS = [
-    "00005  1  13 window    tank 4  from 1320",
-    "00005  1  13 window    tank 4  from 1320  to",
-    "00005  1  13 window    tank 4  from 1320  minute 1440",
-    "00005  1  13 window    tank 4  from 1320  to 65536",
-    "00005  1  13 window    tank 4  from -1  to 1440",
-    "00005  1  18 day",
-    "00005  1  18 day       length",
-    "00005  1  18 day       minute 1500",
-    "00005  1  18 day       length 65536",
-    "00005  1  18 day       length -1",
-    "00005  1  14 row",
-    "00005  1  14 row       z0 1",
-    "00005  1  14 row       b 2  z0",
-    "00005  1  14 row       b 2  z0 128",
-    "00005  1  14 row       b 2  z0 -129",
-    "00005  1  14 row       b 2  z32 1",
-    "00005  1  14 row       b 2  c 1",
-    "00005  1  14 row       b 32768  z0 1",
-    "00208  3  3B add       row 0  m 1",
-    "00208  3  3B add       i 0  m 1",
-    "00208  3  3B add       row -1  i 0  m 1",
-    "00208  3  3B add       row 256  i 0  m 1",
+    # an operand is missing, has no number or comes from another command
+    ("00005  1  13 window    tank 4  from 1320", "to is missing"),
+    ("00005  1  13 window    tank 4  from 1320  to", "to has no number"),
+    ("00005  1  13 window    tank 4  from 1320  minute 1440", "window has no operand minute"),
+    ("00005  1  18 day", "length is missing"),
+    ("00005  1  18 day       length", "length has no number"),
+    ("00005  1  18 day       minute 1500", "day has no operand minute"),
+    ("00005  1  14 row", "b is missing"),
+    ("00005  1  14 row       z0 1", "b is missing"),
+    ("00005  1  14 row       b 2  z0", "z0 has no number"),
+    ("00005  1  14 row       b 2  z32 1", "row has no operand z32"),
+    ("00005  1  14 row       b 2  c 1", "row has no operand c"),
+    ("00208  3  3B add       row 0  m 1", "i is missing"),
+    ("00208  3  3B add       i 0  m 1", "row is missing"),
+    ("00047  1  1F end       to 3", "end has no operand to"),
+    ("-  3  3A square", "weight is missing"),
+    ("-  3  3A square  weight 1  z64 1", "square has no operand z64"),
+    # a number out of its operand's range, at both ends and for each width
+    ("00000  1  10 base      cost 99999999999", "cost 99999999999 is not within -2147483648 and 2147483647"),
+    ("00000  1  10 base      cost 2147483648", "cost 2147483648 is not within -2147483648 and 2147483647"),
+    ("00000  1  10 base      cost -2147483649", "cost -2147483649 is not within -2147483648 and 2147483647"),
+    ("00005  1  13 window    tank 4  from 1320  to 65536", "to 65536 is not within 0 and 65535"),
+    ("00005  1  13 window    tank 4  from -1  to 1440", "from -1 is not within 0 and 65535"),
+    ("00005  1  18 day       length 65536", "length 65536 is not within 0 and 65535"),
+    ("00005  1  18 day       length -1", "length -1 is not within 0 and 65535"),
+    ("00005  1  14 row       b 2  z0 128", "z0 128 is not within -128 and 127"),
+    ("00005  1  14 row       b 2  z0 -129", "z0 -129 is not within -128 and 127"),
+    ("00005  1  14 row       b 32768  z0 1", "b 32768 is not within -32768 and 32767"),
+    ("00005  1  12 term      mask 0x100000000  coefficient 1", "mask 0x100000000 is not within 0 and 4294967295"),
+    ("00208  3  3B add       row -1  i 0  m 1", "row -1 is not within 0 and 255"),
+    ("00208  3  3B add       row 256  i 0  m 1", "row 256 is not within 0 and 255"),
+    ("-  3  30 scale  s 1  T 9223372036854775808", f"T {2 ** 63} is not within {-2 ** 63} and {2 ** 63 - 1}"),
+    # a minus sign that is another
+    ("00000  1  10 base      cost \u22125", "cost \u22125: write - before a negative number"),
+    ("00000  1  10 base      cost \u20130x5", "cost \u20130x5: write - before a negative number"),
+    ("00005  1  14 row       b 2  z0 \uff0d1", "z0 \uff0d1: write - before a negative number"),
+    # no number, the same operand twice
+    ("00005  1  11 choice    tank four  minute 480", f"tank four {NO_NUMBER}"),
+    ("00005  1  11 choice    tank 4  minute 08:00", f"minute 08:00 {NO_NUMBER}"),
+    ("00005  1  11 choice    tank 4  minute 0480", f"minute 0480 {NO_NUMBER}"),
+    ("00005  1  11 choice    tank 4  minute 480.5", f"minute 480.5 {NO_NUMBER}"),
+    ("00005  1  11 choice    tank 4  minute 480  tank 5", "tank is given twice"),
+    ("00005  1  11 choice    tank 4  tank 4  minute 480", "tank is given twice"),
+    ("-  1  14 row  b 1  z0 1  z0 0", "z0 is given twice"),
+    # a column is missing or holds something else
+    ("-  1", f"no command byte: {ORDER}"),
+    ("-  1  choice  tank 4", f"choice is no command byte: {ORDER}"),
+    ("-  1  15  tank 4  minute 480", f"15 is no command byte: {ORDER}"),
+    ("-  1  111 choice  tank 4  minute 480", f"111 is no command byte: {ORDER}"),
+    ("-  1  11  tank 4  minute 480", f"the name choice is missing before tank: {ORDER}"),
+    ("-  1  11 choice  tank 4  minute", "minute has no number"),
+    ("-  1  11 choice  4 tank  480 minute", "choice has no operand 4"),
+    ("00063  -  raw  13 0B 0", "what stands after raw is no row of bytes, two hexadecimal digits each"),
+    ("00063  -  raw  13 XY", "what stands after raw is no row of bytes, two hexadecimal digits each"),
+]
+
+# lines in which position, part or name are others than `show` prints, and whose bytes are those of the command all the same
+LOOSE = [
+    ("x  9  11 window  minute 480  tank 4", "11 0400 E001"),
+    ("-  -  0x11 choice  tank 0b100  minute 0x1E0  (at eight", "11 0400 E001"),
+    ("99999  1  1f", "1F"),
+    ("-  1  1F nothing", "1F"),
 ]
 
 # the register of examples/example.job as a farm may write it: no positions, no meanings, masks in binary
@@ -172,6 +251,20 @@ BLANK = [
     ("", ""),
 ]
 
+# bytes, and their parts as far as these have an end: the shortest ones, with nothing behind them and with bytes that are no plan, parts
+# in another order, an end too many, and an end cut off by a command that is none
+CUT = [
+    ("1F 2F 3F", ["1f", "2f", "3f", ""]),
+    ("1F 2F 3F 7E 1F 2F", ["1f", "2f", "3f", "7e 1f 2f"]),
+    ("1F 3F 2F", ["1f"]),
+    ("1F 2F", ["1f", "2f"]),
+    ("1F 1F 2F 3F", ["1f"]),
+    ("1F 2F 7E 3F", ["1f", "2f"]),
+    ("1F 2F 40 00000000 3F", ["1f", "2f"]),
+    ("2F 3F", []),
+    ("", []),
+]
+
 
 def operands_of(lines):
     """Lines without what they mean."""
@@ -186,17 +279,44 @@ def damaged(job):
             yield job[:at] + bytes([byte]) + job[at + 1:]
 
 
-def is_refused(line):
-    try:
-        make([line])
-    except SystemExit:
+# bytes that are a text for `make`, and bytes that are not
+TEXTS = [b"-", b"# a register\n", b"\n\n  00000  1  10 base  cost 0\r\n", b"\xEF\xBB\xBF-  1  1F end\n", "# f\u00fctterung\n".encode()]
+NO_TEXTS = [b"", b"\n", b"\x10", b"~", b"R 1 0\n", b"- \x00", b"- \xFF", b"-\x1F", WRITTEN.encode("utf-16")]
+
+
+def are_parts(parts):
+    """Whether each of the first three has commands of its part only, and the end of the part once, as its last command."""
+    for number, (part, end) in enumerate(zip(parts, ENDS), 1):
+        run_of_commands = [byte for _, byte in commands(part)]
+        if run_of_commands.index(end) != len(run_of_commands) - 1 or {COMMANDS[byte][0] for byte in run_of_commands} != {number}:
+            return False
+    return True
+
+
+def said_alike(lines, number, part):
+    """Whether the lines of part 2, 3 or 4 apart from its register say nothing that the job's lines do not say of the same commands, but
+    that the operands of products that are not known are `z_l` and `z_r`."""
+    apart = show(part)
+    if number == 1 or not apart or apart[0].split()[1] != str(number):
         return True
-    return False
+    whole = lines[-len(apart):] if number == 4 else [line for line in lines if line.split()[1] == str(number)]
+    for own, other in zip(apart, whole, strict=True):
+        said = re.sub(r"z_[lr]", "z[0-9]+", re.escape(own.split("  (")[1][:-1])) if "  (" in own else ""
+        if own[5:].split("  (")[0] != other[5:].split("  (")[0] or not re.search(said, other):
+            return False
+    return True
 
 
-def main():
-    files = [path for folder in [EXAMPLES, *map(pathlib.Path, sys.argv[1:])] for path in sorted(folder.iterdir()) if path.is_file()]
-    jobs = [(path.name, path.read_bytes()) for path in files]
+def said_of(lines):
+    try:
+        make(lines)
+    except Trouble as trouble:
+        return str(trouble)
+    return None
+
+
+def main(folders):
+    jobs = [(path.name, path.read_bytes()) for folder in [EXAMPLES, *folders] for path in files(folder) if path.is_file()]
     for name in JOBS:
         jobs += [(f"{name}, damaged", job) for job in damaged((EXAMPLES / f"{name}.job").read_bytes())]
     jobs += [("a row, damaged", job) for job in [ROW, *damaged(ROW)]]
@@ -206,27 +326,38 @@ def main():
         trials.append((f"not the same bytes: {name}", make(lines) == job))
         left = [re.sub(r"  (tank|minute|from|to) \d+", r"  \1 0", line) for line in operands_of(lines)]
         trials.append((f"not blank, or something else is: {name}", operands_of(show(blank(job))) == left))
-    trials += [(f"not what is left: {run}", blank(bytes.fromhex(run)) == bytes.fromhex(left)) for run, left in BLANK]
-    for commands in SHOWN:
-        lines = show(bytes.fromhex("".join(run for run, _ in commands)))
-        trials += [(f"not the line: {line}", shown == line) for (_, line), shown in zip(commands, lines, strict=True)]
-        trials += [(f"not the bytes: {line}", make([line]) == bytes.fromhex(run)) for run, line in commands]
-    trials += [(f"taken for a command: {line}", is_refused(line)) for line in NO_COMMANDS]
+        parts = cut(job)
+        if len(parts) == 4 and "damaged" not in name:
+            trials.append((f"not so in the whole job: {name}", all(said_alike(lines, *it) for it in enumerate(parts, 1))))
+        if len(parts) == 4:
+            trials.append((f"not the job, or not its parts: {name}", b"".join(parts) == job and are_parts(parts)))
+    trials += [(f"not what is left: {job}", blank(bytes.fromhex(job)) == bytes.fromhex(left)) for job, left in BLANK]
+    for shown in SHOWN:
+        lines = show(bytes.fromhex("".join(part for part, _ in shown)))
+        trials += [(f"not the line: {line}", found == line) for (_, line), found in zip(shown, lines, strict=True)]
+        trials += [(f"not the bytes: {line}", make([line]) == bytes.fromhex(part)) for part, line in shown]
+    for line, said in NO_COMMANDS:
+        found = said_of(["# a comment", "", line])
+        trials.append((f"taken for a command, or something else is said: {line}: {found}", found == f"line 3: {said}"))
+    trials += [(f"not the bytes: {line}", make([line]) == bytes.fromhex(command)) for line, command in LOOSE]
     for name, written in (("example", WRITTEN), ("days.usual", WRITTEN_LENGTH)):
         register = (EXAMPLES / f"{name}.register").read_bytes()
-        trials += [(f"not the bytes of what a farm wrote: {name}", make(written.split("\n")) == register)]
+        for text in (written, written.replace("\n", "\r\n"), written.replace("\n", "\r"), "\ufeff" + written):
+            trials.append((f"not the bytes of what a farm wrote: {name}", make(lines_of(text.encode())) == register))
+    trials += [(f"not a text: {data}", is_text(data)) for data in TEXTS]
+    trials += [(f"a text: {data}", not is_text(data)) for data in [*NO_TEXTS, ROW]]
     for name in JOBS:
         job, register = ((EXAMPLES / f"{name}.{kind}").read_bytes() for kind in ("job", "register"))
         trials += [(f"not part 1: {name}", register_of(whole) == register) for whole in (job, register)]
         trials += [(f"cut before the end of part 1: {name}", register_of(job[:n]) is None) for n in range(len(register))]
+        ends = [len(b"".join(cut(job)[:number])) for number in (1, 2, 3)]
+        trials += [(f"not so many ends: {name}, {n} bytes", len(cut(job[:n])) == sum(n >= end for end in ends) + (n >= ends[2]))
+                   for n in range(len(job) + 1)]
     trials += [("not part 1: a row", register_of(ROW) == ROW[:65])]
     trials += [(f"no end of part 1: {bad}", register_of(bytes.fromhex(bad)) is None) for bad in ("7E 1F", "10 00000000 21 00 01 1F")]
-    failed = [said for said, holds in trials if not holds]
-    for said in failed:
-        print(said)
-    print(f"{len(trials) - len(failed)} passed, {len(failed)} failed")
-    sys.exit(1 if failed else 0)
+    trials += [(f"not the parts: {job}", [part.hex(" ") for part in cut(bytes.fromhex(job))] == parts) for job, parts in CUT]
+    return tally(trials)
 
 
 if __name__ == "__main__":
-    main()
+    run(__doc__, main)

@@ -20,7 +20,8 @@ from collections import Counter
 sys.dont_write_bytecode = True
 
 from check_job import Job
-from finish_certificate import finish
+from command_line import files, run
+from finish_certificate import Unfinished, finish
 from job_text import commands, encode, operands
 
 EXAMPLES = pathlib.Path(__file__).resolve().parent.parent / "examples"
@@ -320,8 +321,7 @@ def held(multipliers):
 
 
 def made(alike, allowed, number, chance):
-    """A certificate made at random for the register and scheme of some, in one of four manners, None where a number came out that has no
-    bytes."""
+    """A certificate made at random for the register and scheme of some, in one of four manners, None where it could not be finished."""
     one, manner = chance.choice(alike), ("wild", "changed", "mixed", "valley")[number % 4]
     if manner == "wild":
         scale = chance.choice((1, 7, 1_000, 999_983))
@@ -336,9 +336,10 @@ def made(alike, allowed, number, chance):
         scale = chance.choice((100, 9_973, 100_000))
         multipliers = allowed.valley(min(10 ** 11, 100 * scale * sum(abs(c) for _, c in one.read.terms)), chance)
     try:
-        return Certificate(f"{one.name}, {manner} {number}", Job(finish(one.with_other(scale, 0, held(multipliers)))))
-    except OverflowError:
+        job, _ = finish(one.with_other(scale, 0, held(multipliers)))
+    except Unfinished:
         return None
+    return Certificate(f"{one.name}, {manner} {number}", Job(job))
 
 
 def overrated(certificate, byte):
@@ -440,11 +441,11 @@ class Trial:
                     self.refute(wrong, other, point, other.value(point), other.read.T * point[0] ** 2)
 
     def register(self, alike):
-        """The certificates of jobs with one register and scheme, and others, which are returned. Those in which a number came out of
-        range, refusal 4, are left out. The rest must be accepted, and refused with T + 1."""
+        """The certificates of jobs with one register and scheme, and others, which are returned. Those that could not be finished are left
+        out. The rest must be accepted, and refused with T + 1."""
         allowed, downhill = Allowed(alike[0].read), Downhill(alike[0].read, self.chance)
         others = [made(alike, allowed, number, self.chance) for number in range(MADE)]
-        others = [other for other in others if other and other.refused != 4]
+        others = [other for other in others if other]
         for other in others:
             self.expect(not other.refused and other.is_refused_with_more(), f"refused, or not refused 9 with T + 1: {other.name}")
         others = [other for other in others if not other.refused]
@@ -460,7 +461,7 @@ class Trial:
 def jobs(folders):
     """The certificates of the accepted jobs, each once, by register and scheme."""
     names, fronts = {}, {}
-    for path in [path for folder in folders for path in sorted(folder.glob("*.job"))]:
+    for path in [path for folder in folders for path in files(folder, ".job")]:
         names.setdefault(path.read_bytes(), path.stem)
     for certificate in [Certificate(name, Job(job)) for job, name in names.items()]:
         if not certificate.refused:
@@ -476,22 +477,22 @@ def tell(which, certificates):
     print("    commands: " + ", ".join(f"{byte:02X} {kinds[byte]}" for byte in sorted((*ADDED, *SUBTRACTED))))
 
 
-def main():
+def main(folders):
     trial = Trial(random.Random(SEED))
-    registers = jobs([EXAMPLES, *map(pathlib.Path, sys.argv[1:])])
+    registers = jobs([EXAMPLES, *folders])
     others = [other for alike in registers for other in trial.register(alike)]
     trial.expect(others, "no certificate was made")
     tell("of jobs", [certificate for alike in registers for certificate in alike])
     tell("made", others)
-    print(f"{MADE * len(registers) - len(others)} more with a number out of range")
+    print(f"{MADE * len(registers) - len(others)} more could not be finished")
     for wrong, by in trial.refuted.items():
         trial.expect(by, f"refuted by no point: {wrong}")
         print(f"refuted by {len(by)} certificates: {wrong}" + "".join(f"\n    {name}: {said}" for name, said in list(by.items())[:3]))
     for said in trial.failed[:PRINTED]:
         print(said)
     print(f"{trial.passed} passed, {len(trial.failed)} failed")
-    sys.exit(1 if trial.failed else 0)
+    return 1 if trial.failed else 0
 
 
 if __name__ == "__main__":
-    main()
+    run(__doc__, main)

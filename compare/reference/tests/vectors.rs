@@ -64,18 +64,21 @@ fn split<T: Default>(answer: Answer<T>) -> (Refusal, T) {
     }
 }
 
-/// Runs `case` on each line of a file of vectors, and prints how many there were.
+/// Runs `case` on each line of a file of vectors and of the file of that name with the kept lines, and prints how many there were.
 fn each(file: &str, case: impl Fn(&mut Fields) -> bool) {
-    let text = fs::read_to_string(folder("crates/conformance/data").join(file)).expect("the vectors");
-    let mut count = 0;
-    for line in text.lines().filter(|line| !line.starts_with('#')) {
-        let mut fields = Fields(line.split(' '));
-        let name = fields.text();
-        assert!(case(&mut fields), "{file}: {name}");
-        assert!(fields.0.next().is_none(), "{file}: {name} has fields left");
-        count += 1;
+    for folder_of in ["crates/conformance/data", "crates/conformance/data/kept"] {
+        let path = folder(folder_of).join(file);
+        let text = fs::read_to_string(&path).expect("the vectors");
+        let mut count = 0;
+        for line in text.lines().filter(|line| !line.starts_with('#')) {
+            let mut fields = Fields(line.split(' '));
+            let name = fields.text();
+            assert!(case(&mut fields), "{}: {name}", path.display());
+            assert!(fields.0.next().is_none(), "{}: {name} has fields left", path.display());
+            count += 1;
+        }
+        println!("{}{file}: {count} agree", if folder_of.ends_with("kept") { "kept/" } else { "" });
     }
-    println!("{file}: {count} agree");
 }
 
 #[test]

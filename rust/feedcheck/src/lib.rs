@@ -1,16 +1,37 @@
-//! Safe functions over the proved calls, one for each. Every call is a function of the bytes that it is given; nothing is kept
-//! between calls.
+//! Safe functions over the proved calls, one for each. Every call is a function of what it is given; nothing is kept between calls.
+//!
+//! A supplier sends a farm a job, a file of four parts, whose bytes `docs/FORMAT.md` explains:
+//!
+//! - The **register**, part 1: what the farm may do and what it costs. Its choices, each a tank and a minute at which the tank may
+//!   be fed; its terms, each a set of choices and a coefficient that is added to the cost where all of them are fed; its windows,
+//!   rows and day's length.
+//! - The **scheme**, part 2: further variables, each the product of two others, and for each term the two variables whose product
+//!   it is. So the cost becomes a polynomial of degree 2.
+//! - The **certificate**, part 3: whole numbers which show that no plan that fits costs less than a bound.
+//! - The **plan**, part 4: which choices are fed. It costs the register's base cost and the coefficients of all terms whose choices
+//!   are all fed. It fits where the total of each row comes out; without rows every plan fits.
+//!
+//! A job brings a register of its own: that it is accepted does not say that this is the farm's. `examples/own_register.rs` checks
+//! a job with the farm's own, and `docs/LINKING.md` explains it.
 //!
 //! ```
+//! use feedcheck::Refusal;
+//!
 //! let register = [0x10, 10, 0, 0, 0, 0x11, 4, 0, 0xE0, 1, 0x12, 1, 0, 0, 0, 0xFA, 0xFF, 0xFF, 0xFF, 0x1F];
 //! assert_eq!(feedcheck::cost(&register, &[0x40, 1, 0, 0, 0]), Ok(4));
 //! let refusal = feedcheck::cost(&register, &[0x40, 2, 0, 0, 0]).unwrap_err();
-//! assert_eq!((refusal.number, refusal.part, refusal.position), (5, 4, 0));
+//! assert_eq!(refusal, Refusal { number: Refusal::NOT_THERE, part: 4, position: 0 });
+//! assert_eq!(refusal.to_string(), "refusal 5 in part 4 at byte 0: something is named that is not there");
 //! ```
 
 pub mod raw;
 
 pub use raw::{Counters, Register, Scheme, Tally};
+
+/// The version of this crate, of `include/feedcheck.h` and of the libraries made from the same files; a library does not tell its
+/// version. The minor number is that of the last change that users asked for (`docs/changes/R-NUMBER.md`), and the patch number
+/// counts what came after it. Before 1.0 a new minor number may change calls and records, a new patch number does not.
+pub const VERSION: &str = env!("CARGO_PKG_VERSION");
 
 /// The most choices of a register.
 pub const MAX_CHOICES: usize = 32;
@@ -48,7 +69,7 @@ pub const TABLE_NUMBERS: usize = 4_225;
 /// A buffer of so many bytes is enough for every scheme that is built.
 pub const MAX_BUILT: usize = 865;
 
-/// A buffer of so many bytes is enough for every certificate of our own.
+/// A buffer of so many bytes is enough for every certificate that `plain` writes.
 pub const MAX_PLAIN: usize = 1_294;
 
 /// A buffer of so many bytes is enough for every listing, the farm's and the supplier's.
@@ -60,8 +81,12 @@ pub const MAX_JOB: usize = 26_037;
 /// A longer job is answered as its first so many bytes are.
 pub const MAX_JOB_READ: usize = 26_166;
 
-/// A refusal: its number in the table of docs/REFUSALS.md, the part (1 register, 2 scheme, 3 certificate, 4 plan) and the
-/// position of the command that is refused; part and position are 0 where no command causes it.
+/// The number of an answer of [`raw`] where nothing is refused.
+pub const ACCEPTED: u8 = 0;
+
+/// A refusal: its number, which docs/REFUSALS.md explains, the part (1 register, 2 scheme, 3 certificate, 4 plan) and the position
+/// of the command that is refused, counted from the first byte of the part, or of the job where the call is given a whole job. Part
+/// and position are 0 where no command causes it.
 #[derive(Clone, Copy, Debug, PartialEq, Eq)]
 pub struct Refusal {
     pub number: u8,
@@ -79,27 +104,46 @@ impl std::fmt::Display for Refusal {
     }
 }
 
+/// The numbers, named as in the library's own code and in `include/feedcheck.h`; [`Refusal::reason`] tells what each means.
 impl Refusal {
+    pub const NO_COMMAND: u8 = 1;
+    pub const CUT_SHORT: u8 = 2;
+    pub const TOO_MANY: u8 = 3;
+    pub const OUT_OF_RANGE: u8 = 4;
+    pub const NOT_THERE: u8 = 5;
+    pub const MISORDERED: u8 = 6;
+    pub const NOT_RISING: u8 = 7;
+    pub const SETS_UNFIT: u8 = 8;
+    pub const FALLS_SHORT: u8 = 9;
+    pub const NO_PRODUCT_LEFT: u8 = 10;
+    pub const TOO_SHORT: u8 = 11;
+    pub const PAST_END: u8 = 12;
+    pub const OUTSIDE_WINDOWS: u8 = 13;
+    pub const PAST_LIMIT: u8 = 14;
+    pub const MISFIT: u8 = 15;
+    pub const NONE_FITS: u8 = 16;
+    pub const UNKNOWN_SUPPLIER: u8 = 17;
+
     /// What the number means.
     pub fn reason(&self) -> &'static str {
         match self.number {
-            1 => "a byte is not a command here",
-            2 => "the bytes end early",
-            3 => "a count is above a limit, or splits or choices are missing",
-            4 => "a number is out of range",
-            5 => "a name of nothing",
-            6 => "a pair is misordered",
-            7 => "a choice, a window or a mask is not rising",
-            8 => "sets don't fit",
-            9 => "R falls short",
-            10 => "the builder needs a 33rd product",
-            11 => "a lent table or buffer is short",
-            12 => "bytes stand after the end",
-            13 => "a choice is outside its tank's windows",
-            14 => "the search takes more visits than its limit",
-            15 => "the plan does not fit the rows",
-            16 => "no plan fits the rows",
-            17 => "a supplier number is above 15",
+            Refusal::NO_COMMAND => "a byte is not a command here",
+            Refusal::CUT_SHORT => "the bytes end early",
+            Refusal::TOO_MANY => "a count is above a limit, or splits or choices are missing",
+            Refusal::OUT_OF_RANGE => "a number is out of range",
+            Refusal::NOT_THERE => "something is named that is not there",
+            Refusal::MISORDERED => "a pair is misordered",
+            Refusal::NOT_RISING => "a choice, a window or a mask is not rising",
+            Refusal::SETS_UNFIT => "sets don't fit",
+            Refusal::FALLS_SHORT => "the certificate does not carry its target",
+            Refusal::NO_PRODUCT_LEFT => "the builder needs a 33rd product",
+            Refusal::TOO_SHORT => "a lent table or buffer is short",
+            Refusal::PAST_END => "bytes stand after the end",
+            Refusal::OUTSIDE_WINDOWS => "a choice is outside its tank's windows",
+            Refusal::PAST_LIMIT => "the search takes more visits than its limit",
+            Refusal::MISFIT => "the plan does not fit the rows",
+            Refusal::NONE_FITS => "no plan fits the rows",
+            Refusal::UNKNOWN_SUPPLIER => "a supplier number is above 15",
             _ => "no refusal",
         }
     }
@@ -116,7 +160,8 @@ pub struct Found {
     pub visits: u32,
 }
 
-/// What an accepted job comes to.
+/// What an accepted job comes to: the bound, below which no plan that fits the register's rows costs, the cost of its plan, and the
+/// gap, the cost less the bound. It is 0 or more, and no plan that fits is cheaper by more than the gap.
 #[derive(Clone, Copy, Debug, PartialEq, Eq)]
 pub struct Outcome {
     pub bound: i64,
@@ -132,19 +177,21 @@ fn result<T>(number: u8, part: u8, position: usize, value: T) -> Result<T, Refus
     }
 }
 
-/// Reads a register.
+/// Reads a register. A whole job is refused 12 with the position at which part 2 begins, if part 1 is right.
 pub fn register(register: &[u8]) -> Result<Register, Refusal> {
     let answer = raw::register(register);
     result(answer.number, answer.part, answer.position, answer.register)
 }
 
-/// Reads a scheme of a register.
+/// Reads a scheme of a register. Parts 2 to 4 of a job are refused 12 in part 2 with the position at which part 3 begins, if part 2
+/// is right.
 pub fn scheme(register: &[u8], scheme: &[u8]) -> Result<Scheme, Refusal> {
     let answer = raw::scheme(register, scheme);
     result(answer.number, answer.part, answer.position, answer.scheme)
 }
 
-/// Builds a scheme of a register: how many bytes were written to the front of the buffer.
+/// Builds a scheme of a register: how many bytes were written to the front of the buffer. Refused 10 where a term needs a 33rd
+/// product.
 pub fn build(register: &[u8], buffer: &mut [u8]) -> Result<usize, Refusal> {
     let answer = raw::build(register, buffer);
     result(answer.number, answer.part, answer.position, answer.count)
@@ -165,20 +212,29 @@ pub fn search(register: &[u8], limit: u32) -> Result<Found, Refusal> {
     result(answer.number, answer.part, answer.position, found)
 }
 
-/// Leaves the table of the penalty form in the table.
+/// Leaves the penalty form in the table, a function of the scheme's variables for solvers that take no conditions. Where every
+/// product is 1 just where both its operands are, the function is the cost of the plan that feeds the choices which are 1; its least
+/// value over all 0s and 1s is the least cost. Where the register has rows, the least value over those whose choices fit is the
+/// least cost of the plans that fit.
+///
+/// The table has, row by row, (N + 1)² numbers for N variables, the choices and then the products: with y_0 = 1 and y_{i + 1} the
+/// variable i, the function is half of the sum of all numbers, that of row i and column j times y_i · y_j. Numbers behind these stay
+/// as they were, and all of them do where the call is refused.
 pub fn penalty(register: &[u8], scheme: &[u8], table: &mut [i64]) -> Result<(), Refusal> {
     let answer = raw::penalty(register, scheme, table);
     result(answer.number, answer.part, answer.position, ())
 }
 
-/// Checks a certificate: the bound, below which no plan that fits the register's rows costs. R is left in the table once the
-/// certificate's end is reached.
+/// Checks a certificate: the bound, below which no plan that fits the register's rows costs. R, what the certificate leaves over
+/// (docs/SUPPLIERS.md), is left in the table where the certificate's end command is reached, also where it is refused 9 there or 12
+/// behind it. Refused 9 where in some row of R the number on the diagonal is less than the absolute values of the others together.
 pub fn check(register: &[u8], scheme: &[u8], certificate: &[u8], table: &mut [i64]) -> Result<i64, Refusal> {
     let answer = raw::check(register, scheme, certificate, table);
     result(answer.number, answer.part, answer.position, answer.bound)
 }
 
-/// Writes the certificate of our own: how many bytes were written to the front of the buffer.
+/// Writes a certificate that takes no solver: how many bytes were written to the front of the buffer. It is always accepted; its
+/// bound is often far below the least cost.
 pub fn plain(register: &[u8], scheme: &[u8], buffer: &mut [u8]) -> Result<usize, Refusal> {
     let answer = raw::plain(register, scheme, buffer);
     result(answer.number, answer.part, answer.position, answer.count)
@@ -186,7 +242,7 @@ pub fn plain(register: &[u8], scheme: &[u8], buffer: &mut [u8]) -> Result<usize,
 
 /// A whole job of this supplier, 0 to 15, and the supplier's pair of the tally moved on; every other pair stays. Refused 15 where
 /// the plan does not fit the register's rows. Refused 17, before anything else, where there is no such supplier; tally and table
-/// then stay as they were.
+/// then stay as they were. R is left in the table as by [`check`], also where the job is refused in part 4.
 pub fn job(job: &[u8], table: &mut [i64], supplier: u8, tally: &mut Tally) -> Result<Outcome, Refusal> {
     let answer = raw::job(job, table, supplier, *tally);
     *tally = answer.tally;
@@ -194,7 +250,9 @@ pub fn job(job: &[u8], table: &mut [i64], supplier: u8, tally: &mut Tally) -> Re
     result(answer.number, answer.part, answer.position, outcome)
 }
 
-/// Writes the farm's lines of a job, or the one line of a refused job: how many bytes were written to the front of the buffer.
+/// Writes the farm's lines of a job: for each choice `T`, its number, tank and minute, for each choice that the plan feeds `F`, tank
+/// and minute, and then `B`, bound, cost and gap; of a refused job the one line `R`, number and position, which is no refusal of this
+/// call. How many bytes were written to the front of the buffer.
 pub fn listing(job: &[u8], table: &mut [i64], buffer: &mut [u8]) -> Result<usize, Refusal> {
     let answer = raw::listing(job, table, buffer);
     result(answer.number, answer.part, answer.position, answer.count)

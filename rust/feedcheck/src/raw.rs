@@ -1,17 +1,26 @@
-//! The calls with their answers as they stand in `include/feedcheck.h`: every field, for accepted and refused input alike.
+//! The calls with their answers as they stand in `include/feedcheck.h`, which explains every field: for accepted and refused input
+//! alike. An answer's number is [`ACCEPTED`](crate::ACCEPTED) or one of [`Refusal`](crate::Refusal); on a refusal every field but
+//! number, part, position and tally is 0.
 //!
 //! A Rust slice's pointer is never null and is aligned, and a lent slice overlaps nothing else, which is all that the calls ask.
 
 use crate::{MAX_CHOICES, MAX_PRODUCTS, MAX_ROWS, MAX_TERMS, MAX_WINDOWS, ROW_ENTRIES, SUPPLIERS};
 
-/// The record of a register. Its day_length is SHORT_DAY, USUAL_DAY or LONG_DAY, and 0 on a refusal; every minute is below
-/// it, and no window ends after it.
-/// Window number w is of the tank window_tanks[w]: window_froms[w] is its first minute, window_tos[w] the first minute after it.
-/// Where a tank has no window, every minute of the day is allowed.
-/// Row number k has the total row_totals[k], and for choice j the entry row_entries[ROW_ENTRIES * k + j], 0 where there is no choice
-/// j. A plan fits where, for each row, the entries of the choices that it feeds add up to the row's total; where there is no row,
-/// every plan fits.
-/// Entries past the counts are 0.
+/// What a register says. choices, terms, windows and rows count the entries of the arrays; entries past the counts are 0.
+///
+/// - base is the cost that every plan has, -1,000,000,000 to 1,000,000,000.
+/// - day_length, in minutes, is SHORT_DAY, USUAL_DAY or LONG_DAY, and 0 on a refusal. Minutes are counted from 0 at the day's
+///   beginning; every minute is below day_length, and no window ends after it.
+/// - Choice number i is of the tank tanks\[i\], 1 to 9,999, at the minute minutes\[i\]. There is at least one choice. Choices rise by
+///   tank and then by minute.
+/// - Term number t is of each choice i for which bit i of masks\[t\] is set, at least one; its coefficient coefficients\[t\] is
+///   -1,000,000 to 1,000,000 and not 0. Masks rise.
+/// - Window number w is of the tank window_tanks\[w\]: window_froms\[w\] is its first minute, window_tos\[w\] the first minute after
+///   it. Where a tank has no window, every minute of the day is allowed. Windows rise by tank and then by first minute; they may
+///   overlap.
+/// - Row number k has the total row_totals\[k\], -4,064 to 4,064, and for choice j the entry row_entries\[ROW_ENTRIES * k + j\],
+///   0 where there is no choice j. A plan fits where, for each row, the entries of the choices that it feeds add up to the row's
+///   total.
 #[derive(Clone, Copy, Debug, PartialEq, Eq)]
 #[repr(C)]
 pub struct Register {
@@ -32,8 +41,10 @@ pub struct Register {
     pub row_entries: [i8; MAX_ROWS * ROW_ENTRIES],
 }
 
-/// The record of a scheme: product number n + k has the operands lefts[k] and rights[k], term t the split split_lefts[t],
-/// split_rights[t]. Entries past the counts are 0.
+/// What a scheme says. Variables 0 to n - 1 are the register's n choices, and variable n + k is product number k: 1 where both its
+/// operands are 1, which are the variables lefts\[k\] and rights\[k\], with lefts\[k\] < rights\[k\] < n + k. There are as many splits
+/// as the register has terms. Term number t is the product of the variables split_lefts\[t\] and split_rights\[t\], the left at most
+/// the right; where they are the same it is that variable. Entries past the counts are 0.
 #[derive(Clone, Copy, Debug, PartialEq, Eq)]
 #[repr(C)]
 pub struct Scheme {
@@ -53,8 +64,8 @@ pub struct Counters {
     pub refused: u32,
 }
 
-/// The counters of each supplier, by its number. A job moves one counter of its own supplier's pair; one that is refused 17 moves
-/// none.
+/// A count of jobs, kept by the program from one job to the next: the counters of each supplier, by its number. A job moves one
+/// counter of its own supplier's pair; one that is refused 17 moves none.
 #[derive(Clone, Copy, Debug, Default, PartialEq, Eq)]
 #[repr(C)]
 pub struct Tally {
@@ -79,7 +90,7 @@ pub struct SchemeAnswer {
     pub scheme: Scheme,
 }
 
-/// The answer of the calls that write bytes.
+/// The answer of the calls that write bytes. count: those that were written to the front of the buffer.
 #[derive(Clone, Copy, Debug, PartialEq, Eq)]
 #[repr(C)]
 pub struct WriterAnswer {
@@ -98,7 +109,7 @@ pub struct CostAnswer {
     pub cost: i64,
 }
 
-/// Bit i of the plan is set when choice i is fed.
+/// Bit i of the plan is set where choice i is fed.
 #[derive(Clone, Copy, Debug, PartialEq, Eq)]
 #[repr(C)]
 pub struct SearchAnswer {

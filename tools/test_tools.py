@@ -1,0 +1,366 @@
+#!/usr/bin/env python3
+"""Tries the tools as programs, and the scripts in `compare` and here as far as they look at their arguments: the status, what is on
+standard output, and what is on standard error, which is nothing or one line and never a traceback.
+
+    tools/test_tools.py
+"""
+import ast
+import errno
+import os
+import pathlib
+import shutil
+import subprocess
+import sys
+import tempfile
+
+sys.dont_write_bytecode = True
+
+from check_job import Job, both, farm, rest, supplier, text
+from command_line import expect, run, tally
+from job_text import PARTS, TEXT, blank, cut, show
+
+ROOT = pathlib.Path(__file__).resolve().parent.parent
+EXAMPLES = ROOT / "examples"
+JOB_TEXT, CHECK_JOB, CHEAPEST, FINISH = (f"tools/{name}.py" for name in ("job_text", "check_job", "cheapest", "finish_certificate"))
+PORT, COUNT = "tools/port_names.py", "tools/count_places.py"
+TOOLS = (JOB_TEXT, CHECK_JOB, CHEAPEST, FINISH, PORT, COUNT)
+SCRIPTS = ("compare/run", "compare/speed", "compare/search_speed", "compare/turns", "tools/programs", "tools/libraries")
+
+HINT = "; --help tells how it is called"
+MISSING, FOLDER, CLOSED, FULL = (os.strerror(number) for number in (errno.ENOENT, errno.EISDIR, errno.EPIPE, errno.ENOSPC))
+
+# without what Python takes from it, for example whether to write at once
+ENVIRONMENT = {name: value for name, value in os.environ.items() if not name.startswith("PYTHON")}
+
+# a job that is accepted, one that is refused in part 1, one that is refused 9, and one that is refused for its target alone
+EXAMPLE, OUTSIDE, SHORT, HIGH = (f"examples/{name}.job" for name in (
+    "example", "windows.night.bad-outside", "raceway.four.bad-no-form", "labs05.csdp.bad-t-up"))
+REGISTER, NONE_FITS = "examples/example.register", "examples/raceway.none.register"
+
+
+def bytes_in(file):
+    return (ROOT / file).read_bytes()
+
+
+def lines(of, file):
+    return text(of(Job(bytes_in(file)))).encode()
+
+
+def usage_of(tool):
+    return ast.get_docstring(ast.parse(bytes_in(tool)), clean=False).encode()
+
+
+def is_plan(register, plan, said):
+    """Whether the bytes of a plan feed what the lines of a search say, at the cost that they say."""
+    read, fed = Job(register), int.from_bytes(plan[1:], "little")
+    read.register()
+    return len(plan) == 5 and plan[0] == 0x40 and read.feedings(fed) == said[:-1] and read.cost(fed) == int(said[-1].split()[1])
+
+
+class Trials:
+    """What was tried, in a folder of its own. A file that is not there, lines for `make`, and lines of which one is wrong."""
+
+    def __init__(self, folder):
+        self.all, self.folder = [], folder
+        self.none, self.wrong, self.lines = f"{folder}/none.job", f"{folder}/wrong.txt", f"{folder}/lines.txt"
+        pathlib.Path(self.lines).write_text("# a register\n-  1  10 base  cost 1\n-  1  11 choice  tank 1  minute 1\n-  1  1F end\n")
+        pathlib.Path(self.wrong).write_text("-  1  10 base  cost 10\n\n-  1  11 choice  tank 4  minute 70000\n")
+
+    def expect(self, said, holds):
+        self.all.append((said, holds))
+
+    def call(self, words, status, out=b"", said="", stdout=subprocess.PIPE, given=b""):
+        """A tool must end with a status, have so much on standard output, and one line on standard error, or nothing."""
+        done = subprocess.run(words, cwd=ROOT, input=given, stdout=stdout, stderr=subprocess.PIPE, env=ENVIRONMENT)
+        expected = f"{words[0]}: {said}\n".encode() if said else b""
+        called = " ".join(words)
+        self.expect(f"status {done.returncode} and not {status}: {called}", done.returncode == status)
+        self.expect(f"something else on standard output: {called}", stdout != subprocess.PIPE or done.stdout == out)
+        self.expect(f"not on standard error: {called}: {expected}, but {done.stderr}", done.stderr == expected)
+
+    def usage(self, tool):
+        for word in ("--help", "-h"):
+            self.call([tool, word], 0, usage_of(tool))
+
+    def misuse(self, tool, said, *words):
+        self.call([tool, *words], 2, said=said + HINT)
+
+    def wrong_file(self, tool, *words, after=()):
+        """What is no file that can be read, behind some words and before others."""
+        self.call([tool, *words, self.none, *after], 2, said=f"{self.none}: {MISSING}")
+        self.call([tool, *words, "examples", *after], 2, said=f"examples: {FOLDER}")
+        if os.path.exists("/proc/self/mem"):
+            self.call([tool, *words, "/proc/self/mem", *after], 2, said=f"/proc/self/mem: {os.strerror(errno.EIO)}")
+
+    def wrong_output(self, status, *words):
+        """A standard output that nobody reads, and one that takes nothing."""
+        reading, writing = os.pipe()
+        os.close(reading)
+        with os.fdopen(writing, "wb") as nobody:
+            self.call(words, status, stdout=nobody)
+        if os.path.exists("/dev/full"):
+            with open("/dev/full", "wb") as full:
+                self.call(words, 2, said=f"standard output: {FULL}", stdout=full)
+
+    def job_text(self):
+        for word in ("show", "make", "register", "blank"):
+            self.wrong_file(JOB_TEXT, word)
+            self.misuse(JOB_TEXT, "FILE is missing", word)
+            self.misuse(JOB_TEXT, f"{REGISTER} is a word too many", word, EXAMPLE, REGISTER)
+            self.misuse(JOB_TEXT, "--both is no option here", word, "--both", EXAMPLE)
+            self.misuse(JOB_TEXT, "- is no option here", word, "-")
+        self.misuse(JOB_TEXT, "one of show, make, register, cut, blank, plan is missing")
+        self.misuse(JOB_TEXT, f"{EXAMPLE} is none of show, make, register, cut, blank, plan", EXAMPLE)
+        for word, of in (("show", lambda job: text(show(job)).encode()), ("register", lambda job: cut(job)[0]), ("blank", blank)):
+            self.call([JOB_TEXT, word, EXAMPLE], 0, of(bytes_in(EXAMPLE)))
+            self.call([JOB_TEXT, word, self.lines], 2, said=f"{self.lines}: {TEXT}")
+            self.wrong_output(0, JOB_TEXT, word, EXAMPLE)
+        self.call([JOB_TEXT, "register", "README.md"], 2, said=f"README.md: {TEXT}")
+        self.call([JOB_TEXT, "register", "examples/example.out"], 2, said="examples/example.out: part 1 has no end")
+        self.call([JOB_TEXT, "make", self.lines], 0, bytes.fromhex("10 01000000 11 0100 0100 1F"))
+        self.wrong_output(0, JOB_TEXT, "make", self.lines)
+        self.call([JOB_TEXT, "make", self.wrong], 2, said=f"{self.wrong}: line 3: minute 70000 is not within 0 and 65535")
+        for file in (EXAMPLE, REGISTER, OUTSIDE):
+            said = f"{file}: bytes where text in UTF-8 is due; tools/job_text.py show prints the lines of a job"
+            self.call([JOB_TEXT, "make", file], 2, said=said)
+
+    def cut(self):
+        self.wrong_file(JOB_TEXT, "cut", after=(f"{self.folder}/cut",))
+        self.misuse(JOB_TEXT, "FILE is missing", "cut")
+        self.misuse(JOB_TEXT, "NAME is missing", "cut", EXAMPLE)
+        self.misuse(JOB_TEXT, "c is a word too many", "cut", "a", "b", "c")
+        names = [f"{self.folder}/cut.{part}" for part in PARTS]
+        for path in sorted(EXAMPLES.glob("*.job")):
+            job = path.read_bytes()
+            if len(cut(job)) == len(PARTS):
+                self.call([JOB_TEXT, "cut", str(path), f"{self.folder}/cut"], 0)
+                self.expect(f"not the job: {path.name}", b"".join(bytes_in(name) for name in names) == job)
+                self.expect(f"not part 1: {path.name}", bytes_in(names[0]) == cut(job)[0])
+                for name in names:
+                    os.remove(name)
+            else:
+                said = f"{path}: part {len(cut(job)) + 1} has no end"
+                self.call([JOB_TEXT, "cut", str(path), f"{self.folder}/cut"], 2, said=said)
+                self.expect(f"a file was written: {path.name}", not any(map(os.path.exists, names)))
+        for file, part in ((REGISTER, 2), ("examples/example.bad-more.register", 2), ("examples/example.out", 1)):
+            self.call([JOB_TEXT, "cut", file, f"{self.folder}/cut"], 2, said=f"{file}: part {part} has no end")
+        self.call([JOB_TEXT, "cut", self.lines, f"{self.folder}/cut"], 2, said=f"{self.lines}: {TEXT}")
+        self.expect("a file was written", not any(map(os.path.exists, names)))
+        self.call([JOB_TEXT, "cut", EXAMPLE, f"{self.folder}/no/cut"], 2, said=f"{self.folder}/no/cut.register: {MISSING}")
+        for name, said in (("", "is empty"), (f"{self.folder}/", f"ends with /: {self.folder}/")):
+            self.misuse(JOB_TEXT, f"NAME is to be what the names of four files begin with, and {said}", "cut", EXAMPLE, name)
+        hidden = [path for folder in (ROOT, pathlib.Path(self.folder)) for path in folder.iterdir() if path.name[1:] in PARTS]
+        self.expect(f"files were written: {hidden}", not hidden)
+
+    def plan(self):
+        self.misuse(JOB_TEXT, "REGISTER is missing", "plan")
+        self.misuse(JOB_TEXT, "LINES is missing", "plan", REGISTER)
+        self.misuse(JOB_TEXT, "x is a word too many", "plan", REGISTER, "-", "x")
+        self.misuse(JOB_TEXT, "- is no option here", "plan", "-", "-")
+        self.misuse(JOB_TEXT, "--in is no option here", "plan", REGISTER, "--in")
+        self.wrong_file(JOB_TEXT, "plan", after=("-",))
+        self.wrong_file(JOB_TEXT, "plan", REGISTER)
+        self.wrong_output(0, JOB_TEXT, "plan", REGISTER, "examples/example.out")
+        # what is printed of each accepted job, and the lines of each search that finds a plan, whose cost is then that of its bytes
+        for path in sorted(EXAMPLES.glob("*.out")):
+            job = path.with_suffix(".job")
+            if not path.read_bytes().startswith(b"R"):
+                self.call([JOB_TEXT, "plan", str(job), str(path)], 0, cut(job.read_bytes())[3])
+        for path in sorted(EXAMPLES.glob("*.cheapest")):
+            register, said = path.with_suffix(".register"), path.read_text().splitlines()
+            if not said[0].startswith("R"):
+                found = subprocess.run([JOB_TEXT, "plan", str(register), "-"], cwd=ROOT, input=path.read_bytes(), capture_output=True)
+                self.expect(f"not the plan: {path.name}", is_plan(register.read_bytes(), found.stdout, said))
+        self.call([JOB_TEXT, "plan", REGISTER, "-"], 0, bytes.fromhex("40 04000000"), given=b"T x\r\n\r\nF 7 480\r\nS 9 9")
+        self.call([JOB_TEXT, "plan", REGISTER, "-"], 0, bytes.fromhex("40 00000000"), given=b"S 10 1\n")
+        no_line = "is no line of cheapest or feedcheck"
+        for given, said in (
+            (b"R 16 0\n", "line 1: R 16 0 is a refusal and no plan"),
+            (b"F 4 480\nC 0 1\n", f"line 2: C 0 1 {no_line}"),
+            (b"Fed 4 480\n", f"line 1: Fed 4 480 {no_line}"),
+            (b"F 4 480\nF 4 481\n", f"line 2: F 4 481 names no choice of {REGISTER}"),
+            (b"F 480 4\n", f"line 1: F 480 4 names no choice of {REGISTER}"),
+            (b"F 4\n", f"line 1: F 4 names no choice of {REGISTER}"),
+            (b"F 4 480 0\n", f"line 1: F 4 480 0 names no choice of {REGISTER}"),
+            (b"F 4 480\nF 4 720\nF 4 480\n", "line 3: F 4 480 stands there twice"),
+            (b"\n", "no line of cheapest or feedcheck"),
+            (b"", "no line of cheapest or feedcheck"),
+            (bytes_in(EXAMPLE), "bytes where lines of cheapest or feedcheck are due"),
+        ):
+            file = pathlib.Path(self.folder, "my.lines")
+            file.write_bytes(given)
+            self.call([JOB_TEXT, "plan", REGISTER, str(file)], 2, said=f"{file}: {said}")
+            self.call([JOB_TEXT, "plan", REGISTER, "-"], 2, said=f"-: {said}", given=given)
+        self.call([JOB_TEXT, "plan", self.lines, "-"], 2, said=f"{self.lines}: {TEXT}")
+        self.call([JOB_TEXT, "plan", "examples/example.out", "-"], 2, said="examples/example.out: part 1 has no end")
+        many = pathlib.Path(self.folder, "many.register")
+        many.write_bytes(b"".join(bytes([0x11, tank, 0, 0, 0]) for tank in range(33)) + b"\x1F")
+        self.call([JOB_TEXT, "plan", str(many), "-"], 2, said=f"{many}: 33 choices, and 32 are allowed", given=b"F 32 0\n")
+        many.write_bytes(many.read_bytes()[5:])
+        self.call([JOB_TEXT, "plan", str(many), "-"], 0, bytes.fromhex("40 00000080"), given=b"F 32 0\n")
+
+    def check_job(self):
+        self.misuse(CHECK_JOB, "FILE is missing")
+        self.misuse(CHECK_JOB, "--tank is no option here", "--tank", EXAMPLE)
+        self.misuse(CHECK_JOB, f"{OUTSIDE} is a word too many", EXAMPLE, OUTSIDE)
+        for words, of in (((), farm), (("--supplier",), supplier), (("--both",), both), (("--rest",), rest)):
+            self.wrong_file(CHECK_JOB, *words)
+            self.wrong_output(0, CHECK_JOB, *words, EXAMPLE)
+            self.wrong_output(1, CHECK_JOB, *words, SHORT)
+            self.call([CHECK_JOB, *words, EXAMPLE], 0, lines(of, EXAMPLE))
+            self.call([CHECK_JOB, *words, SHORT], 1, lines(of, SHORT))
+            if words:
+                self.misuse(CHECK_JOB, "FILE is missing", *words)
+                self.misuse(CHECK_JOB, f"{words[0]} is no option here", EXAMPLE, words[0])
+            if of != rest:
+                self.call([CHECK_JOB, *words, OUTSIDE], 1, lines(of, OUTSIDE))
+                self.call([CHECK_JOB, *words, self.lines], 1, lines(of, self.lines), said=f"{self.lines}: {TEXT}")
+        no_rest = "refused before `3F`, so there is no R to print"
+        self.call([CHECK_JOB, "--rest", OUTSIDE], 1, said=f"{OUTSIDE}: {no_rest}: R 13 45")
+        self.call([CHECK_JOB, "--rest", self.lines], 1, said=f"{self.lines}: {no_rest}: R 1 0; {TEXT}")
+        self.call([CHECK_JOB, "examples/example.out"], 1, b"R 1 0\n")
+        self.compare(CHECK_JOB, "example.job", "example.out")
+
+    def compare(self, tool, name, expected):
+        """A comparison of a folder with one file: with the lines of the file, with others, without them, and without the file."""
+        self.misuse(tool, "DIR is missing", "--compare")
+        self.call([tool, "--compare", self.none], 2, said=f"{self.none}: {MISSING}")
+        self.call([tool, "--compare", EXAMPLE], 2, said=f"{EXAMPLE}: {os.strerror(errno.ENOTDIR)}")
+        with tempfile.TemporaryDirectory() as folder:
+            self.call([tool, "--compare", folder], 1, b"0 passed, 0 failed\n")
+            shutil.copy(EXAMPLES / name, folder)
+            self.call([tool, "--compare", folder], 2, said=f"{folder}/{expected}: {MISSING}")
+            shutil.copy(EXAMPLES / expected, folder)
+            self.call([tool, "--compare", folder], 0, b"1 passed, 0 failed\n")
+            pathlib.Path(folder, expected).write_bytes(b"\xFF")
+            said = name if tool == CHEAPEST else expected
+            self.call([tool, "--compare", folder], 1, f"not the expected lines: {said}\n0 passed, 1 failed\n".encode())
+
+    def cheapest(self):
+        self.wrong_file(CHEAPEST)
+        self.wrong_file(CHEAPEST, "--limit", "9")
+        self.wrong_output(0, CHEAPEST, REGISTER)
+        self.misuse(CHEAPEST, "FILE is missing")
+        self.misuse(CHEAPEST, "N is missing", "--limit")
+        self.misuse(CHEAPEST, "FILE is missing", "--limit", "9")
+        self.misuse(CHEAPEST, "--both is no option here", "--both", REGISTER)
+        for number in ("x", "1.5", "4294967296", "9" * 5_000):
+            self.misuse(CHEAPEST, f"N is to be a whole number from 0 to 4294967295, and is {number}", "--limit", number, REGISTER)
+        self.call([CHEAPEST, REGISTER], 0, b"F 4 480\nF 4 720\nS 0 9\n")
+        self.call([CHEAPEST, "--limit", "9", REGISTER], 0, b"F 4 480\nF 4 720\nS 0 9\n")
+        self.call([CHEAPEST, "--limit", "8", REGISTER], 1, b"R 14 0\n")
+        self.call([CHEAPEST, EXAMPLE], 1, b"R 12 48\n")
+        self.call([CHEAPEST, NONE_FITS], 1, b"R 16 0\n")
+        self.call([CHEAPEST, self.lines], 1, b"R 1 0\n", said=f"{self.lines}: {TEXT}")
+        self.compare(CHEAPEST, "example.register", "example.cheapest")
+
+    def finish(self):
+        out = pathlib.Path(self.folder, "out.job")
+        self.wrong_file(FINISH, after=(str(out),))
+        self.misuse(FINISH, "IN is missing")
+        self.misuse(FINISH, "OUT is missing", EXAMPLE)
+        self.misuse(FINISH, "x is a word too many", EXAMPLE, str(out), "x")
+        self.call([FINISH, self.lines, str(out)], 2, said=f"{self.lines}: {TEXT}")
+        said = "the job is refused, whatever its target and its squares; nothing is written"
+        self.call([FINISH, OUTSIDE, str(out)], 1, b"R 13 45\n", said=f"{OUTSIDE}: {said}")
+        self.expect("a file was written", not out.exists())
+        self.call([FINISH, HIGH, self.folder], 2, said=f"{self.folder}: {FOLDER}")
+        self.call([FINISH, HIGH, str(out)], 0, b"B 2 2 0\n")
+        finished = out.read_bytes()
+        self.expect("not accepted", not farm(Job(finished))[0].startswith("R"))
+        out.write_bytes(bytes_in(HIGH))
+        self.call([FINISH, str(out), str(out)], 0, b"B 2 2 0\n")
+        self.expect("something else where both files are the same", out.read_bytes() == finished)
+        said = "its own certificate is accepted with T 0, finished it has T 0; the job is written unchanged"
+        self.call([FINISH, EXAMPLE, str(out)], 0, b"B 0 0 0\n", said=f"{EXAMPLE}: {said}")
+        self.expect("not unchanged", out.read_bytes() == bytes_in(EXAMPLE))
+        out.unlink()
+        self.wrong_output(0, FINISH, HIGH, str(out))
+        self.expect("no file was written", out.read_bytes() == finished)
+
+    def past(self):
+        """The tools of past landings."""
+        kept, page = pathlib.Path(self.folder, "kept"), "`tableValue`\n"
+        kept.mkdir()
+        (kept / "page.md").write_text(page)
+        self.misuse(PORT, "FOLDER is missing")
+        self.misuse(PORT, "--all is no option here", str(kept), "--all")
+        self.call([PORT, str(kept), self.none], 2, said=f"{self.none} is no folder")
+        self.call([PORT, str(kept), "--help"], 0, usage_of(PORT))
+        self.expect("a file was changed", (kept / "page.md").read_text() == page)
+        self.call([PORT, str(kept)], 0, b"port_names: 1 files changed\n")
+        self.expect("no file was changed", (kept / "page.md").read_text() == "`table_value`\n")
+        self.misuse(COUNT, "--all is no option here", "--all")
+        self.misuse(COUNT, "1a is none of the points 1 2 3", "--second", "1a")
+        for word in ("8", "1z", "", "crates"):
+            done = subprocess.run([COUNT, word], cwd=ROOT, capture_output=True, env=ENVIRONMENT, text=True)
+            said = f"{COUNT}: {word} is none of the points 1 1a "
+            self.expect(f"taken for a point: {word}", done.returncode == 2 and not done.stdout and done.stderr.startswith(said))
+        for words in ([], ["1"], ["1a", "7"], ["--sum"], ["--second", "--sum", "3"]):
+            done = subprocess.run([COUNT, *words], cwd=ROOT, capture_output=True, env=ENVIRONMENT)
+            self.expect(f"no count: {words}", done.returncode == 0 and not done.stderr)
+        done = subprocess.run([ROOT / COUNT], cwd=self.folder, capture_output=True, env=ENVIRONMENT, text=True)
+        said = f"{COUNT}: there is no file crates/*/src/*.rt here; run it at the top of the repository\n"
+        self.expect("counted where nothing is", (done.returncode, done.stdout, done.stderr) == (2, "", said))
+
+    def scripts(self):
+        """Arguments that the scripts refuse. The programs that build are not found, so that a script which goes on ends soon."""
+        folder = pathlib.Path(self.folder, "path")
+        folder.mkdir()
+        for name in ("bash", "basename", "dirname", "sed"):
+            (folder / name).symlink_to(shutil.which(name))
+        number = "is to be a whole number from {} up, of at most 18 digits, and is {}"
+        for words, said in (
+            (["compare/run", "x"], "COUNT " + number.format(0, "x")),
+            (["compare/run", "-1"], "COUNT " + number.format(0, "-1")),
+            (["compare/run", "5", "1.5"], "SEED " + number.format(0, "1.5")),
+            (["compare/run", "1234567890123456789"], "COUNT " + number.format(0, "1234567890123456789")),
+            (["compare/run", "5", "1", "x"], "x is a word too many"),
+            (["compare/speed", "0"], "RUNS " + number.format(1, "0")),
+            (["compare/speed", "5", "5"], "5 is a word too many"),
+            (["compare/search_speed", "ten"], "RUNS " + number.format(1, "ten")),
+            (["compare/search_speed", "5", "5"], "5 is a word too many"),
+            (["compare/turns"], "FOLDER is missing"),
+            (["compare/turns", "examples", "0"], "RUNS " + number.format(1, "0")),
+            (["compare/turns", "examples", "5", "5"], "5 is a word too many"),
+        ):
+            self.script(folder, words, 2, said + HINT)
+        self.script(folder, ["compare/turns", self.none], 2, f"{self.none} is no folder")
+        self.script(folder, ["compare/turns", "examples"], 2, "examples has no libregister.a")
+        programs = "feedcheck supplier_view cheapest build_scheme own_certificate"
+        libraries = "register scheme builder plan search penalty bound plain job listing"
+        for script, what, names in (("tools/programs", "program", programs), ("tools/libraries", "library", libraries)):
+            for name in ("x", "", "--all", " ".join(names.split()[:2])):
+                for words in ([name], [names.split()[0], name]):
+                    self.script(folder, [script, *words], 2, f"there is no {what} {name}; those that there are: {names}")
+        for script in SCRIPTS:
+            head = [line[2:] for line in bytes_in(script).decode().split("\nset ")[0].split("\n")[1:]]
+            self.script(folder, [script, "--help"], 0, out=text(head).encode())
+            self.script(folder, [script, "5", "-h"], 0, out=text(head).encode())
+
+    def script(self, path, words, status, said="", out=b""):
+        done = subprocess.run(words, cwd=ROOT, capture_output=True, env={**ENVIRONMENT, "PATH": str(path)})
+        expected = f"{words[0]}: {said}\n".encode() if said else b""
+        found = (done.returncode, done.stdout, done.stderr)
+        self.expect(f"not as it should be: {' '.join(words)}: {found}", found == (status, out, expected))
+
+
+def main(words):
+    expect(words)
+    with tempfile.TemporaryDirectory() as folder:
+        trials = Trials(folder)
+        for tool in TOOLS:
+            trials.usage(tool)
+        trials.job_text()
+        trials.cut()
+        trials.plan()
+        trials.check_job()
+        trials.cheapest()
+        trials.finish()
+        trials.past()
+        trials.scripts()
+    return tally(trials.all)
+
+
+if __name__ == "__main__":
+    run(__doc__, main)
