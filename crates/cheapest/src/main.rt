@@ -2,9 +2,8 @@
 
 #![tactic(auto)]
 
-use console::MAX_VISITS;
-use std::io;
+use std::process::ExitCode;
 
-fn main(rt: HostRuntime) -> io::Result<()> {
-    console::print_cheapest(&mut rt.reader(), &mut io::writer(&rt), MAX_VISITS)
+fn main(rt: HostRuntime) -> ExitCode {
+    console::cheapest(&rt)
 }

@@ -13,6 +13,7 @@ mod jobs;
 mod listings;
 mod lists;
 mod outputs;
+mod parts;
 mod penalties;
 mod plains;
 mod registers;
@@ -20,6 +21,7 @@ mod schemes;
 mod searches;
 mod tables;
 
+use console::parts::{certificate_of, scheme_of};
 use console::{MAX_VISITS, cheapest_lines, lines_of, supplier_lines};
 use files::{run, run_call};
 use listing::{feedcheck_listing, feedcheck_supplier_listing};
@@ -47,6 +49,12 @@ fn main(rt: HostRuntime) -> io::Result<()> {
     })?;
     run_call(rt, "search", "search.txt", searches::agrees)?;
     run_call(rt, "feedcheck", "feedcheck.txt", outputs::agrees)?;
+    run_call(rt, "build_scheme", "build_scheme.txt", |fields| {
+        parts::agrees(fields, |register, text| scheme_of(register, text))
+    })?;
+    run_call(rt, "own_certificate", "own_certificate.txt", |fields| {
+        parts::agrees(fields, |parts, text| certificate_of(parts, text))
+    })?;
     run(rt, "examples", "examples.txt", |fields| {
         in_files::agrees(rt, fields, |job, text| lines_of(job, text).count)
     })?;

@@ -1,4 +1,7 @@
--- The laws of what the programs print.
+-- The laws of what the programs read and print.
 pub mod Front
 pub mod Lengths
 pub mod Prefix
+pub mod Made
+pub mod Filled
+pub mod Printed

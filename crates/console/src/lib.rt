@@ -1,23 +1,34 @@
 // What the programs do: `feedcheck` reads a job and prints its lines, `supplier_view` reads a job and prints the lines that its
-// supplier may read, and `cheapest` reads a register and prints its cheapest plan.
+// supplier may read, and `cheapest` reads a register and prints its cheapest plan. `build_scheme` reads a register and writes a scheme,
+// and `own_certificate` reads a register and a scheme and writes a certificate.
 
 #![tactic(auto)]
 
-ghost use Rattle.std.specs.Prelude.{◌≡◌, ◌++◌, ◌+◌, ◌^◌, ◌≤◌, ◌<◌, IfOk, length, drop};
+pub mod parts;
+pub mod streams;
+
+ghost use Rattle.std.specs.Prelude.{◌≡◌, ◌++◌, ◌+◌, ◌^◌, ◌≤◌, ◌<◌, IfSome, length, drop};
+ghost use Rattle.std.specs.Io.KnownBytes.{Appends};
+ghost use Rattle.wire.specs.Outcome.{accepts};
 ghost use Rattle.register.specs.Limits.{max_choices};
 ghost use Rattle.job.specs.Outcome.{outcome};
 ghost use Rattle.listing.specs.Listing.{listing, supplier_listing};
 ghost use Rattle.listing.specs.Answer.{listing_room};
 ghost use Rattle.console.specs.Feedcheck.{tally_after};
 ghost use Rattle.console.specs.Cheapest.{search_lines, cheapest_lines, cheapest_room};
+ghost use Rattle.console.specs.Parts.{built_scheme, certificate_after};
+ghost use Rattle.console.specs.Printing.{Prints};
 
 use forms::WorkingTable;
 use job::{Tally, feedcheck_job};
 use listing::{Listing, feedcheck_listing, feedcheck_supplier_listing};
+use parts::{Made, certificate_of, scheme_of};
 use register::{Register, feedcheck_register};
 use search::{SearchAnswer, feedcheck_search};
 use std::io;
 use std::io::{Read, Write};
+use std::process::ExitCode;
+use streams::{print_made, run};
 
 // The visit limit of `cheapest`: a search that would visit more partial plans is refused.
 pub const MAX_VISITS: u32 = 100_000_000;
@@ -61,54 +72,6 @@ pub fn supplier_lines(job: &[u8], text: &mut [u8]) -> usize
     answer.count
 }
 
-// How many bytes of its input a program reads, and how many bytes of text it has room for.
-pub const INPUT: usize = 65_536;
-
-pub const TEXT: usize = 4_096;
-
-// Reads until the buffer is full or nothing is left. Returns the count of bytes read. A read gives as many as it likes, so no `for`
-// goes over the reads.
-fn read_full<R: Read>(input: &mut R, buffer: &mut [u8]) -> io::Result<usize>
-    ensures { IfOk result (λ n. n ≤ length buffer.new) }
-{
-    let mut done: usize = 0;
-    while done < buffer.len() {
-        let n = input.read(&mut buffer[done..])?;
-        if n == 0 {
-            break;
-        }
-        done += n;
-    }
-    Ok(done)
-}
-
-// Reads a program's input from one place and prints the lines that it leads to to another.
-fn print_lines<R: Read, W: Write, F: FnOnce(&[u8], &mut [u8; TEXT]) -> usize>(
-    input: &mut R,
-    output: &mut W,
-    put_lines: F,
-) -> io::Result<()>
-    requires callable { F.IsAlwaysCallable put_lines }
-    requires within { (bytes : _) (text : _) (count : _) (after : _) → F.post put_lines bytes text count after → count ≤ listing_room }
-{
-    let mut bytes = [0; INPUT];
-    let n = read_full(input, &mut bytes)?;
-    let mut text = [0; TEXT];
-    let count = put_lines(&bytes[..n], &mut text);
-    output.write_all(&text[..count])
-}
-
-// Reads a job from one place and prints its lines to another. What a job leads to stands in fewer bytes (`reach_is` in
-// job/proofs/Prefix) than are read, so what stands past these makes no difference.
-pub fn print_listing<R: Read, W: Write>(input: &mut R, output: &mut W) -> io::Result<()> {
-    print_lines(input, output, |job, text| lines_of(job, text).count)
-}
-
-// Reads a job and prints the lines that its supplier may read. What stands past the bytes read makes no difference to these either.
-pub fn print_supplier_listing<R: Read, W: Write>(input: &mut R, output: &mut W) -> io::Result<()> {
-    print_lines(input, output, |job, text| supplier_lines(job, text))
-}
-
 // Puts the lines of what the search call answered for a register.
 fn put_search(register: Register, answer: SearchAnswer, listing: &mut Listing)
     requires choices_le_max_choices { register.choices ≤ max_choices }
@@ -138,16 +101,148 @@ pub fn cheapest_lines(register: &[u8], limit: u32, text: &mut [u8]) -> usize
     listing.write_to(text)
 }
 
-// Reads a register from one place and prints the lines of its cheapest plan to another. What a register leads to stands in fewer
-// bytes (`lines_prefix` and `reach_is` in proofs/Prefix) than are read, so what stands past these makes no difference.
-pub fn print_cheapest<R: Read, W: Write>(
+// The programs over any streams. What the input leads to stands in fewer bytes than are read, so what stands past these makes no
+// difference (`decided` in proofs/Prefix).
+
+// Reads a job and prints its lines.
+pub fn print_listing<R: Read, W: Write, E: Write>(
     input: &mut R,
     output: &mut W,
-    limit: u32,
-) -> io::Result<()> {
-    print_lines(
+    errors: &mut E,
+) -> io::Result<u8>
+    ensures { IfSome (R.remaining input.old) (λ job. Prints result
+        (Appends (W.contents output.old) (W.contents output.new))
+        (Appends (E.contents errors.old) (E.contents errors.new))
+        (accepts (listing (outcome job)))) }
+{
+    print_made(
         input,
         output,
-        |register, text| cheapest_lines(register, limit, text),
+        errors,
+        |job, text| Made::lines(lines_of(job, text).count),
+    )
+}
+
+// Reads a job and prints the lines that its supplier may read.
+pub fn print_supplier_listing<R: Read, W: Write, E: Write>(
+    input: &mut R,
+    output: &mut W,
+    errors: &mut E,
+) -> io::Result<u8>
+    ensures { IfSome (R.remaining input.old) (λ job. Prints result
+        (Appends (W.contents output.old) (W.contents output.new))
+        (Appends (E.contents errors.old) (E.contents errors.new))
+        (accepts (supplier_listing (outcome job)))) }
+{
+    print_made(
+        input,
+        output,
+        errors,
+        |job, text| Made::lines(supplier_lines(job, text)),
+    )
+}
+
+// Reads a register and prints its cheapest plan.
+pub fn print_cheapest<R: Read, W: Write, E: Write>(
+    input: &mut R,
+    output: &mut W,
+    errors: &mut E,
+    limit: u32,
+) -> io::Result<u8>
+    ensures { IfSome (R.remaining input.old) (λ register. Prints result
+        (Appends (W.contents output.old) (W.contents output.new))
+        (Appends (E.contents errors.old) (E.contents errors.new))
+        (accepts (cheapest_lines register limit))) }
+{
+    print_made(
+        input,
+        output,
+        errors,
+        move |register, text| Made::lines(cheapest_lines(register, limit, text)),
+    )
+}
+
+// Reads a register and writes the scheme that the builder makes for it.
+pub fn print_scheme<R: Read, W: Write, E: Write>(
+    input: &mut R,
+    output: &mut W,
+    errors: &mut E,
+) -> io::Result<u8>
+    ensures { IfSome (R.remaining input.old) (λ register. Prints result
+        (Appends (W.contents output.old) (W.contents output.new))
+        (Appends (E.contents errors.old) (E.contents errors.new))
+        (built_scheme register)) }
+{
+    print_made(
+        input,
+        output,
+        errors,
+        |register, text| scheme_of(register, text),
+    )
+}
+
+// Reads a register and the scheme that follows it, and writes the certificate of our own for them.
+pub fn print_certificate<R: Read, W: Write, E: Write>(
+    input: &mut R,
+    output: &mut W,
+    errors: &mut E,
+) -> io::Result<u8>
+    ensures { IfSome (R.remaining input.old) (λ parts. Prints result
+        (Appends (W.contents output.old) (W.contents output.new))
+        (Appends (E.contents errors.old) (E.contents errors.new))
+        (certificate_after parts)) }
+{
+    print_made(
+        input,
+        output,
+        errors,
+        |parts, text| certificate_of(parts, text),
+    )
+}
+
+// The programs, over the streams of the process, of whose bytes nothing is claimed.
+
+pub fn feedcheck(rt: &HostRuntime) -> ExitCode {
+    run(
+        rt,
+        "feedcheck < JOB",
+        || print_listing(&mut rt.reader(), &mut rt.stdout(), &mut rt.stderr()),
+    )
+}
+
+pub fn supplier_view(rt: &HostRuntime) -> ExitCode {
+    run(
+        rt,
+        "supplier_view < JOB",
+        || print_supplier_listing(&mut rt.reader(), &mut rt.stdout(), &mut rt.stderr()),
+    )
+}
+
+pub fn cheapest(rt: &HostRuntime) -> ExitCode {
+    run(
+        rt,
+        "cheapest < REGISTER",
+        || print_cheapest(
+            &mut rt.reader(),
+            &mut rt.stdout(),
+            &mut rt.stderr(),
+            MAX_VISITS,
+        ),
+    )
+}
+
+pub fn build_scheme(rt: &HostRuntime) -> ExitCode {
+    run(
+        rt,
+        "build_scheme < REGISTER > SCHEME",
+        || print_scheme(&mut rt.reader(), &mut rt.stdout(), &mut rt.stderr()),
+    )
+}
+
+pub fn own_certificate(rt: &HostRuntime) -> ExitCode {
+    run(
+        rt,
+        "cat REGISTER SCHEME | own_certificate > CERTIFICATE",
+        || print_certificate(&mut rt.reader(), &mut rt.stdout(), &mut rt.stderr()),
     )
 }

@@ -2,8 +2,8 @@
 
 #![tactic(auto)]
 
-use std::io;
+use std::process::ExitCode;
 
-fn main(rt: HostRuntime) -> io::Result<()> {
-    console::print_listing(&mut rt.reader(), &mut io::writer(&rt))
+fn main(rt: HostRuntime) -> ExitCode {
+    console::feedcheck(&rt)
 }
