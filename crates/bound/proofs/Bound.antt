@@ -25,7 +25,6 @@ use Rattle.scheme.specs.Scheme.{side}
 use Rattle.scheme.specs.Filling.{factor, induced}
 use Rattle.scheme.specs.Function.{g}
 use Rattle.scheme.specs.Valid as S
-use Rattle.scheme.specs.Valid.{Products}
 use Rattle.scheme.proofs.Table.{g_below}
 use Rattle.penalty.proofs.Penalty.{induced_cost}
 use Rattle.certificate.specs.Certificate.{Certificate}
@@ -62,7 +61,7 @@ module _ (c : ℕ → ℤ) (r : Register) (s : Scheme) (k : Certificate) (scheme
   abbrev filling : ℕ → ℕ → ℤ
   filling plan = factor (induced n s plan)
 
-  abbrev products : Products n s
+  abbrev products : S.Products n s
   products = scheme.within.products
 
   value-B : (y : ℕ → ℤ) → value y (shifted c r s k)

@@ -21,6 +21,8 @@ use Rattle.scheme.specs.Format.{union_of}
 use Rattle.scheme.specs.Encoding.{encode_scheme}
 use Rattle.scheme.specs.Valid.{Within, Valid}
 use Rattle.scheme.proofs.Entries.{fresh_within, split_more}
+use Rattle.wire.specs.Part.{total}
+use Rattle.scheme.proofs.Prefix.{scheme_longest}
 use Rattle.scheme.proofs.Encoding.{encode_within}
 use Rattle.builder.specs.Builder.{Step, full, next, stopped, built, follow, choices_of, reduce, split_of, build_term, build_from, build}
 use Rattle.builder.specs.Answer.{built_room}
@@ -99,6 +101,7 @@ module _ (reg : Register) (valid : R.Valid reg) where
 
   -- and short
   pub build_size : (sch : Scheme) → build reg ≡ built sch → length (encode_scheme n sch) ≤ built_room
+  unfolding scheme_longest total
   build_size sch e = encode_within reg valid sch (build_valid sch e)
 
 -- ---- building stops at a term of the register

@@ -16,6 +16,7 @@ use Rattle.certificate.specs.Limits.{max_multipliers, max_squares}
 use Rattle.certificate.specs.Certificate.{Multiplier, Square, Certificate, set_multipliers, set_squares, with_multiplier, with_square}
 use Rattle.certificate.specs.Within.{Allowed, SquareAllowed, Within}
 use Rattle.certificate.specs.Encoding.{Entry, multiplier, square, multipliers_in, squares_in, multipliers_of, squares_of}
+use Rattle.certificate.proofs.Counts.{counts_apart}
 use Rattle.certificate.proofs.Passes.{ScalePasses}
 
 -- ---- commands
@@ -85,37 +86,13 @@ module _ (reg : Register) (sch : Scheme) where
   n = reg.choices
 
   pub scale_within : (s : ℕ) (target : ℤ) → ScalePasses s target → Within reg sch (record { scale = s; target = target; multipliers = []; squares = [] })
-  scale_within s target p = record {
-    scale_above = p.scale_above;
-    scale_within = p.scale_within;
-    target_within = p.target_within;
-    multipliers_within = omega arith;
-    multipliers = tt;
-    squares_within = omega arith;
-    squares = tt;
-  }
+  scale_within s target p = (counts_apart reg sch _ p.scale_above p.scale_within p.target_within tt tt).1 (omega arith, omega arith)
 
   in_multipliers : (k : Certificate) → Within reg sch k → (ts : List Multiplier) → length ts ≤ max_multipliers → All (Allowed reg sch) ts → Within reg sch (set_multipliers k ts)
-  in_multipliers k w ts l a = record {
-    scale_above = w.scale_above;
-    scale_within = w.scale_within;
-    target_within = w.target_within;
-    multipliers_within = l;
-    multipliers = a;
-    squares_within = w.squares_within;
-    squares = w.squares;
-  }
+  in_multipliers k w ts l a = (counts_apart reg sch (set_multipliers k ts) w.scale_above w.scale_within w.target_within a w.squares).1 (l, w.squares_within)
 
   in_squares : (k : Certificate) → Within reg sch k → (qs : List Square) → length qs ≤ max_squares → All (SquareAllowed n sch) qs → Within reg sch (set_squares k qs)
-  in_squares k w qs l a = record {
-    scale_above = w.scale_above;
-    scale_within = w.scale_within;
-    target_within = w.target_within;
-    multipliers_within = w.multipliers_within;
-    multipliers = w.multipliers;
-    squares_within = l;
-    squares = a;
-  }
+  in_squares k w qs l a = (counts_apart reg sch (set_squares k qs) w.scale_above w.scale_within w.target_within w.multipliers a).1 (w.multipliers_within, l)
 
   -- there is room for a command, and it is allowed
   abbrev pub Next : Certificate → Entry → Type 0

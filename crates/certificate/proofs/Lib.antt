@@ -1,4 +1,7 @@
--- The conditions and the reader's tests; the commands one by one, and reading them.
+-- The counts, and the multipliers' forms, in the paper's words; the conditions and the reader's tests; the commands one by one, and
+-- reading them.
+pub mod Counts
+pub mod MultiplierForms
 pub mod Conditions
 pub mod Commands
 pub mod Operands

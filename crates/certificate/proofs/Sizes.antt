@@ -3,10 +3,8 @@ use Prim.Native.Nat.{ℕ, suc, ◌+◌, ◌*◌, ◌≤◌}
 use mathlib.Core.Path.{◌≡◌, refl, ap}
 use mathlib.Core.Bool.{Bool, true, false, cond}
 use mathlib.Core.List.{List, [], ◌∷◌, ◌++◌, map}
-use mathlib.Core.Logic.{◌⊎◌, inl, inr}
 use native.Mathlib.Omega.{arith}
 use lib.Dec.{eqb}
-use borrow.Author.Tests.{ne_eqb}
 use Rattle.integers.specs.Lists.{All, all_below}
 use Rattle.integers.proofs.Lists.{◌▹◌, All-append, All-map}
 use Rattle.wire.specs.Part.{total, size}
@@ -18,12 +16,6 @@ use Rattle.certificate.specs.Rules.{arity, by_key}
 use Rattle.certificate.specs.Format.{scale_widths, multiplier_widths, square_widths, multiplier_kinds, widths_by_byte, command_size, certificate_part}
 use Rattle.certificate.specs.Answer.{IsMultiplier}
 use Rattle.certificate.proofs.Ranges.{among_all, in_range, is_multiplier}
-
--- what stands by no key
-by_key_none {ℓ} : {A : Type ℓ} (none : A) (k : ℕ) (es : List (ℕ × A)) → All (λ e. k ≡ e.0 → ⊥) es → by_key none k es ≡ none
-unfolding by_key
-by_key_none none k [] h = refl
-by_key_none none k (e ∷ es) h = rw (ne_eqb k e.0 h.0) (by_key_none none k es h.1)
 
 -- the widths in a row, by its byte
 widths_by : {R : Type 0} (rows : List (Row R)) (b : ℕ) → (row_of rows b).widths ≡ by_key [] b (map (λ r. (r.byte, r.widths)) rows)
@@ -50,21 +42,11 @@ no_command b h d =
     let inside : List (ℕ × List ℕ) = (0x30, scale_widths) ∷ (map (λ kind. (kind, multiplier_widths kind)) multiplier_kinds ++ ((0x3A, square_widths) ∷ [])) in
     All-append (λ e. b ≡ e.0 → ⊥) inside ((0x3F, []) ∷ []) (All-map (λ e. (0x30 ≤ e.0) × (e.0 ≤ 0x3B)) (λ e. b ≡ e.0 → ⊥) (λ e r q. h (omega arith) (omega arith)) inside (omega arith)) (d, tt)
 
-pub size_none : (b : ℕ) → (0x30 ≤ b → b ≤ 0x3B → ⊥) → (b ≡ 0x3F → ⊥) → command_size b ≡ 1
-unfolding command_size total
-size_none b h d = ap (λ ws. suc (total ws)) (by_key_none [] b widths_by_byte (no_command b h d))
-
 -- `35` to `39` name one variable each
 pub size_one : (b : ℕ) → 0x35 ≤ b → b ≤ 0x39 → command_size b ≡ 10
 unfolding command_size by_key arity total all_below
 size_one b p q =
     among_all (λ b. command_size b ≡ 10) (0x35 ∷ 0x36 ∷ 0x37 ∷ 0x38 ∷ 0x39 ∷ []) (refl ▹ refl ▹ refl ▹ refl ▹ refl ▹ tt) b (in_range 0x35 5 (0x35 ∷ 0x36 ∷ 0x37 ∷ 0x38 ∷ 0x39 ∷ []) tt b p (omega arith))
-
--- and so does `31`
-pub size_ten : (b : ℕ) → (b ≡ 0x31) ⊎ ((0x35 ≤ b) × (b ≤ 0x39)) → command_size b ≡ 10
-unfolding command_size by_key arity total
-size_ten b (inl e) = rw e
-size_ten b (inr r) = size_one b r.0 r.1
 
 -- a multiplier command: its byte, the numbers that it names and the 8 bytes of its multiplier
 pub size_multiplier : (b : ℕ) → IsMultiplier b → command_size b ≡ 9 + arity b

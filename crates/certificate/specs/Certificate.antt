@@ -27,10 +27,10 @@ fresh = record { scale = 0; target = pos 0; multipliers = []; squares = [] }
 -- with other multipliers, and with other squares
 
 abbrev pub set_multipliers : Certificate → List Multiplier → Certificate
-set_multipliers k ts = record { scale = k.scale; target = k.target; multipliers = ts; squares = k.squares }
+set_multipliers k ts = record k { multipliers = ts }
 
 abbrev pub set_squares : Certificate → List Square → Certificate
-set_squares k qs = record { scale = k.scale; target = k.target; multipliers = k.multipliers; squares = qs }
+set_squares k qs = record k { squares = qs }
 
 -- one multiplier more, and one square more
 

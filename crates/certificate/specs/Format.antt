@@ -54,7 +54,7 @@ scale_row = record {
   follows = 0 ∷ [];
   widths = scale_widths;
   checks = λ cert. binary λ s t. scale_checks s (to_z w64 t);
-  after = λ cert. binary λ s t. record { scale = s; target = to_z w64 t; multipliers = cert.multipliers; squares = cert.squares };
+  after = λ cert. binary λ s t. record cert { scale = s; target = to_z w64 t };
   last = false;
 }
 

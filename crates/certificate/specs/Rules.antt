@@ -14,7 +14,8 @@ use Rattle.certificate.specs.RowForm.{row_form_of}
 
 -- what the paper says of a multiplier command
 pub record Rule : Type 0 where
-  -- a null form (the paper's own term; 000's null function): 0 on every plan that fits; the others are never negative on plans
+  -- a null form (the paper's own term; 000's null function): 0 on every plan, that of a row on every plan that fits; the others are never
+  -- negative on plans
   pub null : Bool
   -- m is from the least to the most, or it is refused 4
   pub least : ℤ

@@ -9,6 +9,6 @@ pub fn lent() -> [u8; Listing::MAX_BYTES] {
 
 // The buffer is as the next field says.
 pub fn compared(fields: &mut Fields, buffer: &[u8]) -> Result<(), Differs> {
-    let mut expected = [0; console::TEXT];
+    let mut expected = [0; console::streams::TEXT];
     Differs::unless(fields.bytes(&mut expected)? == buffer)
 }

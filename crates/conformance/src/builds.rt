@@ -4,7 +4,7 @@ use builder::feedcheck_build;
 use vectors::{Differs, Fields};
 
 pub fn agrees(mut fields: Fields) -> Result<(), Differs> {
-    let mut register = [0; console::TEXT];
+    let mut register = [0; console::streams::TEXT];
     let mut buffer = buffers::lent();
     let register = fields.bytes(&mut register)?;
     let buffer = fields.part(&mut buffer)?;

@@ -4,9 +4,9 @@ use bound::check::feedcheck_check;
 use vectors::{Differs, Fields};
 
 pub fn agrees(mut fields: Fields) -> Result<(), Differs> {
-    let mut register = [0; console::TEXT];
-    let mut scheme = [0; console::TEXT];
-    let mut certificate = [0; console::INPUT];
+    let mut register = [0; console::streams::TEXT];
+    let mut scheme = [0; console::streams::TEXT];
+    let mut certificate = [0; console::streams::INPUT];
     let mut table = tables::lent();
     let register = fields.bytes(&mut register)?;
     let scheme = fields.bytes(&mut scheme)?;

@@ -4,8 +4,8 @@ use plan::feedcheck_cost;
 use vectors::{Differs, Fields};
 
 pub fn agrees(mut fields: Fields) -> Result<(), Differs> {
-    let mut register = [0; console::TEXT];
-    let mut plan = [0; console::TEXT];
+    let mut register = [0; console::streams::TEXT];
+    let mut plan = [0; console::streams::TEXT];
     let register = fields.bytes(&mut register)?;
     let plan = fields.bytes(&mut plan)?;
     let answer = feedcheck_cost(register, plan);

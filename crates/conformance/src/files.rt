@@ -42,19 +42,28 @@ pub fn run<R: Files + AllocGlobal + Print, F: Fn(Fields) -> io::Result<bool>>(
     println!(rt; "{name}: {cases} cases, {differences} differences")
 }
 
-// Tries each case of a file whose lines hold, past the case's name, what a call is given and what it answers.
+// A call's cases stand in two files, one in the folder itself, which a request's landing replaces, and one in its folder `kept`, of
+// lines that show what the first does not. For each: what stands before the file's name, and before the name that is printed.
+const FOLDERS: [(&str, &str); 2] = [("", ""), ("kept/", "kept ")];
+
+// Tries each case of a call's two files, whose lines hold, past the case's name, what the call is given and what it answers.
 pub fn run_call<R: Files + AllocGlobal + Print, F: Fn(Fields) -> Result<(), Differs>>(
     rt: &R,
     name: &str,
-    path: &str,
+    file: &str,
     agrees: F,
 ) -> io::Result<()>
     requires { F.IsAlwaysCallable agrees }
 {
-    run(
-        rt,
-        name,
-        path,
-        |fields| Ok(agrees(fields.past_name()).is_ok()),
-    )
+    for (folder, before) in &FOLDERS {
+        let path = format!(in rt.alloc(); "{folder}{file}")?;
+        let printed = format!(in rt.alloc(); "{before}{name}")?;
+        run(
+            rt,
+            printed.as_str(),
+            path.as_str(),
+            |fields| Ok(agrees(fields.past_name()).is_ok()),
+        )?;
+    }
+    Ok(())
 }

@@ -11,7 +11,7 @@ fn file_name<'a>(fields: &mut Fields<'a>) -> Option<&'a str> {
 
 // What a program prints for the bytes of a file is what another file holds. The program puts it at the front of the text, and
 // gives its count of bytes.
-pub fn agrees<R: Files + AllocGlobal, F: Fn(&[u8], &mut [u8; console::TEXT]) -> usize>(
+pub fn agrees<R: Files + AllocGlobal, F: Fn(&[u8], &mut [u8; console::streams::TEXT]) -> usize>(
     rt: &R,
     mut fields: Fields,
     program: F,
@@ -26,7 +26,7 @@ pub fn agrees<R: Files + AllocGlobal, F: Fn(&[u8], &mut [u8; console::TEXT]) -> 
     };
     let bytes = fs::read(rt, input)?;
     let expected = fs::read(rt, output)?;
-    let mut text = [0; console::TEXT];
+    let mut text = [0; console::streams::TEXT];
     let count = program(bytes.as_slice(), &mut text);
     Ok(text.get(..count) == Some(expected.as_slice()) && fields.end().is_ok())
 }

@@ -14,7 +14,7 @@ fn moved(before: &Tally, after: &Tally) -> usize {
 }
 
 pub fn agrees(mut fields: Fields) -> Result<(), Differs> {
-    let mut job = [0; console::INPUT];
+    let mut job = [0; console::streams::INPUT];
     let mut table = tables::lent();
     let job = fields.bytes(&mut job)?;
     let table = fields.part(&mut table)?;

@@ -10,7 +10,7 @@ pub fn agrees<F: Fn(&[u8], &mut [i64], &mut [u8]) -> WriterAnswer>(
 ) -> Result<(), Differs>
     requires { F.IsAlwaysCallable call }
 {
-    let mut job = [0; console::INPUT];
+    let mut job = [0; console::streams::INPUT];
     let mut table = tables::lent();
     let mut buffer = buffers::lent();
     let job = fields.bytes(&mut job)?;

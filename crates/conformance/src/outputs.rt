@@ -3,8 +3,8 @@ use crate::buffers;
 use vectors::{Differs, Fields};
 
 pub fn agrees(mut fields: Fields) -> Result<(), Differs> {
-    let mut job = [0; console::INPUT];
-    let mut text = [0; console::TEXT];
+    let mut job = [0; console::streams::INPUT];
+    let mut text = [0; console::streams::TEXT];
     let job = fields.bytes(&mut job)?;
     let count = console::lines_of(job, &mut text).count;
     buffers::compared(&mut fields, &text[..count])?;

@@ -4,8 +4,8 @@ use penalty::feedcheck_penalty;
 use vectors::{Differs, Fields};
 
 pub fn agrees(mut fields: Fields) -> Result<(), Differs> {
-    let mut register = [0; console::TEXT];
-    let mut scheme = [0; console::TEXT];
+    let mut register = [0; console::streams::TEXT];
+    let mut scheme = [0; console::streams::TEXT];
     let mut table = tables::lent();
     let register = fields.bytes(&mut register)?;
     let scheme = fields.bytes(&mut scheme)?;

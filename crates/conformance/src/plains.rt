@@ -4,8 +4,8 @@ use plain::feedcheck_plain;
 use vectors::{Differs, Fields};
 
 pub fn agrees(mut fields: Fields) -> Result<(), Differs> {
-    let mut register = [0; console::TEXT];
-    let mut scheme = [0; console::TEXT];
+    let mut register = [0; console::streams::TEXT];
+    let mut scheme = [0; console::streams::TEXT];
     let mut buffer = buffers::lent();
     let register = fields.bytes(&mut register)?;
     let scheme = fields.bytes(&mut scheme)?;

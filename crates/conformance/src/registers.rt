@@ -49,7 +49,7 @@ fn rows(fields: &mut Fields, register: &Register) -> Result<(), Differs> {
 }
 
 pub fn agrees(mut fields: Fields) -> Result<(), Differs> {
-    let mut register = [0; console::TEXT];
+    let mut register = [0; console::streams::TEXT];
     let register = fields.bytes(&mut register)?;
     let answer = feedcheck_register(register);
     let register = &answer.register;

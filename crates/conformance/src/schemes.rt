@@ -41,8 +41,8 @@ fn splits(fields: &mut Fields, scheme: &Scheme) -> Result<(), Differs> {
 }
 
 pub fn agrees(mut fields: Fields) -> Result<(), Differs> {
-    let mut register = [0; console::TEXT];
-    let mut scheme = [0; console::TEXT];
+    let mut register = [0; console::streams::TEXT];
+    let mut scheme = [0; console::streams::TEXT];
     let register = fields.bytes(&mut register)?;
     let scheme = fields.bytes(&mut scheme)?;
     let answer = feedcheck_scheme(register, scheme);

@@ -4,7 +4,7 @@ use search::feedcheck_search;
 use vectors::{Differs, Fields};
 
 pub fn agrees(mut fields: Fields) -> Result<(), Differs> {
-    let mut register = [0; console::TEXT];
+    let mut register = [0; console::streams::TEXT];
     let register = fields.bytes(&mut register)?;
     let limit = fields.number()?;
     let answer = feedcheck_search(register, limit);

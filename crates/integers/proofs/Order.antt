@@ -95,12 +95,6 @@ pub abs_nonneg : (a : ℤ) → pos 0 ≤ℤ abs a
 unfolding abs
 abs_nonneg a = pos_nonneg (nat_abs a)
 
-pub abs_of_nonneg : (a : ℤ) → pos 0 ≤ℤ a → abs a ≡ a
-abs_of_nonneg = diff₁ _ λ p q. simp diffs (omega arith)
-
-pub abs_of_nonpos : (a : ℤ) → a ≤ℤ pos 0 → abs a ≡ neg_ℤ a
-abs_of_nonpos = diff₁ _ λ p q. simp diffs (omega arith)
-
 pub nat_abs_neg : (a : ℤ) → nat_abs (neg_ℤ a) ≡ nat_abs a
 nat_abs_neg = diff₁ _ λ p q. simp diffs (omega arith)
 

@@ -28,13 +28,13 @@ abbrev pub of_register : Register → Parts
 of_register reg = record { register = reg; scheme = S.fresh; certificate = C.fresh; plan = 0 }
 
 abbrev pub with_scheme : Parts → Scheme → Parts
-with_scheme p sch = record { register = p.register; scheme = sch; certificate = p.certificate; plan = p.plan }
+with_scheme p sch = record p { scheme = sch }
 
 abbrev pub with_certificate : Parts → Certificate → Parts
-with_certificate p cert = record { register = p.register; scheme = p.scheme; certificate = cert; plan = p.plan }
+with_certificate p cert = record p { certificate = cert }
 
 abbrev pub with_plan : Parts → ℕ → Parts
-with_plan p plan = record { register = p.register; scheme = p.scheme; certificate = p.certificate; plan = plan }
+with_plan p plan = record p { plan = plan }
 
 -- ---- the parts after the register
 
@@ -87,7 +87,7 @@ bound_of p = bound p.certificate
 abbrev pub cost_of : Parts → ℤ
 cost_of p = cost (coefficient p.register) p.register p.plan
 
--- gap = cost − bound
+-- the gap (the paper's own term), how far the cost is above the bound: cost − bound
 abbrev pub gap_of : Parts → ℤ
 gap_of p = cost_of p -ℤ bound_of p
 

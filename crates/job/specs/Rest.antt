@@ -6,11 +6,11 @@ use Rattle.wire.specs.Outcome.{Outcome, and_then}
 use Rattle.register.specs.declared.Register.{Register}
 use Rattle.scheme.specs.declared.Scheme.{Scheme}
 use Rattle.certificate.specs.Certificate.{Certificate}
-use Rattle.job.specs.Outcome.{Parts, of_register, with_scheme, with_certificate, JobPart, part_two, part_three, part_four, order, in_turn, ended, table_by}
+use Rattle.job.specs.Outcome.{Parts, of_register, with_scheme, with_certificate, JobPart, part_two, part_three, part_four, order, in_turn, last_of, ended, table_by}
 
 -- these parts from a position on, with those before them, and the job's end
 abbrev pub rest : List ℕ → List JobPart → Parts → ℕ → Outcome Parts
-rest s ks p from = and_then (in_turn ks s p from) (ended 4 s)
+rest s ks p from = and_then (in_turn ks s p from) (ended (last_of 1 (order p.register)) s)
 
 abbrev pub from_scheme : List ℕ → Register → ℕ → Outcome Parts
 from_scheme s reg from = rest s (order reg) (of_register reg) from

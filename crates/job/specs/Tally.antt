@@ -1,4 +1,4 @@
--- The tally: for each supplier a pair of counters, its accepted jobs and its refused ones.
+-- The tally (the paper's own term): for each supplier a pair of counters, its accepted jobs and its refused ones.
 use Rattle.std.specs.Prelude.{ℕ, suc, cond, ltb, get_or, set, replicate}
 use Rattle.job.specs.declared.Counters.{Counters}
 use Rattle.job.specs.declared.Tally.{Tally}
@@ -17,10 +17,10 @@ raised count = cond (ltb count max_count) (suc count) count
 -- one of a pair rises
 
 abbrev pub with_accepted : Counters → Counters
-with_accepted pair = record { accepted = raised pair.accepted; refused = pair.refused }
+with_accepted pair = record pair { accepted = raised pair.accepted }
 
 abbrev pub with_refused : Counters → Counters
-with_refused pair = record { accepted = pair.accepted; refused = raised pair.refused }
+with_refused pair = record pair { refused = raised pair.refused }
 
 -- no job so far
 

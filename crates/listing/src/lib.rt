@@ -205,7 +205,7 @@ fn write_listing(job: &[u8], table: &mut [i64], reader: Reader, buffer: &mut [u8
     ensures value { result ≡ answer_with (lines_for reader) job.now table.old buffer.old }
     ensures table_after { table.new ≡ listing_table job.now table.old }
     ensures buffer_after { buffer.new ≡ buffer_with (lines_for reader) job.now table.old buffer.old }
-    ensures job_len_bound { length (listed (lines_for reader) (outcome job.now)) ≤ listing_room }
+    ensures listing_within { length (listed (lines_for reader) (outcome job.now)) ≤ listing_room }
 {
     match put_listing(job, table, reader, buffer) {
         Ok(count) => WriterAnswer::written(count),
@@ -224,7 +224,7 @@ pub extern "C" fn feedcheck_listing(
     ensures value { result ≡ listing_answer job.now table.old buffer.old }
     ensures table_after { table.new ≡ listing_table job.now table.old }
     ensures buffer_after { buffer.new ≡ listing_buffer job.now table.old buffer.old }
-    ensures job_len_bound { length (listing (outcome job.now)) ≤ listing_room }
+    ensures listing_within { length (listing (outcome job.now)) ≤ listing_room }
 {
     write_listing(job, table, Reader::Farm, buffer)
 }
@@ -239,7 +239,7 @@ pub extern "C" fn feedcheck_supplier_listing(
     ensures value { result ≡ supplier_answer job.now table.old buffer.old }
     ensures table_after { table.new ≡ listing_table job.now table.old }
     ensures buffer_after { buffer.new ≡ supplier_buffer job.now table.old buffer.old }
-    ensures job_len_bound { length (supplier_listing (outcome job.now)) ≤ listing_room }
+    ensures listing_within { length (supplier_listing (outcome job.now)) ≤ listing_room }
 {
     write_listing(job, table, Reader::Supplier, buffer)
 }

@@ -29,7 +29,7 @@ use Rattle.scheme.specs.Scheme.{side, split_left, split_right}
 use Rattle.scheme.specs.Function.{term, term_of, g}
 use Rattle.scheme.specs.Valid.{Valid}
 use Rattle.scheme.proofs.Table.{terms_below, norm1_terms}
-use Rattle.penalty.specs.Operands.{max_factor}
+use Rattle.penalty.specs.Factor.{max_factor}
 
 -- ---- the form
 

@@ -1,15 +1,17 @@
 -- The rows of the paper's worked set that speak of the penalty form.
 use Prim.Native.Nat.{ℕ, ◌+◌}
-use mathlib.Core.Path.{◌≡◌, refl}
+use mathlib.Core.Path.{◌≡◌, refl, ap}
 use mathlib.Core.List.{[], ◌∷◌, map}
 use mathlib.Core.Bool.{Bool, true, false, cond}
-use lib.IntN.{pos, negsuc, ◌+ℤ◌, ◌*ℤ◌}
-use lib.ListN.{get_or}
+use lib.IntN.{ℤ, pos, negsuc, ◌+ℤ◌, ◌*ℤ◌, +ℤ_idl}
+use lib.ListN.{get_or, replicate}
 use Rattle.integers.specs.Integer.{abs, bit}
 use Rattle.integers.specs.Lists.{join_below}
 use Rattle.integers.specs.Sum.{sum_below, sum_over}
 use Rattle.forms.specs.Form.{value, entry, times}
-use Rattle.register.specs.Register.{coefficient}
+use Rattle.register.specs.declared.Register.{Register}
+use Rattle.register.specs.Register.{coefficient, set_base, set_choices, set_terms}
+use Rattle.scheme.specs.declared.Scheme.{Scheme}
 use Rattle.scheme.specs.Variables.{up_to, upward}
 use Rattle.scheme.specs.Filling.{Filling, factor}
 use Rattle.scheme.specs.Function.{g, term}
@@ -50,3 +52,24 @@ weights = refl
 table : entry (h (coefficient example_register) example_register example_scheme) 4 1 ≡ negsuc 9
 unfolding entry h g weight uses reaches upward up_to sum_below sum_over abs join_below term bracket times
 table = refl
+
+-- ---- two ways to a product: 4 is an operand of 5 and of 6, and those are the operands of 7. The one term, of all four choices and with
+-- coefficient c, is 7 alone
+
+abbrev pub four : ℤ → Register
+four c = set_terms (set_choices (set_base example_register (pos 0)) 4 (1 ∷ 1 ∷ 1 ∷ 1 ∷ replicate 28 0) (0 ∷ 1 ∷ 2 ∷ 3 ∷ replicate 28 0)) 1 (15 ∷ replicate 255 0) (c ∷ replicate 255 (pos 0))
+
+abbrev pub two_ways_scheme : Scheme
+two_ways_scheme = record {
+  products = 4;
+  splits = 1;
+  lefts = 0 ∷ 2 ∷ 3 ∷ 5 ∷ replicate 28 0;
+  rights = 1 ∷ 4 ∷ 4 ∷ 6 ∷ replicate 28 0;
+  split_lefts = 7 ∷ replicate 255 0;
+  split_rights = 7 ∷ replicate 255 0;
+}
+
+-- the term counts once for each of the four products
+pub two_ways : (c : ℤ) → map (weight (coefficient (four c)) (four c) two_ways_scheme) (4 ∷ 5 ∷ 6 ∷ 7 ∷ []) ≡ abs c ∷ abs c ∷ abs c ∷ abs c ∷ []
+unfolding weight uses reaches upward up_to sum_below
+two_ways c = ap (λ x. x ∷ x ∷ x ∷ x ∷ []) (+ℤ_idl (abs c))

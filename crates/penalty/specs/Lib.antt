@@ -5,5 +5,5 @@ pub mod Carried
 pub mod Least
 pub mod Answer
 pub mod Demand
--- not the paper's: what the code is lent of a scheme
-pub mod Operands
+-- not the paper's: how often the code adds g
+pub mod Factor

@@ -11,7 +11,7 @@ ghost use Rattle.register.specs.Register.{coefficient};
 ghost use Rattle.scheme.specs.Scheme.{variables, side as side_of};
 ghost use Rattle.scheme.specs.Function.{term, term_of, g};
 ghost use Rattle.penalty.specs.Weights.{reaches, contribution, weight, max_product_weight};
-ghost use Rattle.penalty.specs.Operands.{max_factor};
+ghost use Rattle.penalty.specs.Factor.{max_factor};
 ghost use Rattle.penalty.specs.Penalty.{bracket, penalty_of, h};
 ghost use Rattle.penalty.specs.Answer.{answer, answer_of, penalty_answer, penalty_table};
 ghost use Rattle.wire.specs.Results.{number_of};

@@ -203,7 +203,7 @@ fn put_commands<F: Fn(usize) -> Command>(
 // Writes the whole certificate.
 fn put_certificate(table: &FunctionTable, base: i64, out: &mut [u8])
     requires base_bound { nat_abs base ≤ max_base }
-    requires table_in_bounds { length (encode_in table.now.n base table.now.numbers.now) ≤ length out.old }
+    requires out_in_bounds { length (encode_in table.now.n base table.now.numbers.now) ≤ length out.old }
     ensures { out.new ≡ written out.old 0 (encode_in table.now.n base table.now.numbers.now) }
 {
     put_scale(out, base - table.subtracted() as i64);

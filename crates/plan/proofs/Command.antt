@@ -11,7 +11,7 @@ use borrow.Author.Tests.{eqb-true, ltb-false, ne_eqb, not-false}
 use Rattle.wire.specs.Number.{nat_at}
 use Rattle.wire.specs.Checks.{Check, refusal, command_checks}
 use Rattle.wire.specs.Part.{refused, accepted, operands_at, total, checks_at, after_at, read_part}
-use Rattle.wire.specs.Rows.{row_of}
+use Rattle.wire.specs.Rows.{size_of, row_of}
 use Rattle.wire.specs.Results.{number_of}
 use Rattle.wire.specs.declared.refusals.Refusal.{Refusal}
 use Rattle.wire.proofs.Checks.{Passed, refusal_none}
@@ -20,12 +20,12 @@ use Rattle.wire.proofs.Accepting.{reached}
 use Rattle.wire.proofs.Results.{numbered}
 use Rattle.register.specs.declared.Register.{Register}
 use Rattle.plan.specs.Fits.{fits}
-use Rattle.plan.specs.Format.{plan_checks, plan_part, plan_in_job}
+use Rattle.plan.specs.Format.{plan_checks, plan_row, plan_part, plan_in_job}
 
 -- the checks of the plan of a register at the front of a run of bytes, and its refusal
 
 abbrev pub checks_of : Register → List ℕ → List Check
-checks_of reg s = let plan = nat_at 4 s 1 in command_checks (eqb (get_or s 0 0) 0x40) (length s) 5 (plan_checks reg.choices plan (fits reg plan))
+checks_of reg s = let plan = nat_at 4 s 1 in command_checks (eqb (get_or s 0 0) 0x40) (length s) (size_of (plan_row reg)) (plan_checks reg.choices plan (fits reg plan))
 
 abbrev pub refusal_of : Register → List ℕ → ℕ
 refusal_of reg s = refusal (checks_of reg s)
@@ -62,7 +62,7 @@ module _ (reg : Register) (s : List ℕ) where
     plan_byte = eqb-true _ _ (not-false _ passed.0)
 
     pub plan_room : 5 ≤ length s
-    unfolding command_checks plan_checks
+    unfolding total command_checks plan_checks
     plan_room = ltb-false _ _ passed.1.0
 
     pub plan_ends : plan_in_job reg s ≡ accepted (reached 0x40 (nat_at 4 s 1)) 5

@@ -6,3 +6,4 @@ pub mod Answers
 pub mod Bounds
 pub mod Prefix
 pub mod Fits
+pub mod BeforeRows

@@ -24,7 +24,7 @@ FitsRows n count entry total plan = (k : ℕ) → k < count → FitsRow n (entry
 unfoldable pub fits_rows : ℕ → ℕ → (ℕ → ℕ → ℤ) → (ℕ → ℤ) → ℕ → Bool
 fits_rows n count entry total plan = all_below count (λ k. int_eq (fed_sum n (entry k) plan) (total k))
 
--- ---- the rows of a register
+-- ---- the rows of a register: a plan fits (the paper's own term) when it fits each of them
 
 abbrev pub Fits : Register → ℕ → Type 0
 Fits r plan = FitsRows r.choices r.rows (row_entry r) (row_total r) plan

@@ -1,7 +1,8 @@
--- Part 4 of the job file, whether a plan fits rows, and the cost of a plan.
+-- Part 4 of the job file, whether a plan fits rows, and the cost of a plan; and how a plan was read before there were rows.
 pub mod Plan
 pub mod Fits
 pub mod Valid
 pub mod Format
 pub mod Encoding
 pub mod Answer
+pub mod BeforeRows

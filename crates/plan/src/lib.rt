@@ -7,12 +7,13 @@ ghost use Rattle.wire.specs.Number.{nat_at};
 ghost use Rattle.wire.specs.Checks.{command_checks, refusal};
 ghost use Rattle.wire.specs.Outcome.{added_by};
 ghost use Rattle.wire.specs.Results.{number_of, number_in, reading_of, outcome_of};
+ghost use Rattle.wire.specs.Rows.{size_of};
 ghost use Rattle.register.specs.Limits.{max_choices, max_rows};
 ghost use Rattle.register.specs.Register.{coefficient};
 ghost use Rattle.register.specs.Valid.{Within};
 ghost use Rattle.plan.specs.Plan.{cost};
 ghost use Rattle.plan.specs.Fits.{fits};
-ghost use Rattle.plan.specs.Format.{plan_checks, plan_in_job};
+ghost use Rattle.plan.specs.Format.{plan_checks, plan_row, plan_in_job};
 ghost use Rattle.plan.specs.Answer.{refused_cost, cost_outcome, cost_answer};
 
 pub mod choice_sets;
@@ -47,15 +48,18 @@ impl CostAnswer {
     }
 }
 
+// How many bytes the command has: its own byte and the plan.
+const PLAN_SIZE: usize = 1 + 4;
+
 // The checks of the plan at the front of a run of bytes.
 fn plan_refusal(bytes: &[u8], register: &Register) -> Result<(), Refusal>
     requires bytes_nonzero { 0 < length bytes.now }
     requires choices_within { register.now.choices ≤ max_choices }
     requires rows_within { register.now.rows ≤ max_rows }
-    ensures { number_in result ≡ refusal (command_checks (eqb (get_or bytes.now 0 0) 0x40) (length bytes.now) 5
+    ensures { number_in result ≡ refusal (command_checks (eqb (get_or bytes.now 0 0) 0x40) (length bytes.now) (size_of (plan_row register.now))
         (plan_checks register.now.choices (nat_at 4 bytes.now 1) (fits register.now (nat_at 4 bytes.now 1)))) }
 {
-    check_command(bytes[0] == 0x40, bytes.len(), 5)?;
+    check_command(bytes[0] == 0x40, bytes.len(), PLAN_SIZE)?;
     let plan = u32::read(bytes, 1);
     let absent = 1u64 << register.choices <= u64::from(plan);
     refuse_if(absent, Refusal::NotThere)?;
@@ -77,7 +81,7 @@ pub fn read_plan(bytes: &[u8], register: Register) -> Result<Read<u32>, Refused>
     match plan_refusal(bytes, &register) {
         Ok(()) => Ok(Read {
             value: u32::read(bytes, 1),
-            end: 5,
+            end: PLAN_SIZE,
         }),
         Err(refusal) => Err(Refused {
             refusal,

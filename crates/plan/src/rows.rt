@@ -1,6 +1,6 @@
 // Whether a plan fits rows: the sums of its fed entries.
-ghost use Rattle.std.specs.Prelude.{◌≡◌, ◌≤◌, ◌<◌, cond, pos, negsuc, ◌≤ℤ◌};
-ghost use Rattle.register.specs.Limits.{max_choices, max_rows};
+ghost use Rattle.std.specs.Prelude.{◌≡◌, ◌≤◌, ◌<◌, cond, pos, ◌≤ℤ◌};
+ghost use Rattle.register.specs.Limits.{max_choices, max_rows, lowest_entry, highest_entry};
 ghost use Rattle.register.specs.Register.{row_entry};
 ghost use Rattle.plan.specs.Fits.{fed_sum, fits};
 
@@ -10,8 +10,8 @@ use register::Register;
 // An entry that counts, or 0. It is a function of its own for the bounds of its result, by which the sum fits.
 fn entry_where(fed: bool, entry: i8) -> i32
     ensures value { result ≡ cond fed entry (pos 0) }
-    ensures above { negsuc 127 ≤ℤ result }
-    ensures below { result ≤ℤ pos 127 }
+    ensures above { lowest_entry ≤ℤ result }
+    ensures below { result ≤ℤ highest_entry }
 {
     if fed { i32::from(entry) } else { 0 }
 }

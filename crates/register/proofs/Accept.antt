@@ -25,11 +25,18 @@ use Rattle.register.specs.Encoding.{base_command, length_command, Header, end_co
 use Rattle.register.specs.Answer.{register_answer}
 use Rattle.register.proofs.Laws.{BaseWhere, LengthWhere, HeaderWhere, Done, laws}
 
+-- a header, by what its commands say
+
+pub header_said : (B : Type 0) (r : Register) (cs : List Command) → B → HeaderWhere B r cs → Header r cs
+header_said B r cs b h =
+    optional_map (Only (BaseWhere B r)) (Only (λ c. c ≡ base_command r.base)) (r.day_length ≡ usual_day) (LengthWhere B r) (λ c. c ≡ length_command r.day_length) (λ ds. only_map (BaseWhere B r) (λ c. c ≡ base_command r.base) (λ c f. f.1 b)) (λ c f. f.1 b) h
+
+pub header_says : (B : Type 0) (r : Register) (cs : List Command) → Header r cs → HeaderWhere B r cs
+header_says B r cs h =
+    optional_map (Only (λ c. c ≡ base_command r.base)) (Only (BaseWhere B r)) (r.day_length ≡ usual_day) (λ c. c ≡ length_command r.day_length) (LengthWhere B r) (λ ds. only_map (λ c. c ≡ base_command r.base) (BaseWhere B r) (λ c f. (rw f, λ b. f))) (λ c f. (rw f, λ b. f)) h
+
 means : Means Done Valid Commands 0x1F
-means =
-    ends_means Valid HeaderWhere kinds end_command Header
-    (λ B r cs b h. optional_map (Only (BaseWhere B r)) (Only (λ c. c ≡ base_command r.base)) (r.day_length ≡ usual_day) (LengthWhere B r) (λ c. c ≡ length_command r.day_length) (λ ds. only_map (BaseWhere B r) (λ c. c ≡ base_command r.base) (λ c f. f.1 b)) (λ c f. f.1 b) h)
-    (λ B r cs h. optional_map (Only (λ c. c ≡ base_command r.base)) (Only (BaseWhere B r)) (r.day_length ≡ usual_day) (λ c. c ≡ length_command r.day_length) (LengthWhere B r) (λ ds. only_map (λ c. c ≡ base_command r.base) (BaseWhere B r) (λ c f. (rw f, λ b. f))) (λ c f. (rw f, λ b. f)) h)
+means = ends_means Valid HeaderWhere kinds end_command Header header_said header_says
 
 pub commands_accepted : (r : Register) (cs : List Command) → Valid r → Commands r cs → Accepts register_part register_part.start cs (reached (last_from 0 cs) r)
 commands_accepted = said_accepts fresh register_rows laws means

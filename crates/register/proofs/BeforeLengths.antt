@@ -15,12 +15,13 @@ use Rattle.wire.specs.Rows.{Progress, is_among, row_of}
 use Rattle.wire.proofs.Rest.{NoneOf, no_row_lem, by_bytes}
 use Rattle.wire.proofs.Encoding.{by_itself_accepted}
 use Rattle.wire.proofs.Part.{Ways, by_ways}
-use Rattle.wire.proofs.Alike.{Alike, neither, read_alike}
+use Rattle.wire.proofs.Alike.{SameRow, moved_row, rows_alike, Alike, neither, read_alike}
 use Rattle.register.specs.declared.Register.{Register}
 use Rattle.register.specs.Limits.{usual_day}
-use Rattle.register.specs.Format.{choice_checks, window_checks, register_rows, register_part, register_in_job, register_by_itself}
+use Rattle.register.specs.Register.{fresh}
+use Rattle.register.specs.Format.{choice_checks, choice_row, window_checks, window_row, register_rows, register_part, register_in_job, register_by_itself}
 use Rattle.register.specs.Encoding.{SaysLength, SaysRow}
-use Rattle.register.specs.BeforeRows.{rows_before_rows, part_before_rows, in_job_before_rows}
+use Rattle.register.specs.BeforeRows.{term_row_before_rows, end_row_before_rows, rows_before_rows, part_before_rows, in_job_before_rows}
 use Rattle.register.specs.BeforeLengths.{choice_checks_before_lengths, window_checks_before_lengths, rows_before_lengths, part_before_lengths, in_job_before_lengths, by_itself_before_lengths}
 use Rattle.register.proofs.DayLengths.{length_said}
 use Rattle.register.proofs.BeforeRows.{as_before_rows_in_job}
@@ -77,39 +78,12 @@ module _ (s : List ℕ) (none : SaysLength s → ⊥) where
       };
     }
 
-    -- a choice has a minute of the usual day
-    choice_alike : AlikeAt 0x11
-    unfolding row_of refusal choice_checks choice_checks_before_lengths
-    choice_alike = record {
-      here = rw (ne_eqb p.previous 0x18 r.no_length, or-false);
-      same = λ h.
-          let u = r.usual (λ e. false≢true (rw e at h)) in
-          record { widths = refl; checks = λ xs. rw u; after = λ xs. refl; last = refl; moves = λ xs q. later 0x11 (omega arith) (λ e. omega arith) u };
-    }
-
-    term_alike : AlikeAt 0x12
-    unfolding row_of
-    term_alike = record {
-      here = rw (ne_eqb p.previous 0x18 r.no_length, or-false);
-      same = λ h. record { widths = refl; checks = λ xs. refl; after = λ xs. refl; last = refl; moves = λ xs q. later 0x12 (omega arith) (λ e. omega arith) (r.usual (λ e. false≢true (rw e at h))) };
-    }
-
-    -- and a window, which may end with it
-    window_alike : AlikeAt 0x13
-    unfolding row_of refusal window_checks window_checks_before_lengths
-    window_alike = record {
-      here = rw (ne_eqb p.previous 0x18 r.no_length, or-false);
-      same = λ h.
-          let u = r.usual (λ e. false≢true (rw e at h)) in
-          record { widths = refl; checks = λ xs. rw u; after = λ xs. refl; last = refl; moves = λ xs q. later 0x13 (omega arith) (λ e. omega arith) u };
-    }
-
-    end_alike : AlikeAt 0x1F
-    unfolding row_of
-    end_alike = record {
-      here = rw (ne_eqb p.previous 0x18 r.no_length, or-false);
-      same = λ h. record { widths = refl; checks = λ xs. refl; after = λ xs. refl; last = refl; moves = λ xs q. later 0x1F (omega arith) (λ e. omega arith) (r.usual (λ e. false≢true (rw e at h))) };
-    }
+    -- a command behind the base cost stands where it stood; on the usual day it is what it was, and it leaves the length
+    later_alike : (b : ℕ) → 0x10 < b → (b ≡ 0x18 → ⊥) → let row = row_of rows_before_rows b in let row' = row_of rows_before_lengths b in
+        SameRow row row' → is_among p.previous row.follows ≡ is_among p.previous row'.follows → (is_among p.previous row.follows ≡ true → p.previous ≡ 0 → ⊥)
+        → (p.parsed.day_length ≡ usual_day → (xs : List ℕ) → refusal (row.checks p.parsed xs) ≡ refusal (row'.checks p.parsed xs))
+        → ((xs : List ℕ) → (row.after p.parsed xs).day_length ≡ p.parsed.day_length) → AlikeAt b
+    later_alike b l d same h first k day = rows_alike fresh rows_before_rows rows_before_lengths Reach p at b same h (λ t xs. let u = r.usual (first t) in (k u xs, later b l d (day xs ∙ u)))
 
     length_alike : get_or s at 0 ≡ 0x18 → AlikeAt 0x18
     unfolding row_of
@@ -121,10 +95,18 @@ module _ (s : List ℕ) (none : SaysLength s → ⊥) where
         (ap (λ row. is_among p.previous row.follows) (no_row_lem rows_before_rows b n))
         (ap (λ row. is_among p.previous row.follows) (no_row_lem rows_before_lengths b (n.0 ▹ n.1.0 ▹ n.1.1.0 ▹ n.1.1.1.0 ▹ n.1.1.1.1.1)))
 
+    -- a choice has a minute of the usual day, and a window ends with it at the latest
     alike : AlikeAt (get_or s at 0)
+    unfolding row_of refusal choice_checks choice_checks_before_lengths window_checks window_checks_before_lengths
     alike =
         by_bytes (λ b. get_or s at 0 ≡ b → AlikeAt b) rows_before_rows (get_or s at 0) (λ n e. none_alike (get_or s at 0) n)
-        (base_alike ▹ (λ e. choice_alike) ▹ (λ e. term_alike) ▹ (λ e. window_alike) ▹ length_alike ▹ (λ e. end_alike) ▹ tt) refl
+        (base_alike
+        ▹ (λ e. later_alike 0x11 (omega arith) (λ e. omega arith) (moved_row choice_row) (rw (ne_eqb p.previous 0x18 r.no_length, or-false)) (λ t e. false≢true (rw e at t)) (λ u xs. rw u) (λ xs. refl))
+        ▹ (λ e. later_alike 0x12 (omega arith) (λ e. omega arith) (moved_row term_row_before_rows) (rw (ne_eqb p.previous 0x18 r.no_length, or-false)) (λ t e. false≢true (rw e at t)) (λ u xs. refl) (λ xs. refl))
+        ▹ (λ e. later_alike 0x13 (omega arith) (λ e. omega arith) (moved_row window_row) (rw (ne_eqb p.previous 0x18 r.no_length, or-false)) (λ t e. false≢true (rw e at t)) (λ u xs. rw u) (λ xs. refl))
+        ▹ length_alike
+        ▹ (λ e. later_alike 0x1F (omega arith) (λ e. omega arith) (moved_row end_row_before_rows) (rw (ne_eqb p.previous 0x18 r.no_length, or-false)) (λ t e. false≢true (rw e at t)) (λ u xs. refl) (λ xs. refl))
+        ▹ tt) refl
 
   both : in_job_before_rows s ≡ in_job_before_lengths s
   unfolding in_job_before_rows in_job_before_lengths

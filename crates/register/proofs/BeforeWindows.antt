@@ -14,12 +14,12 @@ use Rattle.wire.specs.Part.{accepted, total, by_itself}
 use Rattle.wire.specs.Rows.{Progress, is_among, row_of}
 use Rattle.wire.proofs.Rest.{NoneOf, no_row_lem, by_bytes}
 use Rattle.wire.proofs.Encoding.{by_itself_accepted}
-use Rattle.wire.proofs.Alike.{Alike, Ended, neither, read_alike}
+use Rattle.wire.proofs.Alike.{SameRow, moved_row, rows_alike, Alike, Ended, neither, read_alike}
 use Rattle.register.specs.declared.Register.{Register}
 use Rattle.register.specs.Register.{fresh}
 use Rattle.register.specs.Format.{register_in_job, register_by_itself}
 use Rattle.register.specs.Encoding.{SaysLength, SaysRow}
-use Rattle.register.specs.BeforeLengths.{choice_checks_before_lengths, rows_before_lengths, part_before_lengths, in_job_before_lengths}
+use Rattle.register.specs.BeforeLengths.{choice_row_before_lengths, term_row_before_lengths, end_row_before_lengths, choice_checks_before_lengths, rows_before_lengths, part_before_lengths, in_job_before_lengths}
 use Rattle.register.specs.BeforeWindows.{choice_checks_before_windows, rows_before_windows, part_before_windows, in_job_before_windows, by_itself_before_windows}
 use Rattle.register.proofs.BeforeLengths.{as_before_lengths_in_job}
 
@@ -55,27 +55,11 @@ module _ (s : List ℕ) (none : get_or s 5 0 ≡ 0x13 → ⊥) where
       };
     }
 
-    -- where there is no window, check 13 does not fail
-    choice_alike : AlikeAt 0x11
-    unfolding row_of refusal choice_checks_before_lengths choice_checks_before_windows fresh
-    choice_alike = record {
-      here = rw (ne_eqb p.previous 0x13 r.no_window, or-false);
-      same = λ h. record { widths = refl; checks = λ xs. rw (ap (λ w. w.0) r.windows); after = λ xs. refl; last = refl; moves = λ xs q. later 0x11 (omega arith) (λ e. omega arith) r.windows };
-    }
-
-    term_alike : AlikeAt 0x12
-    unfolding row_of
-    term_alike = record {
-      here = rw (ne_eqb p.previous 0x13 r.no_window, or-false);
-      same = λ h. record { widths = refl; checks = λ xs. refl; after = λ xs. refl; last = refl; moves = λ xs q. later 0x12 (omega arith) (λ e. omega arith) r.windows };
-    }
-
-    end_alike : AlikeAt 0x1F
-    unfolding row_of
-    end_alike = record {
-      here = rw (ne_eqb p.previous 0x13 r.no_window, or-false);
-      same = λ h. record { widths = refl; checks = λ xs. refl; after = λ xs. refl; last = refl; moves = λ xs q. later 0x1F (omega arith) (λ e. omega arith) r.windows };
-    }
+    -- a command behind the base cost stands where it stood, is what it was, and reads no window
+    later_alike : (b : ℕ) → 0x10 < b → (b ≡ 0x13 → ⊥) → let row = row_of rows_before_lengths b in let row' = row_of rows_before_windows b in
+        SameRow row row' → is_among p.previous row.follows ≡ is_among p.previous row'.follows
+        → ((xs : List ℕ) → (refusal (row.checks p.parsed xs) ≡ refusal (row'.checks p.parsed xs)) × (windows_of (row.after p.parsed xs) ≡ windows_of p.parsed)) → AlikeAt b
+    later_alike b l d same h k = rows_alike fresh rows_before_lengths rows_before_windows Reach p at b same h (λ t xs. let (e, f) = k xs in (e, later b l d (f ∙ r.windows)))
 
     window_alike : get_or s at 0 ≡ 0x13 → AlikeAt 0x13
     unfolding row_of
@@ -87,10 +71,17 @@ module _ (s : List ℕ) (none : get_or s 5 0 ≡ 0x13 → ⊥) where
         (ap (λ row. is_among p.previous row.follows) (no_row_lem rows_before_lengths b n))
         (ap (λ row. is_among p.previous row.follows) (no_row_lem rows_before_windows b (n.0 ▹ n.1.0 ▹ n.1.1.0 ▹ n.1.1.1.1)))
 
+    -- where there is no window, check 13 does not fail
     alike : AlikeAt (get_or s at 0)
+    unfolding row_of refusal choice_checks_before_lengths choice_checks_before_windows fresh
     alike =
         by_bytes (λ b. get_or s at 0 ≡ b → AlikeAt b) rows_before_lengths (get_or s at 0) (λ n e. none_alike (get_or s at 0) n)
-        ((λ e. base_alike) ▹ (λ e. choice_alike) ▹ (λ e. term_alike) ▹ window_alike ▹ (λ e. end_alike) ▹ tt) refl
+        ((λ e. base_alike)
+        ▹ (λ e. later_alike 0x11 (omega arith) (λ e. omega arith) (moved_row choice_row_before_lengths) (rw (ne_eqb p.previous 0x13 r.no_window, or-false)) (λ xs. (rw (ap (λ w. w.0) r.windows), refl)))
+        ▹ (λ e. later_alike 0x12 (omega arith) (λ e. omega arith) (moved_row term_row_before_lengths) (rw (ne_eqb p.previous 0x13 r.no_window, or-false)) (λ xs. (refl, refl)))
+        ▹ window_alike
+        ▹ (λ e. later_alike 0x1F (omega arith) (λ e. omega arith) (moved_row end_row_before_lengths) (rw (ne_eqb p.previous 0x13 r.no_window, or-false)) (λ xs. (refl, refl)))
+        ▹ tt) refl
 
   both : (in_job_before_lengths s ≡ in_job_before_windows s) × Ended Reach (in_job_before_lengths s)
   unfolding in_job_before_lengths in_job_before_windows

@@ -13,7 +13,7 @@ use Rattle.integers.proofs.Lists.{flag}
 use Rattle.integers.proofs.Blocks.{length_ones}
 use Rattle.wire.specs.Rows.{row_of}
 use Rattle.wire.specs.Encoding.{Command, fields, encode_command, encode}
-use Rattle.wire.specs.Grammar.{Only, Form}
+use Rattle.wire.specs.Grammar.{Only, Form, Kinds}
 use Rattle.wire.proofs.Encoding.{encode-append, encode_below}
 use Rattle.wire.proofs.Many.{fields_signed}
 use Rattle.wire.proofs.Grammar.{then_missing, then_present, optional_last, each_below, each_only}
@@ -21,7 +21,8 @@ use Rattle.register.specs.declared.Register.{Register}
 use Rattle.register.specs.Limits.{row_entries, usual_day}
 use Rattle.register.specs.Register.{tank, minute, mask, coefficient, window_tank, window_from, window_to, row_total, row_entry}
 use Rattle.register.specs.Format.{register_part}
-use Rattle.register.specs.Encoding.{base_command, length_command, Header, choice_command, term_command, window_command, row_list, row_command, end_command, choice_kind, term_kind, window_kind, row_kind, Commands, Encodes, encode_base, encode_choice, encode_term, encode_window, encode_row, encode_length, encode_after, encode_with_length, encode_without_length, encode_register}
+use Rattle.register.specs.Encoding.{base_command, length_command, Header, choice_command, term_command, window_command, row_list, row_command, end_command, choice_kind, term_kind, window_kind, row_kind, kinds, Commands, Encodes, encode_base, encode_choice, encode_term, encode_window, encode_row, encode_length, encode_after, encode_with_length, encode_without_length, encode_register}
+use Rattle.register.specs.Outside.{up_to_choices}
 
 -- ---- the bytes of a command
 
@@ -29,7 +30,7 @@ pub base_bytes : (z : ℤ) → encode_command register_part (base_command z) ≡
 unfolding encode_command fields row_of encode_base
 base_bytes z = rw append-nil
 
-choice_bytes : (t m : ℕ) → encode_command register_part (choice_command t m) ≡ encode_choice t m
+pub choice_bytes : (t m : ℕ) → encode_command register_part (choice_command t m) ≡ encode_choice t m
 unfolding encode_command fields row_of encode_choice
 choice_bytes t m = rw append-nil
 
@@ -72,35 +73,38 @@ module _ (r : Register) where
   abbrev pub commands_after : List Command → List Command
   commands_after h = h ++ windows_of ++ choices_of ++ rows_of ++ terms_of ++ (end_command ∷ [])
 
+  pub body_are : (h : List Command) → Header r h → Kinds r (Header r) kinds (h ++ windows_of ++ choices_of ++ rows_of ++ terms_of)
+  body_are h x = record {
+    first = h ++ windows_of ++ choices_of ++ rows_of;
+    second = terms_of;
+    is_first = record {
+      first = h ++ windows_of ++ choices_of;
+      second = rows_of;
+      is_first = record {
+        first = h ++ windows_of;
+        second = choices_of;
+        is_first = record {
+          first = h;
+          second = windows_of;
+          is_first = x;
+          is_second = each_below (Form window_kind r) (λ j. window_command (window_tank r j) (window_from r j) (window_to r j)) r.windows (λ j l. (inl refl, refl));
+          whole = refl;
+        };
+        is_second = each_below (Form choice_kind r) (λ i. choice_command (tank r i) (minute r i)) r.choices (λ i l. (inl refl, refl));
+        whole = refl;
+      };
+      is_second = each_below (Form row_kind r) (λ k. row_command (row_total r k) (row_list r k)) r.rows (λ k l. (inl refl, refl));
+      whole = refl;
+    };
+    is_second = each_below (Form term_kind r) (λ t. term_command (mask r t) (coefficient r t)) r.terms (λ t l. (inl refl, refl));
+    whole = refl;
+  }
+
   pub after_are : (h : List Command) → Header r h → Commands r (commands_after h)
   after_are h x = record {
     first = h ++ windows_of ++ choices_of ++ rows_of ++ terms_of;
     second = end_command ∷ [];
-    is_first = record {
-      first = h ++ windows_of ++ choices_of ++ rows_of;
-      second = terms_of;
-      is_first = record {
-        first = h ++ windows_of ++ choices_of;
-        second = rows_of;
-        is_first = record {
-          first = h ++ windows_of;
-          second = choices_of;
-          is_first = record {
-            first = h;
-            second = windows_of;
-            is_first = x;
-            is_second = each_below (Form window_kind r) (λ j. window_command (window_tank r j) (window_from r j) (window_to r j)) r.windows (λ j l. (inl refl, refl));
-            whole = refl;
-          };
-          is_second = each_below (Form choice_kind r) (λ i. choice_command (tank r i) (minute r i)) r.choices (λ i l. (inl refl, refl));
-          whole = refl;
-        };
-        is_second = each_below (Form row_kind r) (λ k. row_command (row_total r k) (row_list r k)) r.rows (λ k l. (inl refl, refl));
-        whole = refl;
-      };
-      is_second = each_below (Form term_kind r) (λ t. term_command (mask r t) (coefficient r t)) r.terms (λ t l. (inl refl, refl));
-      whole = refl;
-    };
+    is_first = body_are h x;
     is_second = record { command = end_command; form = refl; whole = refl };
     whole = refl;
   }
@@ -126,9 +130,9 @@ module _ (r : Register) where
   after_encodes h x e = record { commands = commands_after h; are = after_are h x; bytes = sym (after_bytes h ∙ rw e) }
 
   -- and no others, since each window, choice, row and term has one form
-  after_only : {cs : List Command} → Commands r cs → (h : List Command) × (Header r h × (cs ≡ commands_after h))
-  after_only t =
-      let body = t.is_first in
+
+  pub body_only : {cs : List Command} → Kinds r (Header r) kinds cs → (h : List Command) × (Header r h × (cs ≡ h ++ windows_of ++ choices_of ++ rows_of ++ terms_of))
+  body_only body =
       let middle = body.is_first in
       let front = middle.is_first in
       let start = front.is_first in
@@ -136,9 +140,37 @@ module _ (r : Register) where
       let choices = each_only (Form choice_kind r) _ r.choices front.second (λ i d f. f.1) front.is_second in
       let rows = each_only (Form row_kind r) _ r.rows middle.second (λ k d f. f.1) middle.is_second in
       let terms = each_only (Form term_kind r) _ r.terms body.second (λ i d f. f.1) body.is_second in
+      let both : List Command → List Command → List Command = λ x y. x ++ y in
+      (start.first, (start.is_first, body.whole ∙ ap₂ both (middle.whole ∙ ap₂ both (front.whole ∙ ap₂ both (start.whole ∙ ap (both start.first) windows) choices) rows) terms))
+
+  after_only : {cs : List Command} → Commands r cs → (h : List Command) × (Header r h × (cs ≡ commands_after h))
+  after_only t =
+      let (h, (x, q)) = body_only t.is_first in
       let end : t.second ≡ end_command ∷ [] = t.is_second.whole ∙ ap (λ c. c ∷ []) t.is_second.form in
       let both : List Command → List Command → List Command = λ x y. x ++ y in
-      (start.first, (start.is_first, t.whole ∙ ap₂ both (body.whole ∙ ap₂ both (middle.whole ∙ ap₂ both (front.whole ∙ ap₂ both (start.whole ∙ ap (both start.first) windows) choices) rows) terms) end))
+      (h, (x, t.whole ∙ ap₂ both q end))
+
+  -- where there is no row and no term, their bytes are those up to the choices
+
+  no_rows_of : r.rows ≡ 0 → rows_of ≡ []
+  unfolding join_below
+  no_rows_of e = rw e
+
+  no_terms_of : r.terms ≡ 0 → terms_of ≡ []
+  unfolding join_below
+  no_terms_of e = rw e
+
+  pub body_bytes : (h : List Command) → r.rows ≡ 0 → r.terms ≡ 0 → encode register_part (h ++ windows_of ++ choices_of ++ rows_of ++ terms_of) ≡ up_to_choices (encode register_part h) r
+  body_bytes h e e' =
+      let both : List Command → List Command → List Command = λ x y. x ++ y in
+      let front : List Command = h ++ windows_of ++ choices_of in
+      ap (encode register_part) (ap₂ both (ap (both front) (no_rows_of e)) (no_terms_of e') ∙ append-nil (front ++ []) ∙ append-nil front)
+      ∙ rw (
+        encode-append register_part (h ++ windows_of) choices_of,
+        encode-append register_part h windows_of,
+        encode_below register_part (λ j. window_command (window_tank r j) (window_from r j) (window_to r j)) (λ j. encode_window (window_tank r j) (window_from r j) (window_to r j)) r.windows (λ j. window_bytes (window_tank r j) (window_from r j) (window_to r j)),
+        encode_below register_part (λ i. choice_command (tank r i) (minute r i)) (λ i. encode_choice (tank r i) (minute r i)) r.choices (λ i. choice_bytes (tank r i) (minute r i)),
+      )
 
   -- ---- the headers: with `18`, and without it where the length is the usual one
 

@@ -11,7 +11,6 @@ use lib.Seq.{sets, get_or-set_same}
 use lib.IntN.{ℤ, pos, nat_abs}
 use mir.Syntax.{w8}
 use mir.Val.{SFits}
-use Rattle.integers.specs.Lists.{Column}
 use Rattle.integers.proofs.Join.{join_cong}
 use Rattle.integers.proofs.Blocks.{ones_at, ones_are, sets_other, sets_in, column_block, column_unblock, sets_back}
 use Rattle.integers.proofs.Entries.{below_or_last, each_more, kept_set, column_none, column_empty, column_more, column_less, set_back, table_none, table_more, table_less}
@@ -23,28 +22,48 @@ use Rattle.register.specs.Valid.{DayLength, FeedingRow, Within, Choices, Terms, 
 use Rattle.register.specs.Encoding.{row_list}
 use Rattle.register.proofs.Passes.{NextChoice, NextTerm, NextWindow, NextRow, within_byte, length_within}
 
--- no rows
-pub rows_none : (n : ℕ) (f : ℕ → ℤ × (ℕ → ℤ)) → Rows n 0 f
-rows_none n f = record { few = omega arith; each = λ i l. absurd (omega arith) }
+-- ---- with no choice, term, window or row
+
+pub choices_none : (length : ℕ) → Choices length 0 (replicate max_choices 0) (replicate max_choices 0)
+choices_none length = let column = column_none {A = ℕ} max_choices 0 in record { tanks = column; minutes = column; table = table_none max_choices _ _ _ }
+
+pub terms_none : (n : ℕ) → Terms n 0 (replicate max_terms 0) (replicate max_terms (pos 0))
+terms_none n = record { masks = column_none max_terms 0; coefficients = column_none max_terms (pos 0); table = table_none max_terms _ _ _ }
+
+pub windows_none : (length : ℕ) → Windows length 0 (replicate max_windows 0) (replicate max_windows 0) (replicate max_windows 0)
+windows_none length = let column = column_none {A = ℕ} max_windows 0 in record { tanks = column; froms = column; tos = column; table = table_none max_windows _ _ _ }
+
+pub rows_none : (n : ℕ) → Rows n 0 (replicate max_rows (pos 0)) (replicate (max_rows * row_entries) (pos 0))
+rows_none n = record {
+  totals = column_none max_rows (pos 0);
+  entries = column_none (max_rows * row_entries) (pos 0);
+  few = omega arith;
+  each = λ i l. absurd (omega arith);
+}
+
+-- those that are none are right on a day of any length, and over any choices
+
+choices_on : {n a : ℕ} {ts ms : List ℕ} (b : ℕ) → n ≡ 0 → Choices a n ts ms → Choices b n ts ms
+choices_on b e c = record { tanks = c.tanks; minutes = c.minutes; table = rw e (table_none max_choices _ _ _) }
+
+windows_on : {k a : ℕ} {ts fs os : List ℕ} (b : ℕ) → k ≡ 0 → Windows a k ts fs os → Windows b k ts fs os
+windows_on b e w = record { tanks = w.tanks; froms = w.froms; tos = w.tos; table = rw e (table_none max_windows _ _ _) }
+
+terms_over : {m a : ℕ} {ms : List ℕ} {cs : List ℤ} (b : ℕ) → m ≡ 0 → Terms a m ms cs → Terms b m ms cs
+terms_over b e t = record { masks = t.masks; coefficients = t.coefficients; table = rw e (table_none max_terms _ _ _) }
+
+rows_over : {k a : ℕ} {bs es : List ℤ} (b : ℕ) → k ≡ 0 → Rows a k bs es → Rows b k bs es
+rows_over b e q = record { totals = q.totals; entries = q.entries; few = q.few; each = λ i l. absurd (omega arith) }
 
 pub fresh_within : Within fresh
 unfolding fresh
 fresh_within = record {
   base = omega arith;
   day = inl refl;
-  tanks = column_none max_choices 0;
-  minutes = column_none max_choices 0;
-  choices = table_none max_choices _ _ _;
-  masks = column_none max_terms 0;
-  coefficients = column_none max_terms (pos 0);
-  terms = table_none max_terms _ _ _;
-  window_tanks = column_none max_windows 0;
-  window_froms = column_none max_windows 0;
-  window_tos = column_none max_windows 0;
-  windows = table_none max_windows _ _ _;
-  row_totals = column_none max_rows (pos 0);
-  row_entries = column_none (max_rows * row_entries) (pos 0);
-  rows = rows_none _ _;
+  choices = choices_none 0;
+  terms = terms_none 0;
+  windows = windows_none 0;
+  rows = rows_none 0;
   may_feed = λ i l. absurd (omega arith);
 }
 
@@ -56,130 +75,43 @@ day_within r w = ⊎_elim (λ z. omega (arith, z)) length_within w.day
 
 module _ (r : Register) (w : Within r) where
   in_base : (base : ℤ) → nat_abs base ≤ max_base → Within (set_base r base)
-  in_base base h = record {
-    base = h;
-    day = w.day;
-    tanks = w.tanks;
-    minutes = w.minutes;
-    choices = w.choices;
-    masks = w.masks;
-    coefficients = w.coefficients;
-    terms = w.terms;
-    window_tanks = w.window_tanks;
-    window_froms = w.window_froms;
-    window_tos = w.window_tos;
-    windows = w.windows;
-    row_totals = w.row_totals;
-    row_entries = w.row_entries;
-    rows = w.rows;
-    may_feed = w.may_feed;
-  }
+  in_base base h = record { base = h; day = w.day; choices = w.choices; terms = w.terms; windows = w.windows; rows = w.rows; may_feed = w.may_feed }
 
   -- another day length, where there is no choice and no window
   in_length : (length : ℕ) → DayLength length → r.choices ≡ 0 → r.windows ≡ 0 → Within (set_length r length)
   in_length length d none no_window = record {
     base = w.base;
     day = inr d;
-    tanks = w.tanks;
-    minutes = w.minutes;
-    choices = rw none (table_none max_choices _ _ _);
-    masks = w.masks;
-    coefficients = w.coefficients;
+    choices = choices_on length none w.choices;
     terms = w.terms;
-    window_tanks = w.window_tanks;
-    window_froms = w.window_froms;
-    window_tos = w.window_tos;
-    windows = rw no_window (table_none max_windows _ _ _);
-    row_totals = w.row_totals;
-    row_entries = w.row_entries;
+    windows = windows_on length no_window w.windows;
     rows = w.rows;
     may_feed = w.may_feed;
   }
 
   -- other choices, where there is no row and no term
-  in_choices : {n : ℕ} {tanks minutes : List ℕ} → r.rows ≡ 0 → r.terms ≡ 0 → Column max_choices n 0 tanks → Column max_choices n 0 minutes → Choices r.day_length n (λ i. (get_or tanks i 0, get_or minutes i 0))
+  in_choices : {n : ℕ} {tanks minutes : List ℕ} → r.rows ≡ 0 → r.terms ≡ 0 → Choices r.day_length n tanks minutes
       → ((i : ℕ) → i < n → MayFeed r.windows (window_at r) (get_or tanks i 0) (get_or minutes i 0)) → Within (set_choices r n tanks minutes)
-  in_choices no_row_lem none a b c may = record {
+  in_choices no_row_lem none c may = record {
     base = w.base;
     day = w.day;
-    tanks = a;
-    minutes = b;
     choices = c;
-    masks = w.masks;
-    coefficients = w.coefficients;
-    terms = rw none (table_none max_terms _ _ _);
-    window_tanks = w.window_tanks;
-    window_froms = w.window_froms;
-    window_tos = w.window_tos;
+    terms = terms_over _ none w.terms;
     windows = w.windows;
-    row_totals = w.row_totals;
-    row_entries = w.row_entries;
-    rows = rw no_row_lem (rows_none _ _);
+    rows = rows_over _ no_row_lem w.rows;
     may_feed = may;
   }
 
-  in_terms : {m : ℕ} {masks : List ℕ} {coefficients : List ℤ} → Column max_terms m 0 masks → Column max_terms m (pos 0) coefficients → Terms r.choices m (λ t. (get_or masks t 0, get_or coefficients t (pos 0))) → Within (set_terms r m masks coefficients)
-  in_terms a b c = record {
-    base = w.base;
-    day = w.day;
-    tanks = w.tanks;
-    minutes = w.minutes;
-    choices = w.choices;
-    masks = a;
-    coefficients = b;
-    terms = c;
-    window_tanks = w.window_tanks;
-    window_froms = w.window_froms;
-    window_tos = w.window_tos;
-    windows = w.windows;
-    row_totals = w.row_totals;
-    row_entries = w.row_entries;
-    rows = w.rows;
-    may_feed = w.may_feed;
-  }
+  in_terms : {m : ℕ} {masks : List ℕ} {coefficients : List ℤ} → Terms r.choices m masks coefficients → Within (set_terms r m masks coefficients)
+  in_terms t = record { base = w.base; day = w.day; choices = w.choices; terms = t; windows = w.windows; rows = w.rows; may_feed = w.may_feed }
 
-  -- other windows, where there is no choice
-  in_windows : {k : ℕ} {tanks froms tos : List ℕ} → r.choices ≡ 0 → Column max_windows k 0 tanks → Column max_windows k 0 froms → Column max_windows k 0 tos
-      → Windows r.day_length k (λ j. (get_or tanks j 0, get_or froms j 0, get_or tos j 0)) → Within (set_windows r k tanks froms tos)
-  in_windows none a b c d = record {
-    base = w.base;
-    day = w.day;
-    tanks = w.tanks;
-    minutes = w.minutes;
-    choices = w.choices;
-    masks = w.masks;
-    coefficients = w.coefficients;
-    terms = w.terms;
-    window_tanks = a;
-    window_froms = b;
-    window_tos = c;
-    windows = d;
-    row_totals = w.row_totals;
-    row_entries = w.row_entries;
-    rows = w.rows;
-    may_feed = λ i l. absurd (omega arith);
-  }
+  -- other windows, in which each choice may be fed
+  pub in_windows : {k : ℕ} {tanks froms tos : List ℕ} → Windows r.day_length k tanks froms tos → let r' = set_windows r k tanks froms tos in
+      ((i : ℕ) → i < r.choices → MayFeed k (window_at r') (tank r i) (minute r i)) → Within r'
+  in_windows k may = record { base = w.base; day = w.day; choices = w.choices; terms = w.terms; windows = k; rows = w.rows; may_feed = may }
 
-  in_rows : {k : ℕ} {totals entries : List ℤ} → Column max_rows k (pos 0) totals → Column (max_rows * row_entries) (k * row_entries) (pos 0) entries
-      → Rows r.choices k (λ i. (get_or totals i (pos 0), λ j. get_or entries (i * row_entries + j) (pos 0))) → Within (set_rows r k totals entries)
-  in_rows a b c = record {
-    base = w.base;
-    day = w.day;
-    tanks = w.tanks;
-    minutes = w.minutes;
-    choices = w.choices;
-    masks = w.masks;
-    coefficients = w.coefficients;
-    terms = w.terms;
-    window_tanks = w.window_tanks;
-    window_froms = w.window_froms;
-    window_tos = w.window_tos;
-    windows = w.windows;
-    row_totals = a;
-    row_entries = b;
-    rows = c;
-    may_feed = w.may_feed;
-  }
+  pub in_rows : {k : ℕ} {totals entries : List ℤ} → Rows r.choices k totals entries → Within (set_rows r k totals entries)
+  in_rows q = record { base = w.base; day = w.day; choices = w.choices; terms = w.terms; windows = w.windows; rows = q; may_feed = w.may_feed }
 
 module _ (r : Register) where
   same_choices : {n : ℕ} {tanks minutes : List ℕ} → n ≡ r.choices → tanks ≡ r.tanks → minutes ≡ r.minutes → set_choices r n tanks minutes ≡ r
@@ -214,10 +146,10 @@ module _ (r : Register) (w : Within r) where
   unfolding fresh
   base_back d k c q t =
       ap (λ x. no_rows (no_windows (set_terms (set_choices (set_length r x) 0 (replicate max_choices 0) (replicate max_choices 0)) 0 (replicate max_terms 0) (replicate max_terms (pos 0))))) (sym d)
-      ∙ ap (λ x. no_rows (no_windows (set_terms x 0 (replicate max_terms 0) (replicate max_terms (pos 0))))) (same_choices r (sym c) (column_empty max_choices _ 0 _ c w.tanks) (column_empty max_choices _ 0 _ c w.minutes))
-      ∙ ap (λ x. no_rows (no_windows x)) (same_terms r (sym t) (column_empty max_terms _ 0 _ t w.masks) (column_empty max_terms _ (pos 0) _ t w.coefficients))
-      ∙ ap no_rows (same_windows r (sym k) (column_empty max_windows _ 0 _ k w.window_tanks) (column_empty max_windows _ 0 _ k w.window_froms) (column_empty max_windows _ 0 _ k w.window_tos))
-      ∙ same_rows r (sym q) (column_empty max_rows _ (pos 0) _ q w.row_totals) (column_empty (max_rows * row_entries) _ (pos 0) _ (omega arith) w.row_entries)
+      ∙ ap (λ x. no_rows (no_windows (set_terms x 0 (replicate max_terms 0) (replicate max_terms (pos 0))))) (same_choices r (sym c) (column_empty max_choices _ 0 _ c w.choices.tanks) (column_empty max_choices _ 0 _ c w.choices.minutes))
+      ∙ ap (λ x. no_rows (no_windows x)) (same_terms r (sym t) (column_empty max_terms _ 0 _ t w.terms.masks) (column_empty max_terms _ (pos 0) _ t w.terms.coefficients))
+      ∙ ap no_rows (same_windows r (sym k) (column_empty max_windows _ 0 _ k w.windows.tanks) (column_empty max_windows _ 0 _ k w.windows.froms) (column_empty max_windows _ 0 _ k w.windows.tos))
+      ∙ same_rows r (sym q) (column_empty max_rows _ (pos 0) _ q w.rows.totals) (column_empty (max_rows * row_entries) _ (pos 0) _ (omega arith) w.rows.entries)
 
 -- ---- choices: the entries of a register with one more, where there is no row and no term yet, and of one with one less
 
@@ -232,12 +164,15 @@ module _ (r : Register) (w : Within r) (t m : ℕ) where
   choice_kept i l = rw (kept_set r.tanks n t 0 i l, kept_set r.minutes n m 0 i l)
 
   pub choice_new : n < max_choices → choice_at (with_choice r t m) n ≡ (t, m)
-  choice_new l = rw (get_or-set_same r.tanks n t 0 (omega (arith, w.tanks.room)), get_or-set_same r.minutes n m 0 (omega (arith, w.minutes.room)))
+  choice_new l = rw (get_or-set_same r.tanks n t 0 (omega (arith, w.choices.tanks.room)), get_or-set_same r.minutes n m 0 (omega (arith, w.choices.minutes.room)))
 
   pub choice_more : r.rows ≡ 0 → r.terms ≡ 0 → NextChoice r.day_length n (tank r (n - 1)) (minute r (n - 1)) t m → MayFeed r.windows (window_at r) t m → Within (with_choice r t m)
   choice_more no_row_lem none p may =
-      in_choices r w no_row_lem none (column_more t w.tanks) (column_more m w.minutes)
-      (table_more (choice_at r) (choice_at (with_choice r t m)) n (t, m) choice_kept (choice_new p.few) w.choices p)
+      in_choices r w no_row_lem none (record {
+        tanks = column_more t w.choices.tanks;
+        minutes = column_more m w.choices.minutes;
+        table = table_more (choice_at r) (choice_at (with_choice r t m)) n (t, m) choice_kept (choice_new p.few) w.choices.table p;
+      })
       (each_more (choice_at r) (choice_at (with_choice r t m)) n (t, m) choice_kept (choice_new p.few) (λ c. MayFeed r.windows (window_at r) c.0 c.1) w.may_feed may)
 
 -- without its last choice
@@ -256,9 +191,9 @@ module _ (r : Register) (w : Within r) (n : ℕ) (e : r.choices ≡ suc n) where
 
   pub choice_next : r.rows ≡ 0 → r.terms ≡ 0 → Within (less_choice r n) × NextChoice r.day_length n (tank (less_choice r n) (n - 1)) (minute (less_choice r n) (n - 1)) (tank r n) (minute r n) × MayFeed r.windows (window_at r) (tank r n) (minute r n)
   choice_next no_row_lem none =
-      let (t, p) = table_less (choice_at (less_choice r n)) (choice_at r) n (choice_at r n) choice_less refl (rw e at w.choices) in
+      let (t, p) = table_less (choice_at (less_choice r n)) (choice_at r) n (choice_at r n) choice_less refl (rw e at w.choices.table) in
       let may : (i : ℕ) → i < n → MayFeed r.windows (window_at r) (tank (less_choice r n) i) (minute (less_choice r n) i) = λ i l. subst (λ c. MayFeed r.windows (window_at r) c.0 c.1) (choice_less i l) (w.may_feed i (omega arith)) in
-      (in_choices r w no_row_lem none (column_less few (rw e at w.tanks)) (column_less few (rw e at w.minutes)) t may, p, w.may_feed n (omega arith))
+      (in_choices r w no_row_lem none (record { tanks = column_less few (rw e at w.choices.tanks); minutes = column_less few (rw e at w.choices.minutes); table = t }) may, p, w.may_feed n (omega arith))
 
 -- ---- terms
 
@@ -273,12 +208,15 @@ module _ (r : Register) (w : Within r) (m : ℕ) (z : ℤ) where
   term_kept t l = rw (kept_set r.masks k m 0 t l, kept_set r.coefficients k z (pos 0) t l)
 
   pub term_new : k < max_terms → term_at (with_term r m z) k ≡ (m, z)
-  term_new l = rw (get_or-set_same r.masks k m 0 (omega (arith, w.masks.room)), get_or-set_same r.coefficients k z (pos 0) (omega (arith, w.coefficients.room)))
+  term_new l = rw (get_or-set_same r.masks k m 0 (omega (arith, w.terms.masks.room)), get_or-set_same r.coefficients k z (pos 0) (omega (arith, w.terms.coefficients.room)))
 
   pub term_more : NextTerm r.choices k (term_at r (k - 1)) m z → Within (with_term r m z)
   term_more p =
-      in_terms r w (column_more m w.masks) (column_more z w.coefficients)
-      (table_more (term_at r) (term_at (with_term r m z)) k (m, z) term_kept (term_new p.few) w.terms p)
+      in_terms r w (record {
+        masks = column_more m w.terms.masks;
+        coefficients = column_more z w.terms.coefficients;
+        table = table_more (term_at r) (term_at (with_term r m z)) k (m, z) term_kept (term_new p.few) w.terms.table p;
+      })
 
 -- without its last term
 abbrev pub less_term : Register → ℕ → Register
@@ -296,8 +234,8 @@ module _ (r : Register) (w : Within r) (k : ℕ) (e : r.terms ≡ suc k) where
 
   pub term_next : Within (less_term r k) × NextTerm r.choices k (term_at (less_term r k) (k - 1)) (mask r k) (coefficient r k)
   term_next =
-      let (t, p) = table_less (term_at (less_term r k)) (term_at r) k (term_at r k) term_less refl (rw e at w.terms) in
-      (in_terms r w (column_less some (rw e at w.masks)) (column_less some (rw e at w.coefficients)) t, p)
+      let (t, p) = table_less (term_at (less_term r k)) (term_at r) k (term_at r k) term_less refl (rw e at w.terms.table) in
+      (in_terms r w (record { masks = column_less some (rw e at w.terms.masks); coefficients = column_less some (rw e at w.terms.coefficients); table = t }), p)
 
 -- ---- windows: the entries of a register with one more, where there is no choice yet, and of one with one less
 
@@ -311,15 +249,19 @@ module _ (r : Register) (w : Within r) (t f o : ℕ) where
   pub window_new : h < max_windows → window_at (with_window r t f o) h ≡ (t, f, o)
   window_new l =
       rw (
-        get_or-set_same r.window_tanks h t 0 (omega (arith, w.window_tanks.room)),
-        get_or-set_same r.window_froms h f 0 (omega (arith, w.window_froms.room)),
-        get_or-set_same r.window_tos h o 0 (omega (arith, w.window_tos.room)),
+        get_or-set_same r.window_tanks h t 0 (omega (arith, w.windows.tanks.room)),
+        get_or-set_same r.window_froms h f 0 (omega (arith, w.windows.froms.room)),
+        get_or-set_same r.window_tos h o 0 (omega (arith, w.windows.tos.room)),
       )
 
   pub window_more : r.choices ≡ 0 → NextWindow r.day_length h (window_at r (h - 1)) t f o → Within (with_window r t f o)
   window_more none p =
-      in_windows r w none (column_more t w.window_tanks) (column_more f w.window_froms) (column_more o w.window_tos)
-      (table_more (window_at r) (window_at (with_window r t f o)) h (t, f, o) window_kept (window_new p.few) w.windows p)
+      in_windows r w (record {
+        tanks = column_more t w.windows.tanks;
+        froms = column_more f w.windows.froms;
+        tos = column_more o w.windows.tos;
+        table = table_more (window_at r) (window_at (with_window r t f o)) h (t, f, o) window_kept (window_new p.few) w.windows.table p;
+      }) (λ i l. absurd (omega arith))
 
 -- without its last window
 abbrev pub less_window : Register → ℕ → Register
@@ -337,8 +279,11 @@ module _ (r : Register) (w : Within r) (k : ℕ) (e : r.windows ≡ suc k) where
 
   pub window_next : r.choices ≡ 0 → Within (less_window r k) × NextWindow r.day_length k (window_at (less_window r k) (k - 1)) (window_tank r k) (window_from r k) (window_to r k)
   window_next none =
-      let (t, p) = table_less (window_at (less_window r k)) (window_at r) k (window_at r k) window_less refl (rw e at w.windows) in
-      (in_windows r w none (column_less fits (rw e at w.window_tanks)) (column_less fits (rw e at w.window_froms)) (column_less fits (rw e at w.window_tos)) t, p)
+      let (t, p) = table_less (window_at (less_window r k)) (window_at r) k (window_at r k) window_less refl (rw e at w.windows.table) in (
+        in_windows r w (record { tanks = column_less fits (rw e at w.windows.tanks); froms = column_less fits (rw e at w.windows.froms); tos = column_less fits (rw e at w.windows.tos); table = t })
+            (λ i l. absurd (omega arith)),
+        p,
+      )
 
 -- ---- rows: the entries of a register with one more, and of one with one less
 
@@ -363,13 +308,13 @@ module _ (r : Register) (w : Within r) (b : ℤ) (es : List ℤ) (long : length 
   entry_kept i j l h = sets_other (pos 0) es r.row_entries (q * row_entries) (i * row_entries + j) (inl (omega arith))
 
   entry_new : q < max_rows → (j : ℕ) → j < row_entries → row_entry (with_row r b es) q j ≡ get_or es j (pos 0)
-  entry_new l j h = sets_in (pos 0) es r.row_entries (q * row_entries) j (omega arith) (omega (arith, w.row_entries.room))
+  entry_new l j h = sets_in (pos 0) es r.row_entries (q * row_entries) j (omega arith) (omega (arith, w.rows.entries.room))
 
   total_kept : (i : ℕ) → i < q → row_total (with_row r b es) i ≡ row_total r i
   total_kept i l = kept_set r.row_totals q b (pos 0) i l
 
   total_new : q < max_rows → row_total (with_row r b es) q ≡ b
-  total_new l = get_or-set_same r.row_totals q b (pos 0) (omega (arith, w.row_totals.room))
+  total_new l = get_or-set_same r.row_totals q b (pos 0) (omega (arith, w.rows.totals.room))
 
   pub row_kept : (i : ℕ) → i < q → row_said (with_row r b es) i ≡ row_said r i
   row_kept i l = rw (total_kept i l, join_cong row_entries _ _ (λ j h. ap (λ x. x ∷ []) (entry_kept i j l h)))
@@ -379,8 +324,9 @@ module _ (r : Register) (w : Within r) (b : ℤ) (es : List ℤ) (long : length 
 
   pub row_more : NextRow r.choices q b (λ j. get_or es j (pos 0)) → Within (with_row r b es)
   row_more p =
-      in_rows r w (column_more b w.row_totals) (column_block es (omega arith) w.row_entries)
-      (record {
+      in_rows r w (record {
+        totals = column_more b w.rows.totals;
+        entries = column_block es (omega arith) w.rows.entries;
         few = p.few;
         each = λ i l.
             ⊎_elim
@@ -407,15 +353,16 @@ module _ (r : Register) (w : Within r) (k : ℕ) (e : r.rows ≡ suc k) where
   row_less i l = rw (← total_less i l) (ap (λ es. (row_total r i, es)) (join_cong row_entries _ _ (λ j h. ap (λ x. x ∷ []) (entry_less i j l h))))
 
   pub row_back : with_row (less_row r k) (row_total r k) (row_list r k) ≡ r
-  row_back = same_rows r (sym e) (set_back r.row_totals k (pos 0)) (sets_back (pos 0) r.row_entries (k * row_entries) row_entries (omega (arith, enough, w.row_entries.room)))
+  row_back = same_rows r (sym e) (set_back r.row_totals k (pos 0)) (sets_back (pos 0) r.row_entries (k * row_entries) row_entries (omega (arith, enough, w.rows.entries.room)))
 
   pub row_next : Within (less_row r k) × NextRow r.choices k (row_total r k) (λ j. get_or (row_list r k) j (pos 0))
   row_next = (
-    in_rows r w (column_less enough (rw e at w.row_totals)) (column_unblock row_entries (omega (arith, enough)) (omega arith) (rw e at w.row_entries))
-        (record {
-          few = omega (arith, enough);
-          each = λ i l. same_row (sym (total_less i l)) (λ j h. sym (entry_less i j l h)) (w.rows.each i (omega arith));
-        }),
+    in_rows r w (record {
+      totals = column_less enough (rw e at w.rows.totals);
+      entries = column_unblock row_entries (omega (arith, enough)) (omega arith) (rw e at w.rows.entries);
+      few = omega (arith, enough);
+      each = λ i l. same_row (sym (total_less i l)) (λ j h. sym (entry_less i j l h)) (w.rows.each i (omega arith));
+    }),
     record { few = enough; fits = same_row refl (λ j h. ones_at (row_entry r k) row_entries j (pos 0) h) (w.rows.each k (omega arith)) },
   )
 

@@ -56,7 +56,7 @@ abbrev pub Done : Type 0 → Register → List Command → Type 0
 Done = Ends Valid HeaderWhere kinds end_command
 
 -- a command that does not stand first follows the commands of a register
-followed : {B : Type 0} {r : Register} {cs : List Command} (bs : List ℕ) → is_among 0 bs ≡ false → is_among (last_from 0 cs) bs ≡ true → Good B r cs → DayLength r.day_length × Body B r cs
+pub followed : {B : Type 0} {r : Register} {cs : List Command} (bs : List ℕ) → is_among 0 bs ≡ false → is_among (last_from 0 cs) bs ≡ true → Good B r cs → DayLength r.day_length × Body B r cs
 followed bs f e g = ⊎_elim (λ h. absurd (false≢true (sym f ∙ rw h.1 at e))) (λ b. b) g.body
 
 -- a header without `18`, and with it
@@ -78,7 +78,7 @@ base_byte r o = rw o.whole o.form.0
 length_byte : {B : Type 0} (r : Register) {cs : List Command} → Header18 B r cs → last_from 0 cs ≡ 0x18
 length_byte r l = ap (last_from 0) l.whole ∙ last_from_one 0 l.front l.last ∙ l.form.0
 
-header_stands : (B : Type 0) (r : Register) {cs : List Command} → HeaderWhere B r cs → Among (last_from 0 cs) (0x10 ∷ 0x18 ∷ [])
+pub header_stands : (B : Type 0) (r : Register) {cs : List Command} → HeaderWhere B r cs → Among (last_from 0 cs) (0x10 ∷ 0x18 ∷ [])
 header_stands B r h = ⊎_elim (λ b. inl (base_byte r b.1)) (λ l. inr (inl (length_byte r l))) (header_by r h)
 
 -- ---- each row keeps it
@@ -89,7 +89,7 @@ module _ (B : Type 0) where
   abbrev after_windows : List (Kind Register)
   after_windows = under_all B (choice_kind ∷ row_kind ∷ term_kind ∷ [])
 
-  abbrev after_choices : List (Kind Register)
+  abbrev pub after_choices : List (Kind Register)
   after_choices = under_all B (row_kind ∷ term_kind ∷ [])
 
   abbrev after_rows : List (Kind Register)
@@ -97,10 +97,10 @@ module _ (B : Type 0) where
 
   -- up to the windows, to the choices, and to the rows
 
-  abbrev ToWindows : Register → List Command → Type 0
+  abbrev pub ToWindows : Register → List Command → Type 0
   ToWindows r = Entries (HeaderWhere B r) r (under B window_kind)
 
-  abbrev ToChoices : Register → List Command → Type 0
+  abbrev pub ToChoices : Register → List Command → Type 0
   ToChoices r = Entries (ToWindows r) r (under B choice_kind)
 
   abbrev ToRows : Register → List Command → Type 0

@@ -1,6 +1,7 @@
 pub mod Example
 pub mod Worked
 pub mod Answers
+pub mod Order
 pub mod Passes
 pub mod MayFeed
 pub mod Entries
@@ -9,11 +10,13 @@ pub mod Passed
 pub mod Laws
 pub mod Accept
 pub mod Canonical
+pub mod Outside
 pub mod Lowest
 pub mod Opened
 pub mod Prefix
 pub mod Position
 pub mod DayLengths
 pub mod BeforeRows
+pub mod SaysRow
 pub mod BeforeLengths
 pub mod BeforeWindows

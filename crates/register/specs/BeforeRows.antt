@@ -10,7 +10,7 @@ use Rattle.register.specs.Format.{base_row, choice_row, term_row, window_row, le
 
 -- a row of today, with what it followed and its checks as they were
 abbrev pub row_before : Row Register → List ℕ → (Register → List ℕ → List Check) → Row Register
-row_before row follows checks = record { byte = row.byte; follows = follows; widths = row.widths; checks = checks; after = row.after; last = row.last }
+row_before row follows checks = record row { follows = follows; checks = checks }
 
 abbrev pub term_row_before_rows : Row Register
 term_row_before_rows = row_before term_row (0x10 ∷ 0x11 ∷ 0x12 ∷ 0x13 ∷ 0x18 ∷ []) term_row.checks

@@ -1,7 +1,7 @@
 -- The register's bytes: `10` base cost, `18` day length, which may be missing where it is the usual one, `13` for each window, `11`
 -- for each choice, `14` for each row, `12` for each term, `1F`. Written without the reader: of the part's rows only the widths of
--- operands are used. `SaysRow` alone, below, uses a reader, as it was before there were rows.
-use Rattle.std.specs.Prelude.{ℕ, ◌≡◌, true, cond, map, eqb, ℤ, get_or}
+-- operands are used. `SaysRow` alone, below, uses a reader, as it was before there were rows, and what a `14` may stand after.
+use Rattle.std.specs.Prelude.{ℕ, ◌≡◌, ◌<◌, Bool, true, cond, map, eqb, ℤ, length, get_or}
 use mathlib.Core.List.{List, [], ◌∷◌, ◌++◌, flat_map}
 use Rattle.std.specs.Int.{w8, w16, w32}
 use Rattle.std.proofs.Common.{of_z}
@@ -11,11 +11,11 @@ use Rattle.wire.specs.Encoding.{Command}
 use Rattle.wire.specs.Grammar.{Only, Optional, Then, Kind, Kinds}
 use Rattle.wire.specs.Grammar as G
 use Rattle.wire.specs.Walk.{comes_to}
-use Rattle.wire.specs.Rows.{is_among}
+use Rattle.wire.specs.Rows.{Progress, is_among}
 use Rattle.register.specs.declared.Register.{Register}
 use Rattle.register.specs.Limits.{usual_day, row_entries}
 use Rattle.register.specs.Register.{tank, minute, mask, coefficient, window_tank, window_from, window_to, row_total, row_entry}
-use Rattle.register.specs.Format.{register_part}
+use Rattle.register.specs.Format.{row_row, register_part}
 use Rattle.register.specs.BeforeRows.{part_before_rows}
 
 -- ---- an encoding: header, each window, choice, row and term in one of its forms, end
@@ -135,6 +135,12 @@ encode_without_length r = encode_after (encode_base r.base) r
 unfoldable pub encode_register : Register → List ℕ
 encode_register r = cond (eqb r.day_length usual_day) (encode_without_length r) (encode_with_length r)
 
+-- a byte with this value stands in a run of bytes
+pub record HasByte (b : ℕ) (s : List ℕ) : Type 0 where
+  pub at : ℕ
+  pub there : at < length s
+  pub is : get_or s at 0 ≡ b
+
 -- ---- the day length in bytes
 
 -- an `18` stands directly after `10`, which takes five bytes
@@ -147,7 +153,12 @@ length_in s = cond (eqb (get_or s 5 0) 0x18) (nat_at 2 s 6) usual_day
 
 -- ---- rows in bytes
 
--- reading as before there were rows, which refuses each `14` with 1, comes to one directly after `10`, `11`, `13` or `18`. It comes
--- to none past a byte that is no command, nor past a command that it refuses
+-- a `14` may stand directly after what has been read
+abbrev pub row_may_stand : Progress Register → Bool
+row_may_stand p = is_among p.previous row_row.follows
+
+-- reading as before there were rows, which refuses each `14` with 1, comes to one where it may stand. It comes to none past a byte that
+-- is no command, nor past a command that it refuses. Bytes without a byte `14` say none, and an accepted register has rows just where
+-- its bytes say one (`row_byte` and `says_row` in soundness/specs/Rows)
 abbrev pub SaysRow : List ℕ → Type 0
-SaysRow s = comes_to part_before_rows (λ p. is_among p.previous (0x10 ∷ 0x11 ∷ 0x13 ∷ 0x18 ∷ [])) 0x14 s ≡ true
+SaysRow s = comes_to part_before_rows row_may_stand 0x14 s ≡ true

@@ -69,118 +69,22 @@ fresh = record {
 -- the rows
 
 abbrev pub set_base : Register → ℤ → Register
-set_base r base = record {
-  base = base;
-  day_length = r.day_length;
-  choices = r.choices;
-  terms = r.terms;
-  tanks = r.tanks;
-  minutes = r.minutes;
-  masks = r.masks;
-  coefficients = r.coefficients;
-  windows = r.windows;
-  window_tanks = r.window_tanks;
-  window_froms = r.window_froms;
-  window_tos = r.window_tos;
-  rows = r.rows;
-  row_totals = r.row_totals;
-  row_entries = r.row_entries;
-}
+set_base r base = record r { base = base }
 
 abbrev pub set_length : Register → ℕ → Register
-set_length r length = record {
-  base = r.base;
-  day_length = length;
-  choices = r.choices;
-  terms = r.terms;
-  tanks = r.tanks;
-  minutes = r.minutes;
-  masks = r.masks;
-  coefficients = r.coefficients;
-  windows = r.windows;
-  window_tanks = r.window_tanks;
-  window_froms = r.window_froms;
-  window_tos = r.window_tos;
-  rows = r.rows;
-  row_totals = r.row_totals;
-  row_entries = r.row_entries;
-}
+set_length r length = record r { day_length = length }
 
 abbrev pub set_choices : Register → ℕ → (tanks minutes : List ℕ) → Register
-set_choices r n tanks minutes = record {
-  base = r.base;
-  day_length = r.day_length;
-  choices = n;
-  terms = r.terms;
-  tanks = tanks;
-  minutes = minutes;
-  masks = r.masks;
-  coefficients = r.coefficients;
-  windows = r.windows;
-  window_tanks = r.window_tanks;
-  window_froms = r.window_froms;
-  window_tos = r.window_tos;
-  rows = r.rows;
-  row_totals = r.row_totals;
-  row_entries = r.row_entries;
-}
+set_choices r n tanks minutes = record r { choices = n; tanks = tanks; minutes = minutes }
 
 abbrev pub set_terms : Register → ℕ → List ℕ → List ℤ → Register
-set_terms r m masks coefficients = record {
-  base = r.base;
-  day_length = r.day_length;
-  choices = r.choices;
-  terms = m;
-  tanks = r.tanks;
-  minutes = r.minutes;
-  masks = masks;
-  coefficients = coefficients;
-  windows = r.windows;
-  window_tanks = r.window_tanks;
-  window_froms = r.window_froms;
-  window_tos = r.window_tos;
-  rows = r.rows;
-  row_totals = r.row_totals;
-  row_entries = r.row_entries;
-}
+set_terms r m masks coefficients = record r { terms = m; masks = masks; coefficients = coefficients }
 
 abbrev pub set_windows : Register → ℕ → (tanks froms tos : List ℕ) → Register
-set_windows r k tanks froms tos = record {
-  base = r.base;
-  day_length = r.day_length;
-  choices = r.choices;
-  terms = r.terms;
-  tanks = r.tanks;
-  minutes = r.minutes;
-  masks = r.masks;
-  coefficients = r.coefficients;
-  windows = k;
-  window_tanks = tanks;
-  window_froms = froms;
-  window_tos = tos;
-  rows = r.rows;
-  row_totals = r.row_totals;
-  row_entries = r.row_entries;
-}
+set_windows r k tanks froms tos = record r { windows = k; window_tanks = tanks; window_froms = froms; window_tos = tos }
 
 abbrev pub set_rows : Register → ℕ → (totals entries : List ℤ) → Register
-set_rows r k totals entries = record {
-  base = r.base;
-  day_length = r.day_length;
-  choices = r.choices;
-  terms = r.terms;
-  tanks = r.tanks;
-  minutes = r.minutes;
-  masks = r.masks;
-  coefficients = r.coefficients;
-  windows = r.windows;
-  window_tanks = r.window_tanks;
-  window_froms = r.window_froms;
-  window_tos = r.window_tos;
-  rows = k;
-  row_totals = totals;
-  row_entries = entries;
-}
+set_rows r k totals entries = record r { rows = k; row_totals = totals; row_entries = entries }
 
 -- ---- what a command gives
 

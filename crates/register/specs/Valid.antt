@@ -1,11 +1,11 @@
 -- The conditions of the scope paper, of R-1, of R-4 and of R-5 on a register: counts, ranges, names, orders, windows, rows and the
 -- day's length.
 -- Written without the reader.
-use Rattle.std.specs.Prelude.{ℕ, ◌^◌, ◌<◌, ◌≤◌, ◌≡◌, ◌⊎◌, ◌*◌, ℤ, pos, nat_abs, ◌≤ℤ◌}
+use Rattle.std.specs.Prelude.{ℕ, ◌^◌, ◌<◌, ◌≤◌, ◌≡◌, ◌⊎◌, ◌*◌, ℤ, pos, nat_abs, ◌≤ℤ◌, List, get_or}
 use Rattle.integers.specs.Lists.{Column, Table}
 use Rattle.register.specs.declared.Register.{Register}
 use Rattle.register.specs.Limits.{max_choices, max_terms, max_windows, max_rows, row_entries, max_row_total, lowest_entry, highest_entry, max_base, max_tank, max_coefficient, short_day, usual_day, long_day}
-use Rattle.register.specs.Register.{tank, minute, mask, coefficient, window_tank, window_from, window_to, row_total, row_entry}
+use Rattle.register.specs.Register.{tank, minute, total_in, entry_in}
 
 -- a day has 1,380, 1,440 or 1,500 minutes
 abbrev pub DayLength : ℕ → Type 0
@@ -48,22 +48,45 @@ pub record FeedingRow (n : ℕ) (total : ℤ) (entry : ℕ → ℤ) : Type 0 whe
   pub entry_below : (j : ℕ) → j < row_entries → entry j ≤ℤ highest_entry
   pub past_0 : (j : ℕ) → n ≤ j → j < row_entries → entry j ≡ pos 0
 
--- up to 32 choices, each in its ranges, rising
-abbrev pub Choices : (length n : ℕ) → (ℕ → ℕ × ℕ) → Type 0
-Choices length n f = Table max_choices n f (λ c. Choice length c.0 c.1) Before
+-- entry i of several arrays: a choice, a term, a window
 
--- up to 256 terms over n choices, masks rising
-abbrev pub Terms : (n m : ℕ) → (ℕ → ℕ × ℤ) → Type 0
-Terms n m f = Table max_terms m f (λ c. Term n c.0 c.1) Rises
+abbrev pub choice_in : (ts ms : List ℕ) → ℕ → ℕ × ℕ
+choice_in ts ms i = (get_or ts i 0, get_or ms i 0)
 
--- up to 64 windows (tank, from, to), each in its ranges, rising
-abbrev pub Windows : (length k : ℕ) → (ℕ → ℕ × ℕ × ℕ) → Type 0
-Windows length k f = Table max_windows k f (λ c. Window length c.0 c.1 c.2) (λ c d. Before (c.0, c.1) (d.0, d.1))
+abbrev pub term_in : List ℕ → List ℤ → ℕ → ℕ × ℤ
+term_in ms cs i = (get_or ms i 0, get_or cs i (pos 0))
 
--- up to 8 rows over n choices (total, entries), each in its ranges, in any order
-pub record Rows (n k : ℕ) (f : ℕ → ℤ × (ℕ → ℤ)) : Type 0 where
+abbrev pub window_in : (ts fs os : List ℕ) → ℕ → ℕ × ℕ × ℕ
+window_in ts fs os i = (get_or ts i 0, get_or fs i 0, get_or os i 0)
+
+-- up to 32 choices, each in its ranges, rising; ts and ms are the arrays of their tanks and minutes
+pub record Choices (length n : ℕ) (ts ms : List ℕ) : Type 0 where
+  pub tanks : Column max_choices n 0 ts
+  pub minutes : Column max_choices n 0 ms
+  pub table : Table max_choices n (choice_in ts ms) (λ c. Choice length c.0 c.1) Before
+  pub open table use *
+
+-- up to 256 terms over n choices, masks rising; ms and cs are the arrays of their masks and coefficients
+pub record Terms (n m : ℕ) (ms : List ℕ) (cs : List ℤ) : Type 0 where
+  pub masks : Column max_terms m 0 ms
+  pub coefficients : Column max_terms m (pos 0) cs
+  pub table : Table max_terms m (term_in ms cs) (λ c. Term n c.0 c.1) Rises
+  pub open table use *
+
+-- up to 64 windows (tank, from, to), each in its ranges, rising; ts, fs and os are the arrays of the three
+pub record Windows (length k : ℕ) (ts fs os : List ℕ) : Type 0 where
+  pub tanks : Column max_windows k 0 ts
+  pub froms : Column max_windows k 0 fs
+  pub tos : Column max_windows k 0 os
+  pub table : Table max_windows k (window_in ts fs os) (λ c. Window length c.0 c.1 c.2) (λ c d. Before (c.0, c.1) (d.0, d.1))
+  pub open table use *
+
+-- up to 8 rows over n choices, each in its ranges, in any order; bs and es are the arrays of their totals and entries
+pub record Rows (n k : ℕ) (bs es : List ℤ) : Type 0 where
+  pub totals : Column max_rows k (pos 0) bs
+  pub entries : Column (max_rows * row_entries) (k * row_entries) (pos 0) es
   pub few : k ≤ max_rows
-  pub each : (i : ℕ) → i < k → FeedingRow n (f i).0 (f i).1
+  pub each : (i : ℕ) → i < k → FeedingRow n (total_in bs i) (entry_in es i)
 
 -- one of the tank's windows among k holds the minute: "from" ≤ minute < "to"
 pub record Inside (k : ℕ) (f : ℕ → ℕ × ℕ × ℕ) (tank minute : ℕ) : Type 0 where
@@ -79,30 +102,17 @@ MayFeed k f tank minute = ((j : ℕ) → j < k → (f j).0 ≡ tank → ⊥) ⊎
 
 -- window j of a register
 abbrev pub window_at : Register → ℕ → ℕ × ℕ × ℕ
-window_at r j = (window_tank r j, window_from r j, window_to r j)
-
--- row k of a register
-abbrev pub row_at : Register → ℕ → ℤ × (ℕ → ℤ)
-row_at r k = (row_total r k, row_entry r k)
+window_at r j = window_in r.window_tanks r.window_froms r.window_tos j
 
 -- within the limits, as far as commands other than the end say; entries past the counts are 0
 pub record Within (r : Register) : Type 0 where
   pub base : nat_abs r.base ≤ max_base
   -- 0 before the first command
   pub day : (r.day_length ≡ 0) ⊎ DayLength r.day_length
-  pub tanks : Column max_choices r.choices 0 r.tanks
-  pub minutes : Column max_choices r.choices 0 r.minutes
-  pub choices : Choices r.day_length r.choices (λ i. (tank r i, minute r i))
-  pub masks : Column max_terms r.terms 0 r.masks
-  pub coefficients : Column max_terms r.terms (pos 0) r.coefficients
-  pub terms : Terms r.choices r.terms (λ t. (mask r t, coefficient r t))
-  pub window_tanks : Column max_windows r.windows 0 r.window_tanks
-  pub window_froms : Column max_windows r.windows 0 r.window_froms
-  pub window_tos : Column max_windows r.windows 0 r.window_tos
-  pub windows : Windows r.day_length r.windows (window_at r)
-  pub row_totals : Column max_rows r.rows (pos 0) r.row_totals
-  pub row_entries : Column (max_rows * row_entries) (r.rows * row_entries) (pos 0) r.row_entries
-  pub rows : Rows r.choices r.rows (row_at r)
+  pub choices : Choices r.day_length r.choices r.tanks r.minutes
+  pub terms : Terms r.choices r.terms r.masks r.coefficients
+  pub windows : Windows r.day_length r.windows r.window_tanks r.window_froms r.window_tos
+  pub rows : Rows r.choices r.rows r.row_totals r.row_entries
   -- each choice's tank may be fed at its minute
   pub may_feed : (i : ℕ) → i < r.choices → MayFeed r.windows (window_at r) (tank r i) (minute r i)
 

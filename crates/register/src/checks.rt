@@ -137,18 +137,32 @@ fn stands_after(previous: u8, command: u8) -> bool
     }
 }
 
+// How many bytes each command has: its own byte and its operands.
+
+pub const BASE_SIZE: usize = 1 + 4;
+
+pub const CHOICE_SIZE: usize = 1 + 2 + 2;
+
+pub const TERM_SIZE: usize = 1 + 4 + 4;
+
+pub const WINDOW_SIZE: usize = 1 + 2 + 2 + 2;
+
+pub const ROW_SIZE: usize = 1 + 2 + Register::ROW_ENTRIES;
+
+pub const LENGTH_SIZE: usize = 1 + 2;
+
 // The bytes of a command.
 #[tactic(auto, unfolding(wire::specs::Rows::row_of, wire::specs::Part::total))]
 pub fn command_size(command: u8) -> usize
     ensures { result ≡ size register_part command }
 {
     match command {
-        0x10 => 5,
-        0x11 => 5,
-        0x12 => 9,
-        0x13 => 7,
-        0x14 => 35,
-        0x18 => 3,
+        0x10 => BASE_SIZE,
+        0x11 => CHOICE_SIZE,
+        0x12 => TERM_SIZE,
+        0x13 => WINDOW_SIZE,
+        0x14 => ROW_SIZE,
+        0x18 => LENGTH_SIZE,
         _ => 1,
     }
 }

@@ -16,7 +16,7 @@ ghost use Rattle.register.specs.Format.{register_in_job, register_by_itself};
 ghost use Rattle.register.specs.Opening.{open_register};
 ghost use Rattle.register.specs.Answer.{register_answer};
 
-use checks::refusal_at;
+use checks::{BASE_SIZE, CHOICE_SIZE, LENGTH_SIZE, ROW_SIZE, TERM_SIZE, WINDOW_SIZE, refusal_at};
 use rows::put_entries;
 use windows::pass_windows;
 use wire::{Fault, FromBytes, Read, Refusal, Refused, by_itself};
@@ -146,7 +146,7 @@ pub fn read_register(bytes: &[u8]) -> Result<Read<Register>, Refused>
                 register.base = i32::read(bytes, at + 1);
                 register.day_length = Register::USUAL_DAY;
                 previous = 0x10;
-                at += 5;
+                at += BASE_SIZE;
             }
             0x11 => {
                 let n = register.choices;
@@ -156,7 +156,7 @@ pub fn read_register(bytes: &[u8]) -> Result<Read<Register>, Refused>
                 register.choices = n + 1;
                 passed = pass_windows(&register, passed, tank);
                 previous = 0x11;
-                at += 5;
+                at += CHOICE_SIZE;
             }
             0x12 => {
                 let m = register.terms;
@@ -164,7 +164,7 @@ pub fn read_register(bytes: &[u8]) -> Result<Read<Register>, Refused>
                 register.coefficients[m] = i32::read(bytes, at + 1 + 4);
                 register.terms = m + 1;
                 previous = 0x12;
-                at += 9;
+                at += TERM_SIZE;
             }
             0x13 => {
                 let k = register.windows;
@@ -173,7 +173,7 @@ pub fn read_register(bytes: &[u8]) -> Result<Read<Register>, Refused>
                 register.window_tos[k] = u16::read(bytes, at + 1 + 2 + 2);
                 register.windows = k + 1;
                 previous = 0x13;
-                at += 7;
+                at += WINDOW_SIZE;
             }
             0x14 => {
                 let row = register.rows;
@@ -186,12 +186,12 @@ pub fn read_register(bytes: &[u8]) -> Result<Read<Register>, Refused>
                 );
                 register.rows = row + 1;
                 previous = 0x14;
-                at += 35;
+                at += ROW_SIZE;
             }
             0x18 => {
                 register.day_length = u16::read(bytes, at + 1);
                 previous = 0x18;
-                at += 3;
+                at += LENGTH_SIZE;
             }
             _ => {
                 return Ok(Read {

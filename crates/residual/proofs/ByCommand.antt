@@ -31,7 +31,7 @@ use Rattle.residual.proofs.RowBounds.{R_small}
 use Rattle.residual.proofs.Subtracted.{less_all}
 
 -- one term more
-sum_over_more : {A : Type 0} (l : List A) (x : A) (f : A → ℤ) → sum_over (l ++ (x ∷ [])) f ≡ sum_over l f +ℤ f x
+pub sum_over_more : {A : Type 0} (l : List A) (x : A) (f : A → ℤ) → sum_over (l ++ (x ∷ [])) f ≡ sum_over l f +ℤ f x
 unfolding sum_over
 sum_over_more l x f = sum_over-append l (x ∷ []) f ∙ ap (λ y. sum_over l f +ℤ y) (+ℤ_idr (f x))
 

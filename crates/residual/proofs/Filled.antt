@@ -118,22 +118,27 @@ pub record Holding (reg : Register) (sch : Scheme) (s : List ℕ) (t₀ t : Squa
   pub same_side : t.side ≡ t₀.side
   pub filled : Filled reg sch s t₀.numbers.now t.numbers.now at
 
-module _ {reg : Register} {sch : Scheme} {s : List ℕ} (h : Ready reg sch s) {t₀ t : SquareTable} {at : ℕ} (is_side : t₀.side ≡ side reg.choices sch) (l : table_numbers ≤ length t₀.numbers.now)
-    (k : Holding reg sch s t₀ t at) where
+-- of the start: the table has the side of the certificate's register and scheme, and room for their numbers
+pub record Begun (reg : Register) (sch : Scheme) (s : List ℕ) (t₀ : SquareTable) : Type 0 where
+  pub ready : Ready reg sch s
+  pub is_side : t₀.side ≡ side reg.choices sch
+  pub long : table_numbers ≤ length t₀.numbers.now
+
+module _ {reg : Register} {sch : Scheme} {s : List ℕ} {t₀ t : SquareTable} {at : ℕ} (b : Begun reg sch s t₀) (k : Holding reg sch s t₀ t at) where
   pub side_is : t.side ≡ side reg.choices sch
-  side_is = k.same_side ∙ is_side
+  side_is = k.same_side ∙ b.is_side
 
   pub room_left : Room max_before_form t
-  room_left = rw side_is (filled_bounded h t₀.numbers.now l k.filled)
+  room_left = rw side_is (filled_bounded b.ready t₀.numbers.now b.long k.filled)
 
   -- the command's bytes are there
   pub bytes_there : at + command_size (get_or s at 0) ≤ length s
-  bytes_there = command_room reg sch s h.reads k.filled.midway
+  bytes_there = command_room reg sch s b.ready.reads k.filled.midway
 
   -- of a row: the row and the variable that are named, and m
   pub row_named : get_or s at 0 ≡ 0x3B → RowCommand reg sch (multiplier_at s at)
   unfolding multiplier_at
-  row_named e = row_command reg sch (multiplier_at s at) (multiplier_allowed reg sch s h.reads k.filled.midway (inr e)) e
+  row_named e = row_command reg sch (multiplier_at s at) (multiplier_allowed reg sch s b.ready.reads k.filled.midway (inr e)) e
 
   -- one command more
 
@@ -141,24 +146,24 @@ module _ {reg : Register} {sch : Scheme} {s : List ℕ} (h : Ready reg sch s) {t
   multiplier_held x y d = record {
     same_reference = d.same_reference ∙ k.same_reference;
     same_side = d.same_side ∙ k.same_side;
-    filled = multiplier_filled h t₀.numbers.now l k.filled x y _ (rw side_is at d.holds);
+    filled = multiplier_filled b.ready t₀.numbers.now b.long k.filled x y _ (rw side_is at d.holds);
   }
 
   pub row_held : get_or s at 0 ≡ 0x3B → {u : SquareTable} → Adds (times (multiplier_at s at).m (row_form_of reg (get_or (multiplier_at s at).names 0 0) (get_or (multiplier_at s at).names 1 0))) t u → Holding reg sch s t₀ u (at + command_size (get_or s at 0))
   row_held c d = record {
     same_reference = d.same_reference ∙ k.same_reference;
     same_side = d.same_side ∙ k.same_side;
-    filled = row_filled h t₀.numbers.now l k.filled c _ (rw side_is at d.holds);
+    filled = row_filled b.ready t₀.numbers.now b.long k.filled c _ (rw side_is at d.holds);
   }
 
   pub square_held : get_or s at 0 ≡ 0x3A → {u : SquareTable} → Becomes (less_where t.side (square_at (square_read s at)) (λ i j. true) t.numbers.now) t u → Holding reg sch s t₀ u (at + command_size (get_or s at 0))
   square_held c d = record {
     same_reference = d.same_reference ∙ k.same_reference;
     same_side = d.same_side ∙ k.same_side;
-    filled = square_filled h t₀.numbers.now l k.filled c _ (rw side_is at d.holds);
+    filled = square_filled b.ready t₀.numbers.now b.long k.filled c _ (rw side_is at d.holds);
   }
 
   -- at the end
   pub held_last : (IsMultiplier (get_or s at 0) → ⊥) → (get_or s at 0 ≡ 0x3A → ⊥) → (p : Progress Certificate) (e : ℕ) → commands_in_job reg sch s ≡ accepted p e →
       Becomes (with_table t₀.side (R (coefficient reg) reg sch p.parsed) t₀.numbers.now) t₀ t
-  held_last x y p e d = record { same_reference = k.same_reference; same_side = k.same_side; holds = rw is_side (filled_last h t₀.numbers.now l k.filled x y p e d) }
+  held_last x y p e d = record { same_reference = k.same_reference; same_side = k.same_side; holds = rw b.is_side (filled_last b.ready t₀.numbers.now b.long k.filled x y p e d) }

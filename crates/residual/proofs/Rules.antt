@@ -1,5 +1,6 @@
--- The rules of the multiplier commands are sound: null forms are 0 at the filling that a plan that fits induces, and the forms
--- subtracted are at least 0 at every point of the relaxation, as their multipliers are. Each names places of the table only.
+-- The rules of the multiplier commands are sound: null forms are 0 at the filling that a plan that fits induces (but for a row's, of
+-- every plan: `soundness/proofs/NullEveryPlan`), and the forms subtracted are at least 0 at every point of the relaxation, as their
+-- multipliers are. Each names places of the table only.
 use Prim.Native.Nat.{ℕ, ◌≤◌, ◌<◌}
 use mathlib.Core.Path.{◌≡◌, sym, ◌∙◌, ap}
 use mathlib.Core.List.{List, [], ◌∷◌}

@@ -27,7 +27,7 @@ null_forms reg sch ts = flat_map (null_part reg sch) ts
 unfoldable pub subtracted_forms : Register → Scheme → List Multiplier → Form
 subtracted_forms reg sch ts = flat_map (subtracted_part reg sch) ts
 
--- the reformulated function: s·g with its null forms, the rows' among them
+-- the reformulated function (the paper's own term): s·g with its null forms, the rows' among them
 unfoldable pub reformulated : (ℕ → ℤ) → Register → Scheme → Certificate → Form
 reformulated c reg sch cert = times (pos cert.scale) (g c reg sch) ++ null_forms reg sch cert.multipliers
 
@@ -49,6 +49,6 @@ square_at q i j = pos q.w *ℤ get_or q.v i (pos 0) *ℤ get_or q.v j (pos 0)
 unfoldable pub R : (ℕ → ℤ) → Register → Scheme → Certificate → ℕ → ℕ → ℤ
 R c reg sch cert i j = B c reg sch cert i j -ℤ sum_over cert.squares (λ q. square_at q i j)
 
--- the quadratic form of B's rows and columns of variables, at x
+-- the second-order part (the paper's own term) of the reformulated function at x: the quadratic form of B without row and column 0
 unfoldable pub second_order : (ℕ → ℤ) → Register → Scheme → Certificate → (ℕ → ℤ) → ℤ
 second_order c reg sch cert x = quadratic (variables reg.choices sch) (λ i j. B c reg sch cert (place i) (place j)) x

@@ -64,24 +64,10 @@ pub record Lengths (s : Scheme) : Type 0 where
 -- ---- a scheme with other products, and with other splits
 
 abbrev pub set_products : Scheme → ℕ → (lefts rights : List ℕ) → Scheme
-set_products s k lefts rights = record {
-  products = k;
-  splits = s.splits;
-  lefts = lefts;
-  rights = rights;
-  split_lefts = s.split_lefts;
-  split_rights = s.split_rights;
-}
+set_products s k lefts rights = record s { products = k; lefts = lefts; rights = rights }
 
 abbrev pub set_splits : Scheme → ℕ → (lefts rights : List ℕ) → Scheme
-set_splits s t lefts rights = record {
-  products = s.products;
-  splits = t;
-  lefts = s.lefts;
-  rights = s.rights;
-  split_lefts = lefts;
-  split_rights = rights;
-}
+set_splits s t lefts rights = record s { splits = t; split_lefts = lefts; split_rights = rights }
 
 -- ---- one more
 

@@ -86,13 +86,19 @@ fn stands_after(previous: u8, command: u8) -> bool
     }
 }
 
+// How many bytes a product has, and a split: its command byte and two operands.
+
+pub const PRODUCT_SIZE: usize = 1 + 1 + 1;
+
+pub const SPLIT_SIZE: usize = 1 + 1 + 1;
+
 // The bytes of a command.
 fn command_size(command: u8) -> usize
     ensures { (reg : Register) → result ≡ size (scheme_part reg) command }
 {
     match command {
-        0x21 => 3,
-        0x22 => 3,
+        0x21 => PRODUCT_SIZE,
+        0x22 => SPLIT_SIZE,
         _ => 1,
     }
 }

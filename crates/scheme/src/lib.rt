@@ -15,7 +15,7 @@ ghost use Rattle.scheme.specs.Answer.{parts_of, open_parts, refused_answer, sche
 ghost use Rattle.wire.specs.Results.{number_of, reading_of};
 ghost use Rattle.wire.specs.Outcome.{added_by};
 
-use checks::refusal_at;
+use checks::{PRODUCT_SIZE, SPLIT_SIZE, refusal_at};
 pub use parts::Quadratization;
 use register::{Register, open_register};
 use variable_sets::entry;
@@ -129,14 +129,14 @@ pub fn read_scheme(bytes: &[u8], register: &Register) -> Result<Read<Scheme>, Re
                 scheme.rights[k] = r;
                 scheme.products = k + 1;
                 previous = 0x21;
-                at += 3;
+                at += PRODUCT_SIZE;
             }
             0x22 => {
                 scheme.split_lefts[t] = u8::read(bytes, at + 1);
                 scheme.split_rights[t] = u8::read(bytes, at + 1 + 1);
                 scheme.splits = t + 1;
                 previous = 0x22;
-                at += 3;
+                at += SPLIT_SIZE;
             }
             _ => {
                 return Ok(Read {

@@ -83,37 +83,34 @@ module _ {masks : List ℕ} {coefficients : List ℤ} {counts : List ℕ} {n fed
   pub moved : (x y z : ℤ) → x +ℤ y ≡ z → z -ℤ y ≡ x
   moved = diff₃ _ λ p q r s t u. simp diffs (omega arith)
 
-  -- decided unfed
+  -- where the choice is decided
+  abbrev decided : {fed' : ℕ} {s' : ℤ} (block : ℕ) → fed' ≡ block * 2 ^ k → fed' + 2 ^ k ≤ fed + 2 ^ n → s' ≡ S k fed' → At masks coefficients counts k fed' s'
+  decided block aligned within e = record {
+    base = a.base;
+    base_within = a.base_within;
+    terms = a.terms;
+    small = a.small;
+    listed = λ i h. a.listed i (omega arith);
+    few = omega (arith, a.few);
+    block = block;
+    aligned = aligned;
+    inside = omega (arith, within, a.inside);
+    sum_is = e;
+  }
+
+  -- unfed
 
   abbrev pub unfed_at : At masks coefficients counts k fed (s -ℤ change_to term_lost masks coefficients (k * max_terms) (fed + 2 ^ k + (2 ^ k - 1)) (get_or counts k 0))
-  unfed_at = record {
-    base = a.base;
-    base_within = a.base_within;
-    terms = a.terms;
-    small = a.small;
-    listed = λ i h. a.listed i (omega arith);
-    few = omega (arith, a.few);
-    inside = omega (arith, a.inside, (halves n l).1);
-    block = 2 * q;
-    aligned = fed_is ∙ rw (pow-suc 2 k) (omega arith);
-    sum_is = ap (λ x. x -ℤ change_to term_lost masks coefficients (k * max_terms) (fed + 2 ^ k + (2 ^ k - 1)) (get_or counts k 0)) sum_is ∙ ap (λ y. S (suc k) (q * 2 ^ suc k) -ℤ y) lost_is ∙ moved _ _ _ (unfed_sum k q a.base a.terms) ∙ ap (S k) (sym fed_is);
-  }
+  unfed_at =
+      decided (2 * q) (fed_is ∙ rw (pow-suc 2 k) (omega arith)) (omega (arith, (halves n l).1))
+      (ap (λ x. x -ℤ change_to term_lost masks coefficients (k * max_terms) (fed + 2 ^ k + (2 ^ k - 1)) (get_or counts k 0)) sum_is ∙ ap (λ y. S (suc k) (q * 2 ^ suc k) -ℤ y) lost_is ∙ moved _ _ _ (unfed_sum k q a.base a.terms) ∙ ap (S k) (sym fed_is))
 
-  -- decided fed
+  -- fed
 
   abbrev pub fed_at : At masks coefficients counts k (fed + 2 ^ k) (s +ℤ change_to term_gained masks coefficients (k * max_terms) (fed + 2 ^ k) (get_or counts k 0))
-  fed_at = record {
-    base = a.base;
-    base_within = a.base_within;
-    terms = a.terms;
-    small = a.small;
-    listed = λ i h. a.listed i (omega arith);
-    few = omega (arith, a.few);
-    inside = omega (arith, a.inside, (halves n l).1);
-    block = 2 * q + 1;
-    aligned = ap (λ x. x + 2 ^ k) fed_is ∙ rw (pow-suc 2 k) (omega arith);
-    sum_is = ap (λ x. x +ℤ change_to term_gained masks coefficients (k * max_terms) (fed + 2 ^ k) (get_or counts k 0)) sum_is ∙ ap (λ y. S (suc k) (q * 2 ^ suc k) +ℤ y) gained_is ∙ fed_sum k q a.base a.terms ∙ ap (λ x. S k (x + 2 ^ k)) (sym fed_is);
-  }
+  fed_at =
+      decided (2 * q + 1) (ap (λ x. x + 2 ^ k) fed_is ∙ rw (pow-suc 2 k) (omega arith)) (omega (arith, (halves n l).1))
+      (ap (λ x. x +ℤ change_to term_gained masks coefficients (k * max_terms) (fed + 2 ^ k) (get_or counts k 0)) sum_is ∙ ap (λ y. S (suc k) (q * 2 ^ suc k) +ℤ y) gained_is ∙ fed_sum k q a.base a.terms ∙ ap (λ x. S k (x + 2 ^ k)) (sym fed_is))
 
   -- no more terms than there are
   pub count_few : get_or counts k 0 ≤ max_terms

@@ -89,7 +89,7 @@ within_small r w = record { count_within = w.terms.few; coefficients_within = λ
   where
     go : (t : ℕ) → Dec (t < r.terms) → nat_abs (coefficient r t) ≤ max_coefficient
     go t (yes l) = (w.terms.each t l).coefficient_within
-    go t (no l) = rw (w.coefficients.rest t (omega arith)) (omega arith)
+    go t (no l) = rw (w.terms.coefficients.rest t (omega arith)) (omega arith)
 
 -- ---- a change, place by place
 

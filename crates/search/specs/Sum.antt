@@ -1,5 +1,5 @@
--- The sum at a partial plan. Choices are decided from the highest number down: where d are undecided, these are the choices
--- below d, and `fed` are those decided fed, all of them from d up.
+-- The sum at a partial plan (the paper's own term), in which some choices are decided, each to be fed or not. They are decided from the
+-- highest number down: where d are undecided, these are the choices below d, and `fed` are those decided fed, all of them from d up.
 use Rattle.std.specs.Prelude.{ℕ, ◌+◌, ◌-◌, ◌^◌, cond, ℤ, pos, negsuc, ◌+ℤ◌}
 use Rattle.integers.specs.Sum.{sum_below}
 use Rattle.sets.specs.Sets.{is_subset}

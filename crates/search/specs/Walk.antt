@@ -2,8 +2,8 @@
 use Rattle.std.specs.Prelude.{ℕ, zero, suc, ◌+◌, ◌^◌, Bool, true, false, cond, not, ◌&&◌, ◌||◌, ℤ, pos}
 use Rattle.std.specs.Int.Signed.{le_z}
 
--- what it has come to: whether a full plan that fits has been met, the best plan with its cost, and the number of partial plans visited,
--- which may pass 32 bits
+-- what it has come to: whether a full plan that fits has been met, the best plan with its cost, and the number of visits, which may pass
+-- 32 bits. A visit (the paper's own term) is one partial plan that the walk comes to: the empty one, full ones and those left count
 pub record Best : Type 0 where
   pub met : Bool
   pub plan : ℕ
@@ -16,11 +16,11 @@ start = record { met = false; plan = 0; cost = pos 0; visits = 0 }
 
 -- one partial plan more
 abbrev pub visited : Best → Best
-visited w = record { met = w.met; plan = w.plan; cost = w.cost; visits = w.visits + 1 }
+visited w = record w { visits = w.visits + 1 }
 
 -- a full plan that fits becomes the best
 abbrev pub better : ℕ → ℤ → Best → Best
-better plan cost w = record { met = true; plan = plan; cost = cost; visits = w.visits }
+better plan cost w = record w { met = true; plan = plan; cost = cost }
 
 -- a full plan that fits has been met, and the sum is at least the best cost so far
 abbrev pub is_left : ℤ → Best → Bool

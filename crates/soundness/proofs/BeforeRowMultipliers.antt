@@ -32,7 +32,7 @@ by_key_last none k e [] d = rw (ne_eqb k e.0 d)
 by_key_last none k e (x ∷ es) d = ap (cond (eqb k x.0) x.1) (by_key_last none k e es d)
 
 -- what P and Q give of each element
-with_each : (P Q S : Multiplier → Type 0) → ((t : Multiplier) → P t → Q t → S t) → (ts : List Multiplier) → All P ts → All Q ts → All S ts
+pub with_each : (P Q S : Multiplier → Type 0) → ((t : Multiplier) → P t → Q t → S t) → (ts : List Multiplier) → All P ts → All Q ts → All S ts
 with_each P Q S h [] p q = tt
 with_each P Q S h (t ∷ ts) p q = (h t p.0 q.0, with_each P Q S h ts p.1 q.1)
 
@@ -46,7 +46,7 @@ module _ (reg : Register) (sch : Scheme) where
   abbrev row_condition : Multiplier → Type 0
   row_condition t = (k : ℕ) × (i : ℕ) × (t.names ≡ k ∷ i ∷ []) × (k < reg.rows) × Variable reg.choices sch i × RowRange t.m
 
-  same_condition : (t : Multiplier) → NoRow t → Allowed reg sch t ≡ AllowedBeforeRows reg sch t
+  pub same_condition : (t : Multiplier) → NoRow t → Allowed reg sch t ≡ AllowedBeforeRows reg sch t
   unfolding Allowed AllowedBeforeRows
   same_condition t d = by_key_last ⊥ t.kind (0x3B, row_condition t) (conditions_before_rows reg sch t.names t.m) d
 
@@ -54,7 +54,7 @@ module _ (reg : Register) (sch : Scheme) where
   unfolding AllowedBeforeRows by_key
   none_before t a e = rw e at a
 
-  same_rule : (t : Multiplier) → NoRow t → rule_of reg sch t ≡ rule_of_before_rows reg sch t
+  pub same_rule : (t : Multiplier) → NoRow t → rule_of reg sch t ≡ rule_of_before_rows reg sch t
   unfolding rule_of rule_of_before_rows
   same_rule t d = by_key_last no_rule t.kind _ _ d
 

@@ -1,4 +1,4 @@
--- Without rows the search is what it was before there were any, of our call.
+-- Without rows the cost and the search are what they were before there were any, of our calls.
 use Prim.Native.Nat.{ℕ, zero, suc, ◌+◌, ◌^◌}
 use native.Mathlib.Omega.{arith}
 use mathlib.Core.Path.{◌≡◌, refl, sym, ◌∙◌, ap}
@@ -10,7 +10,7 @@ use lib.Pow.{pow_pos}
 use Rattle.wire.specs.Number.{Bytes}
 use Rattle.wire.specs.Part.{Reading, refused, accepted}
 use Rattle.wire.specs.Rows.{Progress}
-use Rattle.wire.specs.Outcome.{given, and_then, answer_by}
+use Rattle.wire.specs.Outcome.{accepts, given, and_then, answer_by}
 use Rattle.wire.specs.Refused.{RefusedByItself}
 use Rattle.register.specs.declared.Register.{Register}
 use Rattle.register.specs.Register.{fresh, coefficient}
@@ -21,21 +21,26 @@ use Rattle.register.specs.BeforeRows.{by_itself_before_rows}
 use Rattle.register.proofs.Accept.{encoding_accepted}
 use Rattle.register.proofs.BeforeRows.{as_before_rows, no_rows}
 use Rattle.plan.specs.Fits.{fits}
+use Rattle.plan.specs.Plan.{cost}
+use Rattle.plan.specs.Format.{plan_by_itself}
+use Rattle.plan.specs.BeforeRows.{plan_by_itself_before_rows}
+use Rattle.plan.specs.Answer.{refused_cost, accepted_cost, cost_answer}
 use Rattle.plan.proofs.Fits.{register_fits, every_fits}
+use Rattle.plan.proofs.BeforeRows.{plan_as_before_rows}
 use Rattle.search.specs.declared.SearchAnswer.{SearchAnswer}
 use Rattle.search.specs.Sum.{sum}
 use Rattle.search.specs.Walk.{Best, start, visited, better, is_left, walk}
 use Rattle.search.specs.Answer.{search, within_limit, refused_search, accepted_search, search_answer}
 use Rattle.search.proofs.Cheapest.{found_met}
-use Rattle.soundness.specs.Calls.{search_call}
+use Rattle.soundness.specs.Calls.{cost_call, search_call}
 use Rattle.soundness.specs.Parts.{Part1}
 use Rattle.soundness.specs.Acceptance.{OfSearch}
 use Rattle.soundness.specs.Demand3.{register_of}
 use Rattle.soundness.specs.Refusals.{InRegister, PastLimit, NoneFits}
-use Rattle.soundness.specs.BeforeRows.{walk_before_rows, search_before_rows, within_limit_before_rows, search_answer_before_rows, OfSearchBeforeRows, SearchAsBeforeRows}
+use Rattle.soundness.specs.BeforeRows.{walk_before_rows, search_before_rows, within_limit_before_rows, search_answer_before_rows, OfSearchBeforeRows, SearchAsBeforeRows, cost_answer_before_rows, CostAsBeforeRows}
 use Rattle.soundness.proofs.Acceptance.{acceptance}
 use Rattle.soundness.proofs.Refusals.{search_refusals}
-use Rattle.soundness.proofs.Misfit.{never, register_never}
+use Rattle.soundness.proofs.Misfit.{never, register_never, only_misfit}
 
 -- ---- the rule
 
@@ -143,3 +148,27 @@ search_as_before_rows = record {
       let p = acceptance.of_search.only t limit plan z visits b e in
       from_today t limit plan z visits p (rw (right_is t p.reg p.part_1) at none);
 }
+
+-- ---- the cost
+
+module _ (t plan : List ℕ) (none : SaysRow t → ⊥) where
+  cost_of_reading : (x : Reading (Progress Register)) → register_by_itself t ≡ x →
+      answer_by refused_cost accepted_cost (and_then (given 1 x) λ reg. and_then (given 4 (plan_by_itself reg plan)) λ p. accepts (cost (coefficient reg) reg p))
+      ≡ answer_by refused_cost accepted_cost (and_then (given 1 x) λ reg. and_then (given 4 (plan_by_itself_before_rows reg plan)) λ p. accepts (cost (coefficient reg) reg p))
+  unfolding fresh
+  cost_of_reading (refused n at) e = refl
+  cost_of_reading (accepted p end) e =
+      ap (λ x. answer_by refused_cost accepted_cost (and_then (given 4 x) λ q. accepts (cost (coefficient p.parsed) p.parsed q)))
+      (plan_as_before_rows p.parsed (ap (λ w. w.0) (no_rows t none e)) plan)
+
+  cost_answers : cost_answer t plan ≡ cost_answer_before_rows t plan
+  unfolding cost_answer cost_answer_before_rows
+  cost_answers = let e = as_before_rows t none in rw e (cost_of_reading (by_itself_before_rows t) e)
+
+never_15 : (t plan : List ℕ) → Bytes t → Bytes plan → (register_of t).rows ≡ 0 → (cost_call t plan).number ≡ 15 → ⊥
+never_15 t plan b b' none e =
+    let m = only_misfit t plan b b' e in
+    m.misfit (every_fits m.reg (rw (right_is t m.reg m.part_1) at none) m.fed)
+
+pub cost_as_before_rows : CostAsBeforeRows cost_call
+cost_as_before_rows = record { answers = cost_answers; never_15 = never_15 }

@@ -25,11 +25,12 @@ use Rattle.register.specs.Format.{register_in_job, register_by_itself}
 use Rattle.register.specs.Answer.{register_answer}
 use Rattle.register.specs.Answer as R
 use Rattle.register.proofs.Passes.{length_within}
-use Rattle.register.proofs.Entries.{fresh_within, base_more, length_more, choice_at, choice_new, choice_more}
+use Rattle.register.proofs.Entries.{rows_none, fresh_within, base_more, length_more, choice_at, choice_new, choice_more}
 use Rattle.register.proofs.Accept.{encoding_accepted}
 use Rattle.register.proofs.Canonical.{canonical, encodes_with, encodes_without}
 use Rattle.register.proofs.Opened.{opened, opened_refused}
 use Rattle.register.proofs.DayLengths.{length_said, out_of_range, other_length}
+use Rattle.register.proofs.SaysRow.{length_byte}
 use Rattle.register.proofs.BeforeLengths.{as_before_lengths_in_job, as_before_lengths, usual_day_lem}
 use Rattle.scheme.specs.Format.{scheme_in_job}
 use Rattle.bound.specs.Format.{certificate_in_job}
@@ -43,9 +44,9 @@ use Rattle.soundness.specs.Calls.{register_call, cost_call, job_call, listing_ca
 use Rattle.soundness.specs.Jobs.{Accepted}
 use Rattle.soundness.specs.DayLengths.{OfDay, KeepsLength, FeedsOfDay, JobOfDay, UsualDay, ValidBeforeLengths, bytes_before_lengths, LengthsKept, AsBeforeLengths}
 use Rattle.soundness.specs.Windows.{without_rows}
-use Rattle.soundness.proofs.Written.{unsaid}
+use Rattle.soundness.proofs.Written.{unsaid, says_length_iff}
 use Rattle.soundness.proofs.Jobs.{accepted_job, accepted_leads}
-use Rattle.soundness.proofs.Windows.{register_valid, accepted_valid, fed_lines_lem, rows_none, windows_kept}
+use Rattle.soundness.proofs.Windows.{register_valid, accepted_valid, fed_lines_lem, windows_kept}
 
 -- ---- a valid register
 
@@ -75,18 +76,18 @@ module _ (reg : Register) (v : Valid reg) where
     within = record {
       base = v.within.base;
       day = inr d;
-      tanks = v.within.tanks;
-      minutes = v.within.minutes;
-      choices = table_each (λ i l c. record { tank_above = c.tank_above; tank_within = c.tank_within; minute_below = o.minutes i l }) v.within.choices;
-      masks = v.within.masks;
-      coefficients = v.within.coefficients;
+      choices = let cs = v.within.choices in record {
+        tanks = cs.tanks;
+        minutes = cs.minutes;
+        table = table_each (λ i l c. record { tank_above = c.tank_above; tank_within = c.tank_within; minute_below = o.minutes i l }) cs.table;
+      };
       terms = v.within.terms;
-      window_tanks = v.within.window_tanks;
-      window_froms = v.within.window_froms;
-      window_tos = v.within.window_tos;
-      windows = table_each (λ j l w. record { tank_above = w.tank_above; tank_within = w.tank_within; from_below = o.froms j l; to_above = w.to_above; to_within = o.tos j l; ordered = w.ordered }) v.within.windows;
-      row_totals = v.within.row_totals;
-      row_entries = v.within.row_entries;
+      windows = let ws = v.within.windows in record {
+        tanks = ws.tanks;
+        froms = ws.froms;
+        tos = ws.tos;
+        table = table_each (λ j l w. record { tank_above = w.tank_above; tank_within = w.tank_within; from_below = o.froms j l; to_above = w.to_above; to_within = o.tos j l; ordered = w.ordered }) ws.table;
+      };
       rows = v.within.rows;
       may_feed = v.within.may_feed;
     };
@@ -104,39 +105,37 @@ own_valid reg v d o = other_valid (set_length reg long_day) v reg.day_length d (
 before_lengths : (reg : Register) → Valid (without_rows reg) → reg.day_length ≡ usual_day → ValidBeforeLengths reg
 before_lengths reg v day = record {
   base = v.within.base;
-  tanks = v.within.tanks;
-  minutes = v.within.minutes;
-  choices = table_each (λ i l c. record { tank_above = c.tank_above; tank_within = c.tank_within; minute_within = omega (arith, c.minute_below) }) v.within.choices;
-  masks = v.within.masks;
-  coefficients = v.within.coefficients;
+  tanks = v.within.choices.tanks;
+  minutes = v.within.choices.minutes;
+  choices = table_each (λ i l c. record { tank_above = c.tank_above; tank_within = c.tank_within; minute_within = omega (arith, c.minute_below) }) v.within.choices.table;
   terms = v.within.terms;
-  window_tanks = v.within.window_tanks;
-  window_froms = v.within.window_froms;
-  window_tos = v.within.window_tos;
-  windows = table_each (λ j l w. record { tank_above = w.tank_above; tank_within = w.tank_within; from_within = omega (arith, w.from_below); to_above = w.to_above; to_within = omega (arith, w.to_within); ordered = w.ordered }) v.within.windows;
+  window_tanks = v.within.windows.tanks;
+  window_froms = v.within.windows.froms;
+  window_tos = v.within.windows.tos;
+  windows = table_each (λ j l w. record { tank_above = w.tank_above; tank_within = w.tank_within; from_within = omega (arith, w.from_below); to_above = w.to_above; to_within = omega (arith, w.to_within); ordered = w.ordered }) v.within.windows.table;
   may_feed = v.within.may_feed;
   some_choice = v.some_choice;
 }
 
 -- and by those that are now
 now_valid : (reg : Register) → ValidBeforeLengths reg → reg.day_length ≡ usual_day → Valid (without_rows reg)
-now_valid reg b day = let k = rows_none reg in record {
+now_valid reg b day = record {
   within = record {
     base = b.base;
     day = inr (inr (inl day));
-    tanks = b.tanks;
-    minutes = b.minutes;
-    choices = table_each (λ i l c. record { tank_above = c.tank_above; tank_within = c.tank_within; minute_below = omega (arith, c.minute_within) }) b.choices;
-    masks = b.masks;
-    coefficients = b.coefficients;
+    choices = record {
+      tanks = b.tanks;
+      minutes = b.minutes;
+      table = table_each (λ i l c. record { tank_above = c.tank_above; tank_within = c.tank_within; minute_below = omega (arith, c.minute_within) }) b.choices;
+    };
     terms = b.terms;
-    window_tanks = b.window_tanks;
-    window_froms = b.window_froms;
-    window_tos = b.window_tos;
-    windows = table_each (λ j l w. record { tank_above = w.tank_above; tank_within = w.tank_within; from_below = omega (arith, w.from_within); to_above = w.to_above; to_within = omega (arith, w.to_within); ordered = w.ordered }) b.windows;
-    row_totals = k.totals;
-    row_entries = k.entries;
-    rows = k.rows;
+    windows = record {
+      tanks = b.window_tanks;
+      froms = b.window_froms;
+      tos = b.window_tos;
+      table = table_each (λ j l w. record { tank_above = w.tank_above; tank_within = w.tank_within; from_below = omega (arith, w.from_within); to_above = w.to_above; to_within = omega (arith, w.to_within); ordered = w.ordered }) b.windows;
+    };
+    rows = rows_none reg.choices;
     may_feed = b.may_feed;
   };
   day_length = inr (inl day);
@@ -299,6 +298,8 @@ lengths_kept = record {
 
 pub kept_before_lengths : AsBeforeLengths
 kept_before_lengths = record {
+  length_byte = length_byte;
+  says_length = λ register reg x. says_length_iff reg register x;
   in_job = as_before_lengths_in_job;
   by_itself = as_before_lengths;
   part_1 = λ register reg none.

@@ -3,7 +3,7 @@
 use Prim.Native.Nat.{ℕ, zero, suc, ◌≤◌, ◌<◌}
 use native.Mathlib.Omega.{arith}
 use mathlib.Core.Path.{◌≡◌, refl, sym, ◌∙◌, ap, ap₂}
-use mathlib.Core.Logic.{⊎_elim}
+use mathlib.Core.Logic.{◌↔◌, ⊎_elim}
 use mathlib.Core.Bool.{Bool, true, false, cond, ◌&&◌}
 use mathlib.Core.List.{List, [], ◌∷◌, ◌++◌}
 use lib.Dec.{eqb}
@@ -25,6 +25,7 @@ use Rattle.register.specs.Valid.{Valid}
 use Rattle.register.specs.Format.{register_in_job}
 use Rattle.register.specs.Encoding.{SaysRow}
 use Rattle.register.specs.BeforeRows.{rows_before_rows, part_before_rows, in_job_before_rows}
+use Rattle.register.proofs.SaysRow.{said_in_job}
 use Rattle.register.proofs.BeforeRows.{as_before_rows_in_job}
 use Rattle.plan.specs.Fits.{fed_sum}
 use Rattle.plan.proofs.Fits.{fed_sum-zero, fed_sum-suc}
@@ -180,9 +181,11 @@ pub job_fits : (job : List ℕ) (table : List ℤ) (supplier : ℕ) (tally : Tal
 job_fits job table supplier tally z =
     let j = accepted_job job table supplier tally z in
     let NoRow : Register → Type 0 = λ reg. reg.rows ≡ 0 in
+    let Says : Register → Type 0 = λ reg. SaysRow job ↔ (1 ≤ reg.rows) in
     record {
       accepted = j;
       fits = j.fits;
       none_said = λ none. rw (accepted_leads job table supplier tally z) at (first job NoRow (none_read job none));
+      says_row = rw (accepted_leads job table supplier tally z) at (first job Says (said_in_job job));
       exactly = exactly job table supplier tally j;
     }

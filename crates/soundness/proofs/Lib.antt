@@ -1,5 +1,6 @@
 -- The statements hold of our calls; demand 3 fails for a penalty call that hands back the table as it was lent.
 pub mod Relaxation
+pub mod Multipliers
 pub mod Ours
 pub mod Every
 pub mod Lent
@@ -8,6 +9,8 @@ pub mod Acceptance
 pub mod Refusals
 pub mod Writers
 pub mod Written
+pub mod Order
+pub mod Outside
 pub mod Windows
 pub mod DayLengths
 pub mod Search
@@ -18,6 +21,8 @@ pub mod Feedings
 pub mod Rows
 pub mod BeforeRows
 pub mod BeforeRowMultipliers
+pub mod NullEveryPlan
+pub mod ReadBeforeRowMultipliers
 pub mod EveryPlan
 pub mod Suppliers
 pub mod SupplierListing

@@ -176,9 +176,9 @@ module _ {R : Type 0} (n : ℕ) where
           let b = get_or s at 0 in
           no_fail n _ (row_never rows h b r.read.parsed (operands_at (row_of rows b).widths s (at + 1))) f
 
--- none above 14 is of parts 1 to 3
+-- none above 13 is of part 1, and none above 12 of parts 2 and 3
 
-module _ (n : ℕ) (l : 14 < n) where
+module _ (n : ℕ) (l : 13 < n) where
   pub register_never : All (Never n) register_rows
   unfolding base_checks choice_checks term_checks window_checks row_checks length_checks RF.end_checks
   register_never =
@@ -191,7 +191,8 @@ module _ (n : ℕ) (l : 14 < n) where
       ▹ (λ r xs. (λ k. absurd (omega arith)) ▹ tt)
       ▹ tt
 
-  scheme_never : (reg : Register) → All (Never n) (scheme_rows reg)
+module _ (n : ℕ) (l : 12 < n) where
+  pub scheme_never : (reg : Register) → All (Never n) (scheme_rows reg)
   unfolding product_checks split_checks end_checks
   scheme_never reg =
       (λ r xs. (λ k. absurd (omega arith)) ▹ (λ k. absurd (omega arith)) ▹ (λ k. absurd (omega arith)) ▹ (λ k. absurd (omega arith)) ▹ tt)
@@ -204,7 +205,7 @@ module _ (n : ℕ) (l : 14 < n) where
   multiplier_never reg sch kind r xs =
       (λ k. absurd (omega arith)) ▹ (λ k. absurd (omega arith)) ▹ (λ k. absurd (omega arith)) ▹ (λ k. absurd (omega arith)) ▹ (λ k. absurd (omega arith)) ▹ tt
 
-  certificate_never : (reg : Register) (sch : Scheme) → All (Never n) (certificate_rows reg sch)
+  pub certificate_never : (reg : Register) (sch : Scheme) → All (Never n) (certificate_rows reg sch)
   unfolding scale_checks square_checks
   certificate_never reg sch =
       let m = multiplier_never reg sch in

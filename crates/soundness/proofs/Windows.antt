@@ -1,29 +1,29 @@
 -- Feeding windows, of our calls.
-use Prim.Native.Nat.{ℕ, ◌*◌}
+use Prim.Native.Nat.{ℕ}
 use native.Mathlib.Omega.{arith}
 use mathlib.Core.Path.{◌≡◌, refl, sym, ◌∙◌, ap, ap₂, subst}
 use mathlib.Core.Logic.{◌↔◌, inl, inr}
 use mathlib.Core.Bool.{Bool, false≢true}
 use mathlib.Core.List.{List, append-nil}
 use lib.Dec.{eqb}
-use lib.IntN.{ℤ, pos}
+use lib.IntN.{ℤ}
 use lib.ListN.{get_or}
 use borrow.Author.Tests.{eqb-true, eq-eqb}
 use Rattle.integers.specs.Lists.{any_below, join_below}
 use Rattle.integers.proofs.Lists.{flag}
-use Rattle.integers.proofs.Entries.{column_none, table_none}
 use Rattle.integers.proofs.Any.{any_found, any_at}
 use Rattle.wire.specs.Number.{Bytes}
 use Rattle.wire.specs.Part.{Reading, refused, accepted}
 use Rattle.wire.specs.Rows.{Progress}
 use Rattle.register.specs.declared.Register.{Register}
-use Rattle.register.specs.Limits.{max_windows, max_rows, row_entries, usual_day}
+use Rattle.register.specs.Limits.{usual_day}
 use Rattle.register.specs.Register.{tank, minute, window_tank, fresh, set_windows}
 use Rattle.register.specs.Format.{register_by_itself}
 use Rattle.register.specs.Answer.{register_answer}
 use Rattle.register.specs.Valid.{Valid, MayFeed, window_at}
 use Rattle.register.specs.Encoding.{Encodes, encode_register, encode_without_length, SaysLength, SaysRow}
 use Rattle.register.proofs.Accept.{encoding_accepted}
+use Rattle.register.proofs.Entries.{windows_none, rows_none, in_windows}
 use Rattle.register.proofs.Canonical.{canonical}
 use Rattle.register.proofs.BeforeWindows.{as_before_windows_in_job, as_before_windows, no_windows}
 use Rattle.register.proofs.Opened.{opened}
@@ -37,9 +37,9 @@ use Rattle.soundness.specs.Parts.{Part4}
 use Rattle.soundness.specs.Acceptance.{register_accepted}
 use Rattle.soundness.specs.Jobs.{Accepted, Listed, shown, AcceptedJob}
 use Rattle.soundness.specs.Windows.{InWindow, ChoicesInside, Feeding, KeepsWindows, JobInside, WindowsRight, without_windows, without_rows, ValidBeforeWindows, bytes_before_windows, WindowsKept, AsBeforeWindows}
-use Rattle.soundness.specs.Rows.{RowsRight}
 use Rattle.soundness.proofs.Written.{unsaid}
 use Rattle.soundness.proofs.Jobs.{accepted_job}
+use Rattle.soundness.proofs.Outside.{outside_call, outside_in_job, only_outside_call, only_outside_in_job}
 
 -- ---- where a tank may be fed
 
@@ -117,52 +117,19 @@ module _ (r : Register) (v : Valid r) (k : ℕ) (tanks froms tos : List ℕ) whe
 
   with_windows : WindowsRight other → ChoicesInside other → Valid other
   with_windows w h = record {
-    within = record {
-      base = v.within.base;
-      day = v.within.day;
-      tanks = v.within.tanks;
-      minutes = v.within.minutes;
-      choices = v.within.choices;
-      masks = v.within.masks;
-      coefficients = v.within.coefficients;
-      terms = v.within.terms;
-      window_tanks = w.tanks;
-      window_froms = w.froms;
-      window_tos = w.tos;
-      windows = w.windows;
-      row_totals = v.within.row_totals;
-      row_entries = v.within.row_entries;
-      rows = v.within.rows;
-      may_feed = λ i l. may_feed_lem other (tank r i) (minute r i) (h i l);
-    };
+    within = in_windows r v.within w (λ i l. may_feed_lem other (tank r i) (minute r i) (h i l));
     day_length = v.day_length;
     some_choice = v.some_choice;
   }
 
--- without rows those that there are are right
-pub rows_none : (r : Register) → RowsRight (without_rows r)
-rows_none r = record {
-  totals = column_none {A = ℤ} max_rows (pos 0);
-  entries = column_none {A = ℤ} (max_rows * row_entries) (pos 0);
-  rows = record { few = omega arith; each = λ i l. absurd (omega arith) };
-}
-
 module _ (r : Register) where
-  right : Valid r → WindowsRight r
-  right v = record { tanks = v.within.window_tanks; froms = v.within.window_froms; tos = v.within.window_tos; windows = v.within.windows }
-
-  right_none : WindowsRight (without_windows r)
-  right_none =
-      let column = column_none {A = ℕ} max_windows 0 in
-      record { tanks = column; froms = column; tos = column; windows = table_none max_windows _ _ _ }
-
   inside_none : ChoicesInside (without_windows r)
   inside_none i l w = absurd (omega (arith, w.there))
 
   -- without its windows, and with them again
 
   none_valid : Valid r → Valid (without_windows r)
-  none_valid v = with_windows r v 0 _ _ _ right_none inside_none
+  none_valid v = with_windows r v 0 _ _ _ (windows_none r.day_length) inside_none
 
   own_valid : Valid (without_windows r) → WindowsRight r → ChoicesInside r → Valid r
   own_valid v = with_windows (without_windows r) v r.windows r.window_tanks r.window_froms r.window_tos
@@ -173,33 +140,20 @@ module _ (r : Register) where
   before_none day v = record {
     base = v.within.base;
     day = day;
-    tanks = v.within.tanks;
-    minutes = v.within.minutes;
     choices = rw day at v.within.choices;
-    masks = v.within.masks;
-    coefficients = v.within.coefficients;
     terms = v.within.terms;
     some_choice = v.some_choice;
   }
 
   with_none : ValidBeforeWindows r → Valid (without_windows (without_rows r))
-  with_none b = let w = right_none in let k = rows_none r in record {
+  with_none b = record {
     within = record {
       base = b.base;
       day = inr (inr (inl b.day));
-      tanks = b.tanks;
-      minutes = b.minutes;
       choices = rw b.day b.choices;
-      masks = b.masks;
-      coefficients = b.coefficients;
       terms = b.terms;
-      window_tanks = w.tanks;
-      window_froms = w.froms;
-      window_tos = w.tos;
-      windows = w.windows;
-      row_totals = k.totals;
-      row_entries = k.entries;
-      rows = k.rows;
+      windows = windows_none r.day_length;
+      rows = rows_none r.choices;
       may_feed = λ i l. may_feed_lem (without_windows r) (tank r i) (minute r i) (inside_none i l);
     };
     day_length = inr (inl b.day);
@@ -238,9 +192,13 @@ windows_kept = record {
   nothing_more = λ register reg x.
       let own = accepted_valid register reg x in
       let none = accepted_valid (encode_register (without_windows reg)) (without_windows reg) (canonical (without_windows reg)) in (
-        (λ e. let v = own.0 e in (none.1 (none_valid reg v), right reg v, inside reg v)),
+        (λ e. let v = own.0 e in (none.1 (none_valid reg v), v.within.windows, inside reg v)),
         (λ (e, w, h). own.1 (own_valid reg (none.0 e) w h)),
       );
+  outside = outside_call;
+  outside_in_job = outside_in_job;
+  only_outside = only_outside_call;
+  only_outside_in_job = only_outside_in_job;
   read_as_before = λ register none no_length no_row_lem.
       (ap register_answer (as_before_windows register none no_length no_row_lem), answered_without register none no_length no_row_lem);
 }

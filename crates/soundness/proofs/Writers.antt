@@ -35,7 +35,7 @@ use Rattle.plain.proofs.Encoded.{plain_bytes}
 use Rattle.plain.proofs.ReadBack.{plain_encodes}
 use Rattle.plain.proofs.Answers.{parts_accepted}
 use Rattle.plain.proofs.Call as P
-use Rattle.job.specs.Outcome.{outcome}
+use Rattle.job.specs.Outcome.{of_register, with_scheme, with_certificate, with_plan, outcome}
 use Rattle.job.proofs.Suppliers.{known}
 use Rattle.listing.specs.declared.Reader.{Reader}
 use Rattle.listing.specs.declared.Reader.TheVariants.{Farm, Supplier}
@@ -46,7 +46,7 @@ use Rattle.listing.proofs.Outcome.{listing_short}
 use Rattle.soundness.specs.Calls.{front, scheme_call, check_call, plain_call, build_call, job_call, listing_with, listing_call, supplier_listing_call}
 use Rattle.soundness.specs.Parts.{Part1, Part2, Part3, with_r}
 use Rattle.soundness.specs.Acceptance.{OfScheme, OfCheck, scheme_accepted, check_accepted}
-use Rattle.soundness.specs.Writers.{Writer, handed_back, Writes, KeepsRefused, OfBuild, BuildWrites, own_certificate, PlainWrites, ListingWrites, Writers}
+use Rattle.soundness.specs.Writers.{Writer, handed_back, Writes, KeepsRefused, OfBuild, BuildWrites, own_certificate, PlainWrites, OwnJobs, ListingWrites, Writers}
 use Rattle.soundness.proofs.Acceptance.{acceptance}
 
 -- ---- a call that writes bytes
@@ -88,15 +88,19 @@ build_writes : (t : List ℕ) (reg : Register) (sch : Scheme) → OfBuild t reg 
 build_writes t reg sch o =
     writes_bytes (build_call t) (encode_scheme reg.choices sch) built_room (build_is t reg o.part_1 (built sch) o.builds) (build_size reg o.part_1.conditions sch o.builds)
 
+-- the scheme of what is handed back
+built_part : (t : List ℕ) (reg : Register) (sch : Scheme) → OfBuild t reg sch → (lent : List ℕ) → (build_call t lent).0.number ≡ 0 → Part2 reg (front (build_call t lent)) sch
+built_part t reg sch o lent z = record {
+  conditions = build_valid reg o.part_1.conditions sch o.builds;
+  bytes = rw (front_is (build_call t) (encode_scheme reg.choices sch) built_room (build_writes t reg sch o) lent z) (canonical reg sch);
+}
+
 build_reads : (t : List ℕ) (reg : Register) (sch : Scheme) → OfBuild t reg sch → (lent : List ℕ) → (build_call t lent).0.number ≡ 0 → scheme_call t (front (build_call t lent)) ≡ scheme_accepted sch
 build_reads t reg sch o lent z =
     acceptance.of_scheme.all t _ sch (record {
       reg = reg;
       part_1 = o.part_1;
-      part_2 = record {
-        conditions = build_valid reg o.part_1.conditions sch o.builds;
-        bytes = rw (front_is (build_call t) (encode_scheme reg.choices sch) built_room (build_writes t reg sch o) lent z) (canonical reg sch);
-      };
+      part_2 = built_part t reg sch o lent z;
     })
 
 build_only : (t lent : List ℕ) → Bytes t → (build_call t lent).0.number ≡ 0 → (reg : Register) × ((sch : Scheme) × OfBuild t reg sch)
@@ -171,6 +175,30 @@ plain_keeps t s lent = go (open_parts t s)
 of_plain : PlainWrites plain_call check_call
 of_plain = record { writes = plain_writes; reads_back = plain_reads; checks = plain_checks; only = plain_only; keeps = plain_keeps }
 
+-- ---- a job of what these two write
+
+own_jobs : OwnJobs build_call plain_call job_call
+own_jobs t plan reg sch fed o p lent lent' z y table supplier tally k l =
+    let q = built_part t reg sch o lent z in
+    let r = plain_reads t (front (build_call t lent)) reg sch o.part_1 q lent' y in
+    acceptance.of_job.all _ table supplier tally _ _ k l (record {
+      parts = with_plan (with_certificate (with_scheme (of_register reg) sch) (own_certificate reg sch)) fed;
+      conditions = record { register = o.part_1.conditions; scheme = q.conditions; certificate = r.conditions; plan = p.conditions };
+      bytes = record {
+        first = t;
+        second = front (build_call t lent);
+        third = front (plain_call t (front (build_call t lent)) lent');
+        fourth = plan;
+        register = o.part_1.bytes;
+        scheme = q.bytes;
+        certificate = r.bytes;
+        plan = p.bytes;
+        bytes = refl;
+      };
+      bound_is = refl;
+      cost_is = refl;
+    })
+
 -- ---- the listings
 
 of_listing : (reader : Reader) → ListingWrites (lines_for reader) (listing_with (lines_for reader)) job_call
@@ -181,4 +209,4 @@ of_listing reader = record {
 }
 
 pub writers : Writers build_call scheme_call plain_call check_call listing_call supplier_listing_call job_call
-writers = record { of_build = of_build; of_plain = of_plain; of_listing = of_listing Farm; of_supplier_listing = of_listing Supplier }
+writers = record { of_build = of_build; of_plain = of_plain; own_jobs = own_jobs; of_listing = of_listing Farm; of_supplier_listing = of_listing Supplier }

@@ -1,13 +1,17 @@
--- A certificate without a multiplier `3B`: part 3 as it stood before there were rows, the bound that is then one over every plan, and
--- our own certificate, which has no `3B`. Of the definitions those that a `3B` changed are written here as they were, with names of one
--- line written out; the others, among them the bytes of a certificate, are what they were.
-use Rattle.std.specs.Prelude.{ℕ, ◌≤◌, ◌<◌, ◌≡◌, ◌↔◌, Bool, true, ◌&&◌, cond, ltb, leb, eqb, ℤ, pos, neg_ℤ, nat_abs, ◌-ℤ◌, ◌≤ℤ◌, length, get_or}
+-- A certificate without a multiplier `3B`: part 3 as it stood before there were rows and how it was read, the null forms, which are then
+-- 0 at every plan, the bound, which is then one over every plan, and our own certificate, which has no `3B`. Of the definitions those
+-- that a `3B` changed are written here as they were, with names of one line written out; the others, among them the bytes of a
+-- certificate, are what they were.
+use Rattle.std.specs.Prelude.{ℕ, ◌≤◌, ◌<◌, ◌≡◌, ◌↔◌, Bool, true, ◌&&◌, cond, ltb, leb, eqb, ℤ, pos, neg_ℤ, nat_abs, ◌-ℤ◌, ◌*ℤ◌, ◌≤ℤ◌, length, get_or}
 use mathlib.Core.List.{List, [], ◌∷◌, ◌++◌, flat_map}
 use Rattle.std.specs.Int.Bits.{bit_or}
 use Rattle.integers.specs.Lists.{All}
 use Rattle.integers.specs.Sum.{sum_over}
 use Rattle.integers.specs.Quadratic.{DiagonallyDominant}
-use Rattle.forms.specs.Form.{Form, mono, place, times, entry}
+use Rattle.wire.specs.Part.{Part, Reading, read_part}
+use Rattle.wire.specs.Rows.{Progress, Row, is_among, part_of}
+use Rattle.wire.specs.Walk.{comes_to}
+use Rattle.forms.specs.Form.{Form, mono, place, times, value, homogenized, entry}
 use Rattle.forms.specs.Table.{table_numbers}
 use Rattle.sets.specs.Sets.{ProperSubset, is_proper_subset}
 use Rattle.register.specs.declared.Register.{Register}
@@ -15,13 +19,17 @@ use Rattle.register.specs.Register.{coefficient}
 use Rattle.scheme.specs.declared.Scheme.{Scheme}
 use Rattle.scheme.specs.Scheme.{left, right, variables, side}
 use Rattle.scheme.specs.Variables.{E}
+use Rattle.scheme.specs.Filling.{factor, induced}
 use Rattle.scheme.specs.Function.{g}
+use Rattle.scheme.specs.Valid as S
 use Rattle.certificate.specs.Limits.{max_scale, max_target, max_multipliers, max_squares}
-use Rattle.certificate.specs.Certificate.{Multiplier, Certificate}
+use Rattle.certificate.specs.Certificate.{Multiplier, Certificate, fresh}
 use Rattle.certificate.specs.Rules.{Rule, by_key, minus1, null_rule, subtracted_rule, no_rule}
-use Rattle.certificate.specs.Within.{Variable, Product, NullRange, SubtractedRange, SquareAllowed}
+use Rattle.certificate.specs.Format.{multiplier_of, multiplier_checks, scale_row, multiplier_row, square_row, end_row, commands_in_job}
+use Rattle.certificate.specs.Within.{Variable, Product, NullRange, SubtractedRange, Allowed, SquareAllowed, Within}
 use Rattle.certificate.specs.Encoding.{Encodes}
-use Rattle.residual.specs.Residual.{B, R, square_at}
+use Rattle.residual.specs.Residual.{null_part, reformulated, B, R, square_at}
+use Rattle.bound.specs.Relaxation.{plan_point}
 use Rattle.plan.specs.Plan.{Plan}
 use Rattle.job.specs.declared.Tally.{Tally}
 use Rattle.job.specs.Outcome.{Parts}
@@ -142,6 +150,42 @@ pub record Part3BeforeRows (reg : Register) (sch : Scheme) (certificate : List �
   pub carried : DiagonallyDominant (side reg.choices sch) (R_before_rows (coefficient reg) reg sch cert)
   pub bytes : Encodes cert certificate
 
+-- ---- part 3 before there were rows: how it was read
+
+-- what might stand before any command but the first
+abbrev pub any_before_rows : List ℕ
+any_before_rows = 0x30 ∷ 0x31 ∷ 0x32 ∷ 0x33 ∷ 0x34 ∷ 0x35 ∷ 0x36 ∷ 0x37 ∷ 0x38 ∷ 0x39 ∷ 0x3A ∷ []
+
+-- the rows of today, with what they followed, and multipliers by the rules of before
+abbrev pub multiplier_row_before_rows : Register → Scheme → ℕ → Row Certificate
+multiplier_row_before_rows reg sch kind = record (multiplier_row reg sch kind) {
+  follows = any_before_rows;
+  checks = λ cert xs.
+      let t = multiplier_of kind xs in
+      multiplier_checks (length cert.multipliers) (rule_of_before_rows reg sch t) t.m;
+}
+
+abbrev pub rows_before_row_multipliers : Register → Scheme → List (Row Certificate)
+rows_before_row_multipliers reg sch =
+    scale_row
+    ∷ multiplier_row_before_rows reg sch 0x31 ∷ multiplier_row_before_rows reg sch 0x32 ∷ multiplier_row_before_rows reg sch 0x33
+    ∷ multiplier_row_before_rows reg sch 0x34 ∷ multiplier_row_before_rows reg sch 0x35 ∷ multiplier_row_before_rows reg sch 0x36
+    ∷ multiplier_row_before_rows reg sch 0x37 ∷ multiplier_row_before_rows reg sch 0x38 ∷ multiplier_row_before_rows reg sch 0x39
+    ∷ record (square_row reg sch) { follows = any_before_rows }
+    ∷ record end_row { follows = any_before_rows }
+    ∷ []
+
+abbrev pub part_before_row_multipliers : Register → Scheme → Part (Progress Certificate)
+part_before_row_multipliers reg sch = part_of fresh (rows_before_row_multipliers reg sch)
+
+-- the commands at the front of a run of bytes, accepted or refused 1 to 8
+unfoldable pub commands_before_rows : Register → Scheme → List ℕ → Reading (Progress Certificate)
+commands_before_rows reg sch s = read_part (part_before_row_multipliers reg sch) s
+
+-- reading as before there were rows, which refuses each `3B` with 1, comes to one where a multiplier may stand
+abbrev pub SaysRowMultiplier : Register → Scheme → List ℕ → Type 0
+SaysRowMultiplier reg sch s = comes_to (part_before_row_multipliers reg sch) (λ p. is_among p.previous any_before_rows) 0x3B s ≡ true
+
 -- ---- the promises
 
 -- Part 3 without a `3B` is what it was, whether the register has rows or not; of no call in particular.
@@ -152,6 +196,22 @@ pub record AsBeforeRowMultipliers : Type 0 where
   -- its B and its R are those of before
   pub table_b : (c : ℕ → ℤ) (reg : Register) (sch : Scheme) (cert : Certificate) → NoRowMultiplier cert → B c reg sch cert ≡ B_before_rows c reg sch cert
   pub table_r : (c : ℕ → ℤ) (reg : Register) (sch : Scheme) (cert : Certificate) → NoRowMultiplier cert → R c reg sch cert ≡ R_before_rows c reg sch cert
+
+-- Part 3 that says no `3B` is read as it was: accepted with the same commands, or refused with the same number at the same position; of
+-- no call in particular. (9, at `3F`, is by R, which is the R of before: `table_r`.)
+pub record ReadBeforeRowMultipliers : Type 0 where
+  pub in_job : (reg : Register) (sch : Scheme) (s : List ℕ) → (SaysRowMultiplier reg sch s → ⊥) → commands_in_job reg sch s ≡ commands_before_rows reg sch s
+  -- so it is read where no byte is `3B`
+  pub no_byte : (reg : Register) (sch : Scheme) (s : List ℕ) → ((at : ℕ) → get_or s at 0 ≡ 0x3B → ⊥) → SaysRowMultiplier reg sch s → ⊥
+
+-- The null forms of `31` to `34` are 0 at every plan, whether it fits the rows or not; of no call in particular.
+pub record NullEveryPlan : Type 0 where
+  -- what a multiplier command that is no `3B` adds to the reformulated function is 0 at the filling that a plan induces
+  pub command : (reg : Register) (sch : Scheme) → S.Valid reg sch → (t : Multiplier) → Allowed reg sch t → (t.kind ≡ 0x3B → ⊥) → (plan : ℕ) →
+      value (factor (induced reg.choices sch plan)) (null_part reg sch t) ≡ pos 0
+  -- so at the point of every plan the reformulated function of a certificate without a `3B` is s times g
+  pub function_is : (c : ℕ → ℤ) (reg : Register) (sch : Scheme) (cert : Certificate) → S.Valid reg sch → Within reg sch cert → NoRowMultiplier cert → (plan : ℕ) →
+      homogenized (reformulated c reg sch cert) 1 (plan_point reg sch plan) ≡ pos cert.scale *ℤ homogenized (g c reg sch) 1 (plan_point reg sch plan)
 
 -- The bound of a certificate without a `3B` is one over every plan of the register's choices, whether it fits the rows or not.
 pub record BoundsEveryPlan (check_call : CheckCall) (plain_call : PlainCall) (job_call : JobCall) : Type 0 where

@@ -1,5 +1,6 @@
--- The search before registers had rows: a walk without a test of full plans, and no 16. What a walk has come to (`Best`), the sum at a
--- partial plan, the test for leaving and the form of an answer are those of today. For a register without rows the search is still so.
+-- The cost and the search before registers had rows. The cost: no 15. The search: a walk without a test of full plans, and no 16; what a
+-- walk has come to (`Best`), the sum at a partial plan and the test for leaving are those of today. So are the forms of the answers. For a
+-- register without rows both are still so.
 use Rattle.std.specs.Prelude.{ℕ, zero, suc, ◌+◌, ◌^◌, ◌≤◌, ◌≡◌, cond, List, ltb, ℤ}
 use Rattle.wire.specs.Number.{Bytes}
 use Rattle.wire.specs.Outcome.{Outcome, refuses, accepts, given, and_then, answer_by}
@@ -7,11 +8,15 @@ use Rattle.register.specs.declared.Register.{Register}
 use Rattle.register.specs.Register.{coefficient}
 use Rattle.register.specs.Encoding.{SaysRow}
 use Rattle.register.specs.BeforeRows.{by_itself_before_rows}
+use Rattle.plan.specs.declared.CostAnswer.{CostAnswer}
+use Rattle.plan.specs.Plan.{cost}
+use Rattle.plan.specs.Answer.{refused_cost, accepted_cost}
+use Rattle.plan.specs.BeforeRows.{plan_by_itself_before_rows}
 use Rattle.search.specs.declared.SearchAnswer.{SearchAnswer}
 use Rattle.search.specs.Sum.{sum}
 use Rattle.search.specs.Walk.{Best, start, visited, better, is_left}
 use Rattle.search.specs.Answer.{search, refused_search, accepted_search}
-use Rattle.soundness.specs.Calls.{SearchCall}
+use Rattle.soundness.specs.Calls.{CostCall, SearchCall}
 use Rattle.soundness.specs.Parts.{Part1}
 use Rattle.soundness.specs.Acceptance.{search_accepted}
 use Rattle.soundness.specs.Demand3.{register_of}
@@ -51,7 +56,24 @@ pub record OfSearchBeforeRows (register : List ℕ) (limit plan : ℕ) (z : ℤ)
   pub visits_are : visits ≡ (search_before_rows (coefficient reg) reg).visits
   pub within : visits ≤ limit
 
+-- ---- the cost
+
+-- of the bytes of part 1 and those of part 4, each read as before there were rows: first what refuses the register, then what refuses the
+-- plan
+abbrev pub cost_outcome_before_rows : List ℕ → List ℕ → Outcome ℤ
+cost_outcome_before_rows register plan =
+    and_then (given 1 (by_itself_before_rows register)) λ reg. and_then (given 4 (plan_by_itself_before_rows reg plan)) λ p. accepts (cost (coefficient reg) reg p)
+
+unfoldable pub cost_answer_before_rows : List ℕ → List ℕ → CostAnswer
+cost_answer_before_rows register plan = answer_by refused_cost accepted_cost (cost_outcome_before_rows register plan)
+
 -- ---- the promises
+
+pub record CostAsBeforeRows (cost_call : CostCall) : Type 0 where
+  -- bytes that say no row are answered as they were, with every plan: refused as part 1 is or as part 4 is, or given the cost
+  pub answers : (register plan : List ℕ) → (SaysRow register → ⊥) → cost_call register plan ≡ cost_answer_before_rows register plan
+  -- where the register has no row, 15 is never answered
+  pub never_15 : (register plan : List ℕ) → Bytes register → Bytes plan → (register_of register).rows ≡ 0 → (cost_call register plan).number ≡ 15 → ⊥
 
 pub record SearchAsBeforeRows (search_call : SearchCall) : Type 0 where
   -- without rows the rule comes to what it did, in plan, cost, visits, and in whether a full plan has been met

@@ -6,10 +6,10 @@ use Rattle.integers.specs.Lists.{Column, Table}
 use Rattle.wire.specs.Number.{Bytes}
 use Rattle.register.specs.declared.Register.{Register}
 use Rattle.register.specs.declared.RegisterAnswer.{RegisterAnswer}
-use Rattle.register.specs.Limits.{max_choices, max_terms, max_windows, max_base, max_tank, usual_day, long_day}
-use Rattle.register.specs.Register.{tank, minute, mask, coefficient, window_from, window_to, set_length}
+use Rattle.register.specs.Limits.{max_choices, max_windows, max_base, max_tank, usual_day, long_day}
+use Rattle.register.specs.Register.{tank, minute, window_from, window_to, set_length}
 use Rattle.register.specs.Valid.{DayLength, Before, Terms, MayFeed, window_at}
-use Rattle.register.specs.Encoding.{Encodes, encode_base, encode_length, encode_choice, encode_windows, encode_choices, encode_terms, encode_with_length, encode_without_length, encode_register, SaysLength, length_in, SaysRow}
+use Rattle.register.specs.Encoding.{Encodes, encode_base, encode_length, encode_choice, encode_windows, encode_choices, encode_terms, encode_with_length, encode_without_length, encode_register, HasByte, SaysLength, length_in, SaysRow}
 use Rattle.register.specs.Ranges.{OutOfRange}
 use Rattle.register.specs.Format.{register_in_job, register_by_itself}
 use Rattle.register.specs.Answer.{refused_answer, register_answer}
@@ -78,9 +78,7 @@ pub record ValidBeforeLengths (r : Register) : Type 0 where
   pub tanks : Column max_choices r.choices 0 r.tanks
   pub minutes : Column max_choices r.choices 0 r.minutes
   pub choices : Table max_choices r.choices (λ i. (tank r i, minute r i)) (λ c. ChoiceBefore c.0 c.1) Before
-  pub masks : Column max_terms r.terms 0 r.masks
-  pub coefficients : Column max_terms r.terms (pos 0) r.coefficients
-  pub terms : Terms r.choices r.terms (λ t. (mask r t, coefficient r t))
+  pub terms : Terms r.choices r.terms r.masks r.coefficients
   pub window_tanks : Column max_windows r.windows 0 r.window_tanks
   pub window_froms : Column max_windows r.windows 0 r.window_froms
   pub window_tos : Column max_windows r.windows 0 r.window_tos
@@ -129,6 +127,9 @@ pub record LengthsKept (register_call : RegisterCall) (cost_call : CostCall) (jo
 -- A register that says no length and no row is what it was, of no call in particular: each call reads part 1 at the front of a job or
 -- by itself, and what is said of part 1 has its earlier form.
 pub record AsBeforeLengths : Type 0 where
+  -- bytes that say a length have a byte `18`; and an encoding of a register says one just where it is the one with `18`
+  pub length_byte : (s : List ℕ) → SaysLength s → HasByte 0x18 s
+  pub says_length : (register : List ℕ) (reg : Register) → Encodes reg register → SaysLength register ↔ (register ≡ encode_with_length reg)
   pub in_job : (s : List ℕ) → (SaysLength s → ⊥) → (SaysRow s → ⊥) → register_in_job s ≡ in_job_before_lengths s
   pub by_itself : (s : List ℕ) → (SaysLength s → ⊥) → (SaysRow s → ⊥) → register_by_itself s ≡ by_itself_before_lengths s
   pub part_1 : (register : List ℕ) (reg : Register) → (SaysLength register → ⊥) →

@@ -2,25 +2,27 @@
 -- accepts fits them; one that does not is refused 15, and nothing else is; a `3B` adds a form that is 0 where the plan fits. What the
 -- search, the bound and the least values say of plans that fit stands in `Search`, `Jobs` and `Demand3`; the other calls take a register
 -- just where the register call does.
-use Rattle.std.specs.Prelude.{ℕ, suc, ◌*◌, ◌^◌, ◌<◌, ◌≤◌, ◌≡◌, ◌⊎◌, ◌↔◌, true, List, [], ◌∷◌, ◌++◌, length, get_or, ℤ, pos, neg_ℤ, nat_abs, ◌-ℤ◌, ◌*ℤ◌}
+use Rattle.std.specs.Prelude.{ℕ, suc, ◌^◌, ◌<◌, ◌≤◌, ◌≡◌, ◌⊎◌, ◌↔◌, true, List, [], ◌∷◌, ◌++◌, length, get_or, ℤ, pos, neg_ℤ, nat_abs, ◌-ℤ◌, ◌*ℤ◌}
 use Rattle.integers.specs.Integer.{bit}
-use Rattle.integers.specs.Lists.{All, Column}
+use Rattle.integers.specs.Lists.{All}
 use Rattle.integers.specs.Sum.{sum_below}
 use Rattle.wire.specs.Number.{Bytes}
 use Rattle.forms.specs.Form.{place, value, entry}
 use Rattle.forms.specs.Table.{table_numbers}
 use Rattle.register.specs.declared.Register.{Register}
-use Rattle.register.specs.Limits.{max_choices, max_terms, max_windows, max_rows, row_entries, max_base, usual_day}
-use Rattle.register.specs.Register.{tank, minute, mask, coefficient, row_total, row_entry}
+use Rattle.register.specs.Limits.{max_base, usual_day}
+use Rattle.register.specs.Register.{tank, minute, coefficient, row_total, row_entry}
 use Rattle.register.specs.Valid as R
-use Rattle.register.specs.Valid.{DayLength, Choices, Terms, Windows, MayFeed, window_at, row_at}
-use Rattle.register.specs.Encoding.{Encodes, encode_base, encode_length, encode_windows, encode_choices, encode_terms, encode_register, SaysRow}
+use Rattle.register.specs.Valid.{DayLength, Choices, Terms, Windows, MayFeed, window_at}
+use Rattle.register.specs.Encoding.{Encodes, encode_base, encode_length, encode_windows, encode_choices, encode_terms, encode_register, HasByte, SaysRow}
 use Rattle.register.specs.Answer.{register_answer}
 use Rattle.register.specs.Format.{register_in_job, register_by_itself}
 use Rattle.register.specs.BeforeRows.{in_job_before_rows, by_itself_before_rows}
 use Rattle.plan.specs.declared.CostAnswer.{CostAnswer}
 use Rattle.plan.specs.Plan.{cost}
 use Rattle.plan.specs.Fits.{Fits, fed_sum}
+use Rattle.plan.specs.Format.{plan_in_job, plan_by_itself}
+use Rattle.plan.specs.BeforeRows.{plan_in_job_before_rows, plan_by_itself_before_rows}
 use Rattle.plan.specs.Encoding.{encode_plan}
 use Rattle.plan.specs.Encoding as PE
 use Rattle.scheme.specs.declared.Scheme.{Scheme}
@@ -50,10 +52,8 @@ use Rattle.soundness.specs.Windows.{without_rows}
 -- ---- an accepted register
 
 -- the rows by themselves: count, ranges, and entries past the choices
-pub record RowsRight (r : Register) : Type 0 where
-  pub totals : Column max_rows r.rows (pos 0) r.row_totals
-  pub entries : Column (max_rows * row_entries) (r.rows * row_entries) (pos 0) r.row_entries
-  pub rows : R.Rows r.choices r.rows (row_at r)
+abbrev pub RowsRight : Register → Type 0
+RowsRight r = R.Rows r.choices r.rows r.row_totals r.row_entries
 
 -- ---- an accepted plan
 
@@ -75,8 +75,9 @@ pub record JobFits (job_call : JobCall) (listing_call : ListingCall) (job : List
   pub accepted : AcceptedJob job_call listing_call job table supplier tally
   -- its plan fits the rows
   pub fits : Fits accepted.parts.register accepted.parts.plan
-  -- where the job says no row its register has none, so that each plan fits
+  -- where the job says no row its register has none, so that each plan fits; and only there
   pub none_said : (SaysRow job → ⊥) → accepted.parts.register.rows ≡ 0
+  pub says_row : SaysRow job ↔ (1 ≤ accepted.parts.register.rows)
   -- where a row counts the feedings of a tank, a farm reads exactly so many `F` lines of the tank as the row's total
   pub exactly : (k t : ℕ) → Counts accepted.parts.register k t →
       (lent : List ℤ) (buffer : List ℕ) → Listed job_call listing_call job lent buffer →
@@ -188,16 +189,9 @@ pub record RowsApart : Type 0 where
 -- the conditions on a register before there were rows
 pub record ValidBeforeRows (r : Register) : Type 0 where
   pub base : nat_abs r.base ≤ max_base
-  pub tanks : Column max_choices r.choices 0 r.tanks
-  pub minutes : Column max_choices r.choices 0 r.minutes
-  pub choices : Choices r.day_length r.choices (λ i. (tank r i, minute r i))
-  pub masks : Column max_terms r.terms 0 r.masks
-  pub coefficients : Column max_terms r.terms (pos 0) r.coefficients
-  pub terms : Terms r.choices r.terms (λ t. (mask r t, coefficient r t))
-  pub window_tanks : Column max_windows r.windows 0 r.window_tanks
-  pub window_froms : Column max_windows r.windows 0 r.window_froms
-  pub window_tos : Column max_windows r.windows 0 r.window_tos
-  pub windows : Windows r.day_length r.windows (window_at r)
+  pub choices : Choices r.day_length r.choices r.tanks r.minutes
+  pub terms : Terms r.choices r.terms r.masks r.coefficients
+  pub windows : Windows r.day_length r.windows r.window_tanks r.window_froms r.window_tos
   pub may_feed : (i : ℕ) → i < r.choices → MayFeed r.windows (window_at r) (tank r i) (minute r i)
   pub day_length : DayLength r.day_length
   pub some_choice : 1 ≤ r.choices
@@ -242,6 +236,8 @@ pub record RowsKept (register_call : RegisterCall) (cost_call : CostCall) (check
   -- without rows every plan fits, as where the bytes say no row
   pub every_plan : (reg : Register) → reg.rows ≡ 0 → (plan : ℕ) → Fits reg plan
   pub none_said : (register : List ℕ) → (SaysRow register → ⊥) → (register_call register).register.rows ≡ 0
+  -- and an accepted register has rows just where its bytes say one
+  pub says_row : (register : List ℕ) → (register_call register).number ≡ 0 → SaysRow register ↔ (1 ≤ (register_call register).register.rows)
   -- and every set of the choices is accepted for its cost, as before there were rows
   pub cost_every : (register plan : List ℕ) (reg : Register) (fed : ℕ) → Part1 register reg → reg.rows ≡ 0 → fed < 2 ^ reg.choices → PE.Encodes reg fed plan →
       cost_call register plan ≡ cost_accepted (cost (coefficient reg) reg fed)
@@ -252,8 +248,15 @@ pub record RowsKept (register_call : RegisterCall) (cost_call : CostCall) (check
 -- A register that says no row is what it was, of no call in particular: each call reads part 1 at the front of a job or by itself, and
 -- what is said of part 1, and of part 4 with such a register, has its earlier form.
 pub record AsBeforeRows : Type 0 where
+  -- bytes that say a row have a byte `14`: all others are as before
+  pub row_byte : (s : List ℕ) → SaysRow s → HasByte 0x14 s
+  -- and where part 1 is right, by itself or whatever stands behind it, a row is said just where there is one
+  pub says_row : (register rest : List ℕ) (reg : Register) → Part1 register reg → SaysRow (register ++ rest) ↔ (1 ≤ reg.rows)
   pub in_job : (s : List ℕ) → (SaysRow s → ⊥) → register_in_job s ≡ in_job_before_rows s
   pub by_itself : (s : List ℕ) → (SaysRow s → ⊥) → register_by_itself s ≡ by_itself_before_rows s
   pub part_1 : (register : List ℕ) (reg : Register) → Part1 register (without_rows reg) ↔ (ValidBeforeRows reg × EncodesBeforeRows reg register)
+  -- with a register without rows part 4 is read as it was, accepted or refused
+  pub part_4_in_job : (reg : Register) → reg.rows ≡ 0 → (s : List ℕ) → plan_in_job reg s ≡ plan_in_job_before_rows reg s
+  pub part_4_by_itself : (reg : Register) → reg.rows ≡ 0 → (s : List ℕ) → plan_by_itself reg s ≡ plan_by_itself_before_rows reg s
   -- part 4 of a register without rows: each choice that is fed is one of the register's, and nothing more is asked of the plan
   pub part_4 : (reg : Register) (plan : List ℕ) (fed : ℕ) → reg.rows ≡ 0 → Part4 reg plan fed ↔ ((fed < 2 ^ reg.choices) × PE.Encodes reg fed plan)

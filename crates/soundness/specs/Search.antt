@@ -5,6 +5,7 @@ use Rattle.std.specs.Prelude.{ℕ, suc, ◌^◌, ◌≤◌, ◌<◌, ◌≡◌, 
 use Rattle.sets.specs.Sets.{is_member}
 use Rattle.wire.specs.Number.{Bytes}
 use Rattle.register.specs.declared.Register.{Register}
+use Rattle.register.specs.Limits.{max_choices}
 use Rattle.register.specs.Register.{coefficient}
 use Rattle.plan.specs.Plan as P
 use Rattle.plan.specs.Fits.{Fits}
@@ -76,8 +77,8 @@ pub record SearchSound (search_call : SearchCall) (cost_call : CostCall) (check_
   pub none : (register : List ℕ) (reg : Register) (limit : ℕ) → Part1 register reg → (search_call register limit ≡ none_fits) ↔ (NoneFit reg × (visits_of reg ≤ limit))
   -- where no plan fits, nothing is ever left: the visits are the most that there can be
   pub none_visits : (reg : Register) → NoneFit reg → suc (visits_of reg) ≡ 2 ^ suc reg.choices
-  -- so with 32 choices and no plan that fits they pass every limit of 32 bits
-  pub none_32 : (register : List ℕ) (reg : Register) (limit : ℕ) → Part1 register reg → reg.choices ≡ 32 → NoneFit reg → limit < 2 ^ 32 → search_call register limit ≡ limit_passed
+  -- so with as many choices as there may be, and no plan that fits, they pass every limit of 32 bits
+  pub none_32 : (register : List ℕ) (reg : Register) (limit : ℕ) → Part1 register reg → reg.choices ≡ max_choices → NoneFit reg → limit < 2 ^ 32 → search_call register limit ≡ limit_passed
   -- without rows every plan counts, and some limit is enough for every register, as before there were rows
   pub cheapest_every : (register : List ℕ) (limit : ℕ) → (register_of register).rows ≡ 0 → (search_call register limit).number ≡ 0 →
       CheapestEvery cost_call register limit (search_call register limit)

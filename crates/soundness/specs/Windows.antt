@@ -1,20 +1,24 @@
 -- R-1, feeding windows: what a farm is promised of them, as a predicate of any such calls. What an accepted plan feeds lies inside the
 -- windows, and windows refuse nothing more. The other calls take a register just where the register call does: `Acceptance`,
 -- `Refusals` and `Writers` say it of parts that meet their conditions.
-use Rattle.std.specs.Prelude.{ℕ, ◌*◌, ◌<◌, ◌≤◌, ◌≡◌, ◌↔◌, true, List, [], ◌∷◌, ◌++◌, ℤ, pos, nat_abs, get_or, replicate}
-use Rattle.integers.specs.Lists.{Column}
+use Rattle.std.specs.Prelude.{ℕ, ◌*◌, ◌<◌, ◌≤◌, ◌≡◌, ◌↔◌, true, List, [], ◌∷◌, ◌++◌, length, ℤ, pos, nat_abs, get_or, replicate}
 use Rattle.sets.specs.Sets.{is_member}
 use Rattle.wire.specs.Number.{Bytes}
+use Rattle.wire.specs.Part.{refused}
+use Rattle.forms.specs.Table.{table_numbers}
 use Rattle.register.specs.declared.Register.{Register}
-use Rattle.register.specs.Limits.{max_choices, max_terms, max_windows, max_rows, row_entries, max_base, usual_day}
-use Rattle.register.specs.Register.{tank, minute, mask, coefficient, window_tank, set_windows, set_rows}
+use Rattle.register.specs.Limits.{max_windows, max_rows, row_entries, max_base, usual_day}
+use Rattle.register.specs.Register.{tank, minute, window_tank, set_windows, set_rows}
 use Rattle.register.specs.Valid.{Choices, Terms, Windows, Inside, window_at}
 use Rattle.register.specs.Encoding.{Encodes, encode_base, encode_choices, encode_terms, encode_register, SaysLength, SaysRow}
-use Rattle.register.specs.Answer.{register_answer}
+use Rattle.register.specs.Outside.{ChoiceOutside}
+use Rattle.register.specs.Answer.{refused_answer, register_answer}
 use Rattle.register.specs.Format.{register_in_job, register_by_itself}
 use Rattle.register.specs.BeforeWindows.{in_job_before_windows, by_itself_before_windows}
 use Rattle.text.specs.Text.{HasLine}
 use Rattle.job.specs.declared.Tally.{Tally}
+use Rattle.job.specs.declared.JobAnswer.{JobAnswer}
+use Rattle.job.specs.Tally.{suppliers, with_refused, moved}
 use Rattle.listing.specs.Listing.{fed_line}
 use Rattle.soundness.specs.Calls.{RegisterCall, CostCall, JobCall, ListingCall}
 use Rattle.soundness.specs.Parts.{Part1, Part4}
@@ -61,11 +65,8 @@ pub record JobInside (job_call : JobCall) (listing_call : ListingCall) (job : Li
 -- ---- with windows and without
 
 -- the windows by themselves: count, ranges and order
-pub record WindowsRight (r : Register) : Type 0 where
-  pub tanks : Column max_windows r.windows 0 r.window_tanks
-  pub froms : Column max_windows r.windows 0 r.window_froms
-  pub tos : Column max_windows r.windows 0 r.window_tos
-  pub windows : Windows r.day_length r.windows (window_at r)
+abbrev pub WindowsRight : Register → Type 0
+WindowsRight r = Windows r.day_length r.windows r.window_tanks r.window_froms r.window_tos
 
 -- the same register without its windows
 abbrev pub without_windows : Register → Register
@@ -79,17 +80,20 @@ without_rows r = set_rows r 0 (replicate max_rows (pos 0)) (replicate (max_rows 
 pub record ValidBeforeWindows (r : Register) : Type 0 where
   pub base : nat_abs r.base ≤ max_base
   pub day : r.day_length ≡ usual_day
-  pub tanks : Column max_choices r.choices 0 r.tanks
-  pub minutes : Column max_choices r.choices 0 r.minutes
-  pub choices : Choices usual_day r.choices (λ i. (tank r i, minute r i))
-  pub masks : Column max_terms r.terms 0 r.masks
-  pub coefficients : Column max_terms r.terms (pos 0) r.coefficients
-  pub terms : Terms r.choices r.terms (λ t. (mask r t, coefficient r t))
+  pub choices : Choices usual_day r.choices r.tanks r.minutes
+  pub terms : Terms r.choices r.terms r.masks r.coefficients
   pub some_choice : 1 ≤ r.choices
 
 -- and its bytes: `10`, each `11`, each `12`, `1F`
 abbrev pub bytes_before_windows : Register → List ℕ
 bytes_before_windows r = encode_base r.base ++ encode_choices r ++ encode_terms r ++ (0x1F ∷ [])
+
+-- ---- a choice that is refused for its windows
+
+-- at a position of a job
+abbrev pub job_outside : ℕ → ℕ → Tally → JobAnswer
+job_outside position supplier tally =
+    record { number = 13; part = 1; position = position; bound = pos 0; cost = pos 0; gap = pos 0; tally = moved with_refused supplier tally }
 
 -- ---- the promises
 
@@ -105,10 +109,25 @@ pub record WindowsKept (register_call : RegisterCall) (cost_call : CostCall) (jo
   -- are right, and its choices lie inside
   pub nothing_more : (register : List ℕ) (reg : Register) → Encodes reg register → (register_call register ≡ register_accepted reg)
       ↔ ((register_call (encode_register (without_windows reg)) ≡ register_accepted (without_windows reg)) × WindowsRight reg × ChoicesInside reg)
+  -- a choice outside the windows of its tank is refused 13 at its command, where what stands before it and all else of it is right,
+  -- whatever follows
+  pub outside : (register : List ℕ) (at : ℕ) → ChoiceOutside register at → register_call register ≡ refused_answer 13 at
+  pub outside_in_job : (job : List ℕ) (table : List ℤ) (supplier : ℕ) (tally : Tally) (at : ℕ) → supplier < suppliers → table_numbers ≤ length table →
+      ChoiceOutside job at → (job_call job table supplier tally).0 ≡ job_outside at supplier tally
+  -- and nothing else is
+  pub only_outside : (register : List ℕ) → Bytes register → (register_call register).number ≡ 13 → ChoiceOutside register (register_call register).position
+  pub only_outside_in_job : (job : List ℕ) (table : List ℤ) (supplier : ℕ) (tally : Tally) → Bytes job → table_numbers ≤ length table →
+      (job_call job table supplier tally).0.number ≡ 13 → ChoiceOutside job (job_call job table supplier tally).0.position
   -- bytes without a window, whose `13` would stand at 5, are answered as they were, accepted or refused, with no window, where they
   -- say no day length and no row, which came later
   pub read_as_before : (register : List ℕ) → (get_or register 5 0 ≡ 0x13 → ⊥) → (SaysLength register → ⊥) → (SaysRow register → ⊥) →
       (register_call register ≡ register_answer (by_itself_before_windows register)) × (without_windows (register_call register).register ≡ (register_call register).register)
+
+-- 13, of no call in particular: each call reads part 1 at the front of a job or by itself, and comes to 13 just where a choice lies
+-- outside the windows of its tank.
+pub record RefusedOutside : Type 0 where
+  pub in_job : (s : List ℕ) (at : ℕ) → Bytes s → (register_in_job s ≡ refused 13 at) ↔ ChoiceOutside s at
+  pub by_itself : (s : List ℕ) (at : ℕ) → Bytes s → (register_by_itself s ≡ refused 13 at) ↔ ChoiceOutside s at
 
 -- A register without windows that says no day length and no row is what it was, of no call in particular: each call reads part 1 at the
 -- front of a job or by itself, and what is said of part 1 has its earlier form.

@@ -15,6 +15,7 @@ use Rattle.builder.specs.Answer.{built_room}
 use Rattle.certificate.specs.Certificate.{Certificate}
 use Rattle.bound.specs.Bound.{bound}
 use Rattle.plain.specs.Plain.{plain}
+use Rattle.plan.specs.Plan.{cost}
 use Rattle.job.specs.declared.Tally.{Tally}
 use Rattle.job.specs.Tally.{suppliers}
 use Rattle.job.specs.Outcome.{outcome}
@@ -22,8 +23,8 @@ use Rattle.listing.specs.Listing.{PlanLines, plan_lines, supplier_lines, listed}
 use Rattle.listing.specs.Answer.{listing_room}
 use Rattle.plain.specs.Answer.{own_bytes, own_room}
 use Rattle.soundness.specs.Calls.{SchemeCall, CheckCall, PlainCall, BuildCall, JobCall, ListingCall, front}
-use Rattle.soundness.specs.Parts.{Part1, Part2, Part3, with_r}
-use Rattle.soundness.specs.Acceptance.{OfScheme, scheme_accepted, check_accepted}
+use Rattle.soundness.specs.Parts.{Part1, Part2, Part3, Part4, with_r}
+use Rattle.soundness.specs.Acceptance.{OfScheme, scheme_accepted, check_accepted, job_accepted}
 
 -- ---- a call that writes: from a lent buffer to its answer and the buffer handed back
 
@@ -85,6 +86,19 @@ pub record PlainWrites (plain_call : PlainCall) (check_call : CheckCall) : Type 
   pub only : (register scheme lent : List ℕ) → Bytes register → (plain_call register scheme lent).0.number ≡ 0 → (sch : Scheme) × OfScheme register scheme sch
   pub keeps : (register scheme : List ℕ) → KeepsRefused (plain_call register scheme)
 
+-- ---- a job of what these two write
+
+-- part 1, a plan of it that fits, and between them what the builder and then the plain call hand back: a job that is accepted, with the
+-- bound of our own certificate
+abbrev pub OwnJobs : BuildCall → PlainCall → JobCall → Type 0
+OwnJobs build_call plain_call job_call =
+    (register plan : List ℕ) (reg : Register) (sch : Scheme) (fed : ℕ) → OfBuild register reg sch → Part4 reg plan fed →
+    (lent lent' : List ℕ) → let scheme = front (build_call register lent) in let certificate = front (plain_call register scheme lent') in
+    (build_call register lent).0.number ≡ 0 → (plain_call register scheme lent').0.number ≡ 0 →
+    (table : List ℤ) (supplier : ℕ) (tally : Tally) → supplier < suppliers → table_numbers ≤ length table →
+    (job_call (register ++ (scheme ++ (certificate ++ plan))) table supplier tally).0
+    ≡ job_accepted (bound (own_certificate reg sch)) (cost (coefficient reg) reg fed) supplier tally
+
 -- ---- the listings
 
 -- one that has these lines of a register and a plan before the last line
@@ -100,5 +114,6 @@ pub record ListingWrites (lines : PlanLines) (listing_call : ListingCall) (job_c
 pub record Writers (build_call : BuildCall) (scheme_call : SchemeCall) (plain_call : PlainCall) (check_call : CheckCall) (listing_call supplier_call : ListingCall) (job_call : JobCall) : Type 0 where
   pub of_build : BuildWrites build_call scheme_call
   pub of_plain : PlainWrites plain_call check_call
+  pub own_jobs : OwnJobs build_call plain_call job_call
   pub of_listing : ListingWrites plan_lines listing_call job_call
   pub of_supplier_listing : ListingWrites supplier_lines supplier_call job_call

@@ -9,8 +9,9 @@ use lib.Dec.{eqb}
 use lib.ListN.{length, get_or}
 use borrow.Author.Tests.{lt-ltb, eq-eqb}
 use Rattle.integers.proofs.Lists.{flag, or_none}
-use Rattle.wire.specs.Checks.{refusal, command_checks}
+use Rattle.wire.specs.Checks.{Check, refusal, command_checks}
 use Rattle.wire.specs.Part.{Part, Reading, refused, accepted, operands_at, size, checks_at, after_at, step, read_from, read_part}
+use Rattle.wire.specs.Rows.{Progress, Row, size_of, is_among, row_of, part_of}
 use Rattle.wire.specs.Walk.{passing, comes_from, comes_to}
 use Rattle.wire.proofs.Part.{Passes, Ways, by_ways, passed_checks_at, step_goes, read_from_missing, read_from_refused, read_from_goes, read_from_ends}
 
@@ -82,6 +83,33 @@ module _ {S : Type 0} (P Q : Part S) (Reach : S → ℕ → Type 0) where
               let a = alike read at r in
               (ends_alike s read at a p l, (at_same s read at a p).moves _ p.allowed);
         }
+
+-- ---- parts made of rows
+
+-- two rows of a command with the same operands, result and end
+pub record SameRow {R : Type 0} (row row' : Row R) : Type 0 where
+  pub widths : row.widths ≡ row'.widths
+  pub after : (r : R) (xs : List ℕ) → row.after r xs ≡ row'.after r xs
+  pub last : row.last ≡ row'.last
+
+-- a row that follows others, and checks otherwise
+pub moved_row : {R : Type 0} (row : Row R) {follows : List ℕ} {checks : R → List ℕ → List Check} → SameRow row (record row { follows = follows; checks = checks })
+moved_row row = record { widths = refl; after = λ r xs. refl; last = refl }
+
+-- by such rows the parts agree where the command may stand in both or in neither, and where it may its checks are the same and it keeps Reach
+pub rows_alike : {R : Type 0} (fresh : R) (rows rows' : List (Row R)) (Reach : Progress R → ℕ → Type 0) (p : Progress R) (at b : ℕ) →
+    let row = row_of rows b in
+    let row' = row_of rows' b in
+    SameRow row row' → is_among p.previous row.follows ≡ is_among p.previous row'.follows
+    → (is_among p.previous row.follows ≡ true → (xs : List ℕ) → (refusal (row.checks p.parsed xs) ≡ refusal (row'.checks p.parsed xs)) × Reach (record { previous = b; parsed = row.after p.parsed xs }) (at + size_of row))
+    → Alike (part_of fresh rows) (part_of fresh rows') Reach p at b
+rows_alike {R} fresh rows rows' Reach p at b s h k = record {
+  here = h;
+  same = λ t. record { widths = s.widths; checks = λ xs. (k t xs).0; after = λ xs. ap next (s.after p.parsed xs); last = s.last; moves = λ xs q. (k t xs).1 };
+}
+  where
+    next : R → Progress R
+    next r = record { previous = b; parsed = r }
 
 -- ---- parts that agree at every byte but one, and at that one where it may not stand
 

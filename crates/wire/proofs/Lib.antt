@@ -2,7 +2,6 @@
 pub mod Number
 pub mod Written
 pub mod Writer
-pub mod Sign
 pub mod Checks
 pub mod Part
 pub mod Encoding

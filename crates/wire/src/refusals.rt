@@ -9,6 +9,7 @@ ghost use Rattle.wire.specs.Results.{number_of, number_in, reading_of, whole_of,
 pub enum Refusal {
     NoCommand = 1,
     CutShort,
+    // Also too few: no choice, or a term without a split, at the end of its part.
     TooMany,
     OutOfRange,
     NotThere,

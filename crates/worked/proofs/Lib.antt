@@ -3,4 +3,5 @@ pub mod Own
 pub mod Jobs
 pub mod Told
 pub mod Relaxed
+pub mod Full
 pub mod Table

@@ -1,10 +1,12 @@
--- The paper's rows W1 to W9, with the bytes that they are about. −6 is written neg_ℤ (pos 6).
+-- The paper's rows W1 to W9, with the bytes that they are about, and two rows more: weights where two ways lead to a product, and a
+-- certificate with as many commands as it may have. −6 is written neg_ℤ (pos 6).
 use Prim.Native.Nat.{ℕ, ◌+◌, ◌≤◌, ◌<◌}
 use mathlib.Core.Path.{◌≡◌, refl}
 use mathlib.Core.Bool.{cond}
 use mathlib.Core.List.{List, [], ◌∷◌, ◌++◌, map}
 use lib.IntN.{ℤ, pos, neg_ℤ}
 use lib.ListN.{length, get_or, drop}
+use Rattle.integers.specs.Integer.{abs}
 use Rattle.integers.specs.Lists.{join_below}
 use Rattle.forms.specs.Form.{value}
 use Rattle.forms.specs.Table.{table_numbers}
@@ -30,7 +32,9 @@ use Rattle.penalty.specs.Penalty.{bracket}
 use Rattle.penalty.specs.Weights.{weight}
 use Rattle.penalty.proofs.Worked as Penalty
 use Rattle.certificate.specs.Certificate.{Certificate}
+use Rattle.certificate.specs.Within.{Within}
 use Rattle.bound.specs.Bound.{bound}
+use Rattle.bound.specs.Valid.{Valid}
 use Rattle.bound.specs.Check.{check_answer}
 use Rattle.certificate.proofs.Commands.{command}
 use Rattle.bound.proofs.Worked as Certificate
@@ -44,6 +48,7 @@ use Rattle.job.specs.Answer.{refused_answer, job_answer}
 use Rattle.listing.specs.Listing.{listing, supplier_listing}
 use Rattle.worked.proofs.Alone as Alone
 use Rattle.worked.proofs.Own.{w7_checked}
+use Rattle.worked.proofs.Full.{many, with_many, full, full_valid}
 use Rattle.worked.proofs.Jobs.{lines, counted, counted_last, unknown, jobs, supplier_jobs}
 
 -- the example's four parts; the third with T below 256
@@ -85,6 +90,18 @@ register4 =
 
 abbrev pub built4 : List ℕ
 built4 = 0x21 ∷ 0 ∷ 1 ∷ 0x21 ∷ 2 ∷ 3 ∷ 0x21 ∷ 5 ∷ 6 ∷ 0x22 ∷ 4 ∷ 7 ∷ 0x2F ∷ []
+
+-- parts 1 and 2 in which two ways lead to a product
+
+abbrev pub register_of_4 : List ℕ
+register_of_4 =
+    0x10 ∷ 0 ∷ 0 ∷ 0 ∷ 0
+    ∷ 0x11 ∷ 1 ∷ 0 ∷ 0 ∷ 0 ∷ 0x11 ∷ 1 ∷ 0 ∷ 1 ∷ 0 ∷ 0x11 ∷ 1 ∷ 0 ∷ 2 ∷ 0 ∷ 0x11 ∷ 1 ∷ 0 ∷ 3 ∷ 0
+    ∷ 0x12 ∷ 15 ∷ 0 ∷ 0 ∷ 0 ∷ 0xF9 ∷ 0xFF ∷ 0xFF ∷ 0xFF
+    ∷ 0x1F ∷ []
+
+abbrev pub two_ways : List ℕ
+two_ways = 0x21 ∷ 0 ∷ 1 ∷ 0x21 ∷ 2 ∷ 4 ∷ 0x21 ∷ 3 ∷ 4 ∷ 0x21 ∷ 5 ∷ 6 ∷ 0x22 ∷ 7 ∷ 7 ∷ 0x2F ∷ []
 
 -- what the calls that read parts 1 and 2 answer to bytes that they accept
 
@@ -132,6 +149,13 @@ pub record Worked : Type 0 where
       ≡ get_or (pos 0 ∷ pos 0 ∷ pos 0 ∷ pos 1 ∷ pos 3 ∷ pos 1 ∷ pos 1 ∷ pos 0 ∷ []) (cond (z k) 4 0 + cond (z l) 2 0 + cond (z r) 1 0) (pos 0)
   -- W6, product 3's weight
   pub w6 : weight (coefficient example_register) example_register built_scheme 3 ≡ pos 5
+  -- not of the paper's rows: product 4 is an operand of 5 and of 6, and those are the operands of 7, which is the one term. Whatever its
+  -- coefficient c, here −7, it counts once for each of the four
+  pub two_ways_register : ReadsRegister register_of_4 (Penalty.four (neg_ℤ (pos 7)))
+  pub two_ways_scheme : ReadsScheme register_of_4 two_ways Penalty.two_ways_scheme
+  pub two_ways_products : products_of 4 Penalty.two_ways_scheme ≡ (4, (0, 1)) ∷ (5, (2, 4)) ∷ (6, (3, 4)) ∷ (7, (5, 6)) ∷ []
+  pub two_ways_splits : splits_of Penalty.two_ways_scheme ≡ (7, 7) ∷ []
+  pub two_ways_weights : (c : ℤ) → map (weight (coefficient (Penalty.four c)) (Penalty.four c) Penalty.two_ways_scheme) (4 ∷ 5 ∷ 6 ∷ 7 ∷ []) ≡ abs c ∷ abs c ∷ abs c ∷ abs c ∷ []
   -- W7, our certificate for the scheme of W3
   pub w7 : plain (coefficient example_register) example_register built_scheme
       ≡ record {
@@ -154,6 +178,13 @@ pub record Worked : Type 0 where
       (own_bytes example_register built_scheme ≡ bytes 3)
       × (map (λ m. check_answer part1 built3 (bytes m) lent) (3 ∷ 2 ∷ [])
       ≡ record { number = 0; part = 0; position = 0; bound = neg_ℤ (pos 6) } ∷ record { number = 9; part = 3; position = 73; bound = pos 0 } ∷ [])
+  -- not of the paper's rows: of any register with a choice and a row, and any scheme, 1,023 `31`, a `3B` and 64 squares are within the
+  -- limits; a multiplier more is not, nor a square more
+  pub full : (reg : Register) (sch : Scheme) → 1 ≤ reg.choices → 1 ≤ reg.rows →
+      Within reg sch (many 1_023 64) × ((Within reg sch (many 1_024 64) → ⊥) × (Within reg sch (many 1_023 65) → ⊥))
+  -- and a certificate that meets every condition without a multiplier and a square does so with them
+  pub full_valid : (c : ℕ → ℤ) (reg : Register) (sch : Scheme) (k : Certificate) → 1 ≤ reg.choices → 1 ≤ reg.rows → k.multipliers ≡ [] → k.squares ≡ [] →
+      Valid c reg sch k → Valid c reg sch (with_many k 1_023 64)
   -- W8, T and s of certificates with no further command
   pub w8 : let ratio : ℤ → ℕ → Certificate = λ T s. record { scale = s; target = T; multipliers = []; squares = [] } in
       map bound (ratio (neg_ℤ (pos 7)) 2 ∷ ratio (pos 7) 2 ∷ ratio (neg_ℤ (pos 1)) 3 ∷ []) ≡ neg_ℤ (pos 3) ∷ pos 4 ∷ pos 0 ∷ []
@@ -211,8 +242,15 @@ worked = record {
   w4_call = Builder.w4_call;
   w5 = Penalty.w5;
   w6 = Penalty.w6;
+  two_ways_register = Alone.two_ways_register;
+  two_ways_scheme = Alone.two_ways_read;
+  two_ways_products = refl;
+  two_ways_splits = refl;
+  two_ways_weights = Penalty.two_ways;
   w7 = Plain.w7;
   w7_checked = λ lent l. (Plain.w7_bytes_lem, w7_checked lent l);
+  full = full;
+  full_valid = full_valid;
   w8 = Certificate.w8;
   w9 = λ lent supplier tally k l e. counted lent supplier tally k l e;
   w9_limit = λ lent supplier tally k l e. counted_last lent supplier tally k l e;

@@ -19,7 +19,7 @@ use Rattle.register.specs.Register.{coefficient}
 use Rattle.register.specs.Valid.{Within}
 use Rattle.scheme.specs.declared.Scheme.{Scheme}
 use Rattle.scheme.specs.Function.{g}
-use Rattle.penalty.specs.Operands.{max_factor}
+use Rattle.penalty.specs.Factor.{max_factor}
 use Rattle.penalty.proofs.Scaled.{Product, product, first_terms, times-g}
 use Rattle.scheme.proofs.Truncated.{valid_register}
 use Rattle.penalty.proofs.add_function.Goals as goal

@@ -10,7 +10,7 @@ use Rattle.forms.proofs.Added.{adds_none}
 use Rattle.register.specs.declared.Register.{Register}
 use Rattle.register.specs.Register.{coefficient}
 use Rattle.register.specs.Valid.{Within}
-use Rattle.penalty.specs.Operands.{max_factor}
+use Rattle.penalty.specs.Factor.{max_factor}
 use Rattle.penalty.proofs.Scaled.{Product, product, terms_room, terms_turn}
 use Rattle.scheme.proofs.Truncated.{valid_register}
 use Rattle.penalty.proofs.add_terms.Goals as goal

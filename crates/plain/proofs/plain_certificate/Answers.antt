@@ -91,7 +91,7 @@ put_certificate-requires c =
     let same = ap (λ z. to_z w64 (of_z w64 z)) c.from.ensures ∙ base_same q.register q.scheme v q.scheme_valid _ f in
     record {
       base_bound = rw same v.within.base;
-      table_in_bounds = omega (arith, ap length (encoded q.register q.scheme v q.scheme_valid _ f _ same), bytes_total q.register q.scheme v q.scheme_valid _ f _ c.command_count.ensures, c.if-out-count.false);
+      out_in_bounds = omega (arith, ap length (encoded q.register q.scheme v q.scheme_valid _ f _ same), bytes_total q.register q.scheme v q.scheme_valid _ f _ c.command_count.ensures, c.if-out-count.false);
     }
 
 pub returns : goal.returns

@@ -61,12 +61,12 @@ pub overflow_sub-base : goal.overflow_sub-base
 overflow_sub-base c = target_fits _ _ c.args.table.now.small c.args.base _ c.subtracted.ensures c.requires.base_bound c.ranges.base
 
 pub put_scale-requires : goal.put_scale-requires
-put_scale-requires c = omega (arith, total _ _ c.args.table.now.small c.args.base _ c.requires.table_in_bounds)
+put_scale-requires c = omega (arith, total _ _ c.args.table.now.small c.args.base _ c.requires.out_in_bounds)
 
 pub put_commands-middle-requires : goal.put_commands-middle-requires
 put_commands-middle-requires c κs within = (
   search (rules, ⊑_meet, ⊑_static) depth 12,
-  (search rules, ((λ i x l p. search rules), omega (arith, total _ _ c.args.table.now.small c.args.base _ c.requires.table_in_bounds))),
+  (search rules, ((λ i x l p. search rules), omega (arith, total _ _ c.args.table.now.small c.args.base _ c.requires.out_in_bounds))),
 )
 
 pub put_commands-end-requires : goal.put_commands-end-requires
@@ -76,14 +76,14 @@ put_commands-end-requires c κs within = (
     search rules,
     (
       (λ i x l p. search rules),
-      omega (arith, total _ _ c.args.table.now.small c.args.base _ c.requires.table_in_bounds, c.put_commands-middle.ensures.value),
+      omega (arith, total _ _ c.args.table.now.small c.args.base _ c.requires.out_in_bounds, c.put_commands-middle.ensures.value),
     ),
   ),
 )
 
 pub write-requires : goal.write-requires
 write-requires c =
-    omega (arith, total _ _ c.args.table.now.small c.args.base _ c.requires.table_in_bounds, c.put_commands-middle.ensures.value, c.put_commands-end.ensures.value)
+    omega (arith, total _ _ c.args.table.now.small c.args.base _ c.requires.out_in_bounds, c.put_commands-middle.ensures.value, c.put_commands-end.ensures.value)
 
 pub returns : goal.returns
 unfolding encode_in

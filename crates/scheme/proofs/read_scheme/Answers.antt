@@ -29,6 +29,7 @@ use Rattle.scheme.proofs.Sets.{sets_same}
 use Rattle.scheme.proofs.Passes.{NextProduct, product_iff, NextSplit, split_iff}
 use Rattle.scheme.proofs.Entries.{lengths_within, grown_sets}
 use Rattle.scheme.proofs.Laws.{Good, laws}
+use Rattle.scheme.proofs.read_scheme.Goals.{In_ok-map_err}
 use Rattle.scheme.proofs.read_scheme.Goals as goal
 
 -- what the loop has seen
@@ -76,6 +77,11 @@ module _ {bytes : List ℕ} {reg : Register} {previous : ℕ} {s : Scheme} {at :
       → Going fresh (scheme_rows reg) (Good reg) bytes (next_of fresh (scheme_rows reg) bytes (reached previous s) at b) (at + size_of fresh (scheme_rows reg) b)
   on valid g b e f = going_on fresh (scheme_rows reg) (laws reg valid) g t.inside t.judged b e f
 
+turn_of : (c : In_ok-map_err) → Turn c.args.bytes.now c.args.register.now c.loop-at.previous c.loop-at.scheme c.loop-at.at
+turn_of c =
+    let z : number_in c.refusal_at.result ≡ 0 = search rules in
+    turn c.args.bytes.now c.args.register.now c.loop-at.previous c.loop-at.scheme c.loop-at.at c.loop-at-test.true c.entry.ensures c.loop-at.invariant.held c.refusal_at.ensures z
+
 pub loop-at-init : goal.loop-at-init
 loop-at-init c =
     let reg = c.args.register.now in
@@ -95,43 +101,27 @@ returns-in_err-map_err c =
 
 pub read-l-requires : goal.read-l-requires
 unfolding row_of total
-read-l-requires c =
-    let z : number_in c.refusal_at.result ≡ 0 = search rules in
-    let t = turn c.args.bytes.now c.args.register.now c.loop-at.previous c.loop-at.scheme c.loop-at.at c.loop-at-test.true c.entry.ensures c.loop-at.invariant.held c.refusal_at.ensures z in
-    omega (arith, (here t 0x21 c.in-33.is).room)
+read-l-requires c = omega (arith, (here (turn_of (goal.at.read-l-requires c).In_ok-map_err) 0x21 c.in-33.is).room)
 
 pub read-r-requires : goal.read-r-requires
 unfolding row_of total
-read-r-requires c =
-    let z : number_in c.refusal_at.result ≡ 0 = search rules in
-    let t = turn c.args.bytes.now c.args.register.now c.loop-at.previous c.loop-at.scheme c.loop-at.at c.loop-at-test.true c.entry.ensures c.loop-at.invariant.held c.refusal_at.ensures z in
-    omega (arith, (here t 0x21 c.in-33.is).room)
+read-r-requires c = omega (arith, (here (turn_of (goal.at.read-r-requires c).In_ok-map_err) 0x21 c.in-33.is).room)
 
 pub bounds-sets-n : goal.bounds-sets-n
-bounds-sets-n c =
-    let z : number_in c.refusal_at.result ≡ 0 = search rules in
-    let t = turn c.args.bytes.now c.args.register.now c.loop-at.previous c.loop-at.scheme c.loop-at.at c.loop-at-test.true c.entry.ensures c.loop-at.invariant.held c.refusal_at.ensures z in
-    omega (arith, c.requires.within.choices.few, (product t c.in-33.is).few)
+bounds-sets-n c = omega (arith, c.requires.within.choices.few, (product (turn_of (goal.at.bounds-sets-n c).In_ok-map_err) c.in-33.is).few)
 
 pub bounds-scheme-k : goal.bounds-scheme-k
-bounds-scheme-k c =
-    let z : number_in c.refusal_at.result ≡ 0 = search rules in
-    let t = turn c.args.bytes.now c.args.register.now c.loop-at.previous c.loop-at.scheme c.loop-at.at c.loop-at-test.true c.entry.ensures c.loop-at.invariant.held c.refusal_at.ensures z in
-    (product t c.in-33.is).few
+bounds-scheme-k c = (product (turn_of (goal.at.bounds-scheme-k c).In_ok-map_err) c.in-33.is).few
 
 pub bounds-scheme-k-in-33 : goal.bounds-scheme-k-in-33
-bounds-scheme-k-in-33 c =
-    let z : number_in c.refusal_at.result ≡ 0 = search rules in
-    let t = turn c.args.bytes.now c.args.register.now c.loop-at.previous c.loop-at.scheme c.loop-at.at c.loop-at-test.true c.entry.ensures c.loop-at.invariant.held c.refusal_at.ensures z in
-    (product t c.in-33.is).few
+bounds-scheme-k-in-33 c = (product (turn_of (goal.at.bounds-scheme-k-in-33 c).In_ok-map_err) c.in-33.is).few
 
 pub loop-at-preserved-in-33 : goal.loop-at-preserved-in-33
 unfolding row_of total operands_at
 loop-at-preserved-in-33 c =
     let reg = c.args.register.now in
     let i = c.loop-at in
-    let z : number_in c.refusal_at.result ≡ 0 = search rules in
-    let t = turn c.args.bytes.now c.args.register.now c.loop-at.previous c.loop-at.scheme c.loop-at.at c.loop-at-test.true c.entry.ensures c.loop-at.invariant.held c.refusal_at.ensures z in
+    let t = turn_of (goal.at.loop-at-preserved-in-33 c).In_ok-map_err in
     let f = c.in-33.is in
     let q = product t f in
     rw (c.union_of.ensures, c.read-r.ensures, c.read-l.ensures, add-one)
@@ -142,36 +132,23 @@ loop-at-preserved-in-33 c =
 
 pub read-requires : goal.read-requires
 unfolding row_of total
-read-requires c =
-    let z : number_in c.refusal_at.result ≡ 0 = search rules in
-    let t = turn c.args.bytes.now c.args.register.now c.loop-at.previous c.loop-at.scheme c.loop-at.at c.loop-at-test.true c.entry.ensures c.loop-at.invariant.held c.refusal_at.ensures z in
-    omega (arith, (here t 0x22 c.in-34.is).room)
+read-requires c = omega (arith, (here (turn_of (goal.at.read-requires c).In_ok-map_err) 0x22 c.in-34.is).room)
 
 pub bounds-scheme-t : goal.bounds-scheme-t
-bounds-scheme-t c =
-    let z : number_in c.refusal_at.result ≡ 0 = search rules in
-    let t = turn c.args.bytes.now c.args.register.now c.loop-at.previous c.loop-at.scheme c.loop-at.at c.loop-at-test.true c.entry.ensures c.loop-at.invariant.held c.refusal_at.ensures z in
-    omega (arith, c.requires.within.terms.few, (split t c.in-34.is).few)
+bounds-scheme-t c = omega (arith, c.requires.within.terms.few, (split (turn_of (goal.at.bounds-scheme-t c).In_ok-map_err) c.in-34.is).few)
 
 pub read-requires-in-34 : goal.read-requires-in-34
 unfolding row_of total
-read-requires-in-34 c =
-    let z : number_in c.refusal_at.result ≡ 0 = search rules in
-    let t = turn c.args.bytes.now c.args.register.now c.loop-at.previous c.loop-at.scheme c.loop-at.at c.loop-at-test.true c.entry.ensures c.loop-at.invariant.held c.refusal_at.ensures z in
-    omega (arith, (here t 0x22 c.in-34.is).room)
+read-requires-in-34 c = omega (arith, (here (turn_of (goal.at.read-requires-in-34 c).In_ok-map_err) 0x22 c.in-34.is).room)
 
 pub bounds-scheme-t-in-34 : goal.bounds-scheme-t-in-34
-bounds-scheme-t-in-34 c =
-    let z : number_in c.refusal_at.result ≡ 0 = search rules in
-    let t = turn c.args.bytes.now c.args.register.now c.loop-at.previous c.loop-at.scheme c.loop-at.at c.loop-at-test.true c.entry.ensures c.loop-at.invariant.held c.refusal_at.ensures z in
-    omega (arith, c.requires.within.terms.few, (split t c.in-34.is).few)
+bounds-scheme-t-in-34 c = omega (arith, c.requires.within.terms.few, (split (turn_of (goal.at.bounds-scheme-t-in-34 c).In_ok-map_err) c.in-34.is).few)
 
 pub loop-at-preserved : goal.loop-at-preserved
 unfolding row_of total operands_at
 loop-at-preserved c =
     let i = c.loop-at in
-    let z : number_in c.refusal_at.result ≡ 0 = search rules in
-    let t = turn c.args.bytes.now c.args.register.now c.loop-at.previous c.loop-at.scheme c.loop-at.at c.loop-at-test.true c.entry.ensures c.loop-at.invariant.held c.refusal_at.ensures z in
+    let t = turn_of (goal.at.loop-at-preserved c).In_ok-map_err in
     rw (c.read-in-34.ensures, c.read.ensures, add-one)
     (record { going = on t c.requires i.invariant.going 0x22 c.in-34.is refl; held = sets_same i.invariant.held (with_split i.scheme _ _) (λ w a b. (refl, refl)) })
 
@@ -180,8 +157,7 @@ unfolding scheme_in_job row_of total operands_at
 returns-in_default c =
     let reg = c.args.register.now in
     let i = c.loop-at in
-    let z : number_in c.refusal_at.result ≡ 0 = search rules in
-    let t = turn c.args.bytes.now c.args.register.now c.loop-at.previous c.loop-at.scheme c.loop-at.at c.loop-at-test.true c.entry.ensures c.loop-at.invariant.held c.refusal_at.ensures z in
+    let t = turn_of (goal.at.returns-in_default c).In_ok-map_err in
     let f = end t (λ e. omega arith) (λ e. omega arith) in
     ap (added_by (λ s. s)) (sym (going_ends fresh (scheme_rows reg) (laws reg c.requires) i.invariant.going t.inside t.judged 0x2F f refl))
 
