@@ -10,12 +10,12 @@ use Rattle.integers.specs.Lists.{join_below}
 use Rattle.integers.specs.Sum.{sum_below, sum_over}
 use Rattle.forms.specs.Form.{value, entry, times}
 use Rattle.register.specs.declared.Register.{Register}
-use Rattle.register.specs.Register.{coefficient, set_base, set_choices, set_terms}
+use Rattle.register.specs.Register.{coefficient, set_base, set_choices}
 use Rattle.scheme.specs.declared.Scheme.{Scheme}
 use Rattle.scheme.specs.Variables.{up_to, upward}
 use Rattle.scheme.specs.Filling.{Filling, factor}
 use Rattle.scheme.specs.Function.{g, term}
-use Rattle.register.proofs.Example.{example_register}
+use Rattle.register.proofs.Example.{example_register, known_terms}
 use Rattle.scheme.proofs.Example.{example_scheme, built_scheme}
 use Rattle.penalty.specs.Weights.{reaches, uses, weight}
 use Rattle.penalty.specs.Penalty.{bracket, h}
@@ -57,7 +57,7 @@ table = refl
 -- coefficient c, is 7 alone
 
 abbrev pub four : ℤ → Register
-four c = set_terms (set_choices (set_base example_register (pos 0)) 4 (1 ∷ 1 ∷ 1 ∷ 1 ∷ replicate 28 0) (0 ∷ 1 ∷ 2 ∷ 3 ∷ replicate 28 0)) 1 (15 ∷ replicate 255 0) (c ∷ replicate 255 (pos 0))
+four c = known_terms (set_choices (set_base example_register (pos 0)) 4 (1 ∷ 1 ∷ 1 ∷ 1 ∷ replicate 28 0) (0 ∷ 1 ∷ 2 ∷ 3 ∷ replicate 28 0)) 1 (15 ∷ replicate 255 0) (c ∷ replicate 255 (pos 0))
 
 abbrev pub two_ways_scheme : Scheme
 two_ways_scheme = record {

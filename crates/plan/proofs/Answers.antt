@@ -14,7 +14,6 @@ use Rattle.wire.proofs.Results.{whole_added}
 use Rattle.wire.proofs.Part.{NumberedReading, read_part_numbered, by_itself_numbered}
 use Rattle.register.specs.declared.Register.{Register}
 use Rattle.register.specs.Limits.{max_choices}
-use Rattle.register.specs.Register.{coefficient}
 use Rattle.register.specs.Format.{register_part, register_in_job, register_by_itself}
 use Rattle.register.specs.Opening.{open_register}
 use Rattle.register.specs.Valid as R
@@ -22,6 +21,7 @@ use Rattle.register.specs.Encoding as RE
 use Rattle.register.proofs.Accept as Ra
 use Rattle.register.proofs.Opened.{Opened, opened_by}
 use Rattle.plan.specs.Plan.{cost}
+use Rattle.plan.specs.Chosen.{chosen}
 use Rattle.plan.specs.Format.{plan_part, plan_in_job, plan_by_itself}
 use Rattle.plan.specs.Answer.{refused_cost, accepted_cost, cost_outcome, cost_answer}
 use Rattle.plan.specs.Encoding.{Encodes}
@@ -30,11 +30,11 @@ use Rattle.plan.proofs.Accept.{whole_accepted as plan-accepted, whole_valid, who
 
 -- the cost, where the register is opened, by what the plan's reader answers
 pub cost_then : (s plan : List ℕ) (reg : Register) (read : Result (Read ℕ) Refused) → accepts reg ≡ open_register s → reading_of read ≡ added_by (λ p. p) (plan_in_job reg plan) →
-    and_then (whole_of 4 (by_itself plan (reading_of read))) (λ p. accepts (cost (coefficient reg) reg p)) ≡ cost_outcome s plan
+    and_then (whole_of 4 (by_itself plan (reading_of read))) (λ p. accepts (cost (chosen reg p) reg p)) ≡ cost_outcome s plan
 unfolding plan_by_itself
 cost_then s plan reg read e r = rw (← e, r, whole_added 4 plan (plan_in_job reg plan))
 
-plan_numbered : (reg : Register) (s : List ℕ) → NumberedReading (plan_by_itself reg s)
+pub plan_numbered : (reg : Register) (s : List ℕ) → NumberedReading (plan_by_itself reg s)
 unfolding plan_by_itself plan_in_job
 plan_numbered reg s = by_itself_numbered s (plan_in_job reg s) (read_part_numbered (plan_part reg) s)
 
@@ -51,7 +51,7 @@ pub record Costed (s plan : List ℕ) : Type 0 where
   pub end : ℕ
   pub first : Opened s reg
   pub reads : plan_by_itself reg plan ≡ accepted read end
-  pub answers : cost_answer s plan ≡ accepted_cost (cost (coefficient reg) reg read.parsed)
+  pub answers : cost_answer s plan ≡ accepted_cost (cost (chosen reg read.parsed) reg read.parsed)
 
 pub costed : (s plan : List ℕ) → (cost_answer s plan).number ≡ 0 → Costed s plan
 unfolding cost_answer
@@ -66,7 +66,7 @@ costed s plan z = by (register_by_itself s) refl (register_numbered s)
     by (accepted p end) e d = go p.parsed (opened_by s p.parsed (rw e)) (plan_by_itself p.parsed plan) refl (plan_numbered p.parsed plan)
 
 -- the bytes of a valid register and of a plan whose choices are all there are given the plan's cost
-pub cost_encodings : (s plan : List ℕ) (reg : Register) (p : ℕ) → R.Valid reg → RE.Encodes reg s → Valid reg p → Encodes reg p plan → cost_answer s plan ≡ accepted_cost (cost (coefficient reg) reg p)
+pub cost_encodings : (s plan : List ℕ) (reg : Register) (p : ℕ) → R.Valid reg → RE.Encodes reg s → Valid reg p → Encodes reg p plan → cost_answer s plan ≡ accepted_cost (cost (chosen reg p) reg p)
 unfolding cost_answer
 cost_encodings s plan reg p v e named e' = rw (Ra.encoding_accepted s reg v e, plan-accepted reg v.within.choices.few p plan named e')
 

@@ -3,6 +3,8 @@ pub mod Command
 pub mod Accept
 pub mod Lowest
 pub mod Answers
+pub mod Ranges
+pub mod Coefficients
 pub mod Bounds
 pub mod Prefix
 pub mod Fits

@@ -1,6 +1,8 @@
--- Part 4 of the job file, whether a plan fits rows, and the cost of a plan; and how a plan was read before there were rows.
+-- Part 4 of the job file, whether a plan fits rows, the coefficients that a plan chooses, and its cost; and how a plan was read before
+-- there were rows.
 pub mod Plan
 pub mod Fits
+pub mod Chosen
 pub mod Valid
 pub mod Format
 pub mod Encoding

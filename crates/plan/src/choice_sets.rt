@@ -12,10 +12,17 @@ pub fn has(set: u32, i: usize) -> bool
     (set >> i) % 2 == 1
 }
 
-// An amount where a set has every choice of a mask, and else 0.
+// A set has every choice of a mask.
 #[tactic(auto, unfolding(sets::specs::Sets::is_subset))]
+pub fn within(mask: u32, set: u32) -> bool
+    ensures { result ≡ is_subset mask set }
+{
+    set & mask == mask
+}
+
+// An amount where a set has every choice of a mask, and else 0.
 pub fn where_within(mask: u32, set: u32, amount: i32) -> i32
     ensures { result ≡ cond (is_subset mask set) amount (pos 0) }
 {
-    if set & mask == mask { amount } else { 0 }
+    if within(mask, set) { amount } else { 0 }
 }

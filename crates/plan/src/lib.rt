@@ -9,14 +9,15 @@ ghost use Rattle.wire.specs.Outcome.{added_by};
 ghost use Rattle.wire.specs.Results.{number_of, number_in, reading_of, outcome_of};
 ghost use Rattle.wire.specs.Rows.{size_of};
 ghost use Rattle.register.specs.Limits.{max_choices, max_rows};
-ghost use Rattle.register.specs.Register.{coefficient};
 ghost use Rattle.register.specs.Valid.{Within};
 ghost use Rattle.plan.specs.Plan.{cost};
+ghost use Rattle.plan.specs.Chosen.{chosen};
 ghost use Rattle.plan.specs.Fits.{fits};
 ghost use Rattle.plan.specs.Format.{plan_checks, plan_row, plan_in_job};
 ghost use Rattle.plan.specs.Answer.{refused_cost, cost_outcome, cost_answer};
 
 pub mod choice_sets;
+pub mod chosen;
 mod rows;
 
 use choice_sets::where_within;
@@ -90,14 +91,14 @@ pub fn read_plan(bytes: &[u8], register: Register) -> Result<Read<u32>, Refused>
     }
 }
 
-// The cost of a plan: the base cost and what each term adds.
+// The cost of a plan: the base cost and what each term adds, which is high where the term has a range.
 pub fn cost_of(register: Register, plan: u32) -> i64
     requires { Within register }
-    ensures { result ≡ cost (coefficient register) register plan }
+    ensures { result ≡ cost (chosen register plan) register plan }
 {
     let mut total = i64::from(register.base);
     for t in 0..register.terms {
-        total += i64::from(where_within(register.masks[t], plan, register.coefficients[t]));
+        total += i64::from(where_within(register.masks[t], plan, register.highs[t]));
     }
     total
 }

@@ -1,5 +1,5 @@
--- A register that says no day length and no row is read as before there were either, in number, position and every field. It is read
--- as before there were rows, by `BeforeRows`, and that reading is held here to the one before there were day lengths: the length stood
+-- A register that says no day length, no row and no range is read as before there were any of these, in number, position and every
+-- field. It is read as before there were rows, by `BeforeRows`, and that reading is held here to the one before there were day lengths: the length stood
 -- at 5, after the base cost; with no `18` there, one that stands where a command is due is refused 1, as it was.
 use Prim.Native.Nat.{ℕ, ◌<◌}
 use native.Mathlib.Omega.{arith}
@@ -20,7 +20,7 @@ use Rattle.register.specs.declared.Register.{Register}
 use Rattle.register.specs.Limits.{usual_day}
 use Rattle.register.specs.Register.{fresh}
 use Rattle.register.specs.Format.{choice_checks, choice_row, window_checks, window_row, register_rows, register_part, register_in_job, register_by_itself}
-use Rattle.register.specs.Encoding.{SaysLength, SaysRow}
+use Rattle.register.specs.Encoding.{SaysLength, SaysRow, SaysRange}
 use Rattle.register.specs.BeforeRows.{term_row_before_rows, end_row_before_rows, rows_before_rows, part_before_rows, in_job_before_rows}
 use Rattle.register.specs.BeforeLengths.{choice_checks_before_lengths, window_checks_before_lengths, rows_before_lengths, part_before_lengths, in_job_before_lengths, by_itself_before_lengths}
 use Rattle.register.proofs.DayLengths.{length_said}
@@ -33,7 +33,7 @@ unfolding row_of
 first_base b =
     by_bytes (λ b. register_part.here register_part.start b ≡ true → b ≡ 0x10) register_rows b
     (λ n h. absurd (false≢true (ap (λ row. is_among 0 row.follows) (sym (no_row_lem register_rows b n)) ∙ h)))
-    ((λ h. refl) ▹ (λ h. absurd (false≢true h)) ▹ (λ h. absurd (false≢true h)) ▹ (λ h. absurd (false≢true h)) ▹ (λ h. absurd (false≢true h)) ▹ (λ h. absurd (false≢true h)) ▹ (λ h. absurd (false≢true h)) ▹ tt)
+    ((λ h. refl) ▹ (λ h. absurd (false≢true h)) ▹ (λ h. absurd (false≢true h)) ▹ (λ h. absurd (false≢true h)) ▹ (λ h. absurd (false≢true h)) ▹ (λ h. absurd (false≢true h)) ▹ (λ h. absurd (false≢true h)) ▹ (λ h. absurd (false≢true h)) ▹ tt)
 
 starts_base : (s : List ℕ) {p : Progress Register} {end : ℕ} → register_in_job s ≡ accepted p end → get_or s 0 0 ≡ 0x10
 unfolding register_in_job read_part
@@ -112,15 +112,15 @@ module _ (s : List ℕ) (none : SaysLength s → ⊥) where
   unfolding in_job_before_rows in_job_before_lengths
   both = (read_alike part_before_rows part_before_lengths Reach s alike refl (record { start = λ e. refl; base = λ e. absurd (omega arith); no_length = λ e. absurd (omega arith); usual = λ d. absurd (d refl) })).0
 
-  module _ (no_row_said : SaysRow s → ⊥) where
+  module _ (no_row_said : SaysRow s → ⊥) (no_range_said : SaysRange s → ⊥) where
     pub as_before_lengths_in_job : register_in_job s ≡ in_job_before_lengths s
-    as_before_lengths_in_job = as_before_rows_in_job s no_row_said ∙ both
+    as_before_lengths_in_job = as_before_rows_in_job s no_row_said no_range_said ∙ both
 
     pub as_before_lengths : register_by_itself s ≡ by_itself_before_lengths s
     unfolding register_by_itself by_itself_before_lengths
     as_before_lengths = ap (by_itself s) as_before_lengths_in_job
 
-  -- and where it is accepted, rows or not, the day has the usual length
+  -- and where it is accepted, rows and ranges or not, the day has the usual length
   pub usual_day_lem : {p : Progress Register} {end : ℕ} → register_by_itself s ≡ accepted p end → p.parsed.day_length ≡ usual_day
   unfolding register_by_itself
   usual_day_lem {p} {end} e =

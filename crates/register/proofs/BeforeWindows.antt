@@ -1,5 +1,5 @@
--- A register without windows that says no day length and no row is read as before there were any of these, in number, position and
--- every field. It is read as before there were day lengths, by `BeforeLengths`, and that reading is held here to the one before there were windows: the
+-- A register without windows that says no day length, no row and no range is read as before there were any of these, in number, position
+-- and every field. It is read as before there were day lengths, by `BeforeLengths`, and that reading is held here to the one before there were windows: the
 -- first window stood at 5, after the base cost; with no `13` there, one that stands where a command is due is refused 1, as it was.
 use Prim.Native.Nat.{ℕ, ◌<◌}
 use native.Mathlib.Omega.{arith}
@@ -18,7 +18,7 @@ use Rattle.wire.proofs.Alike.{SameRow, moved_row, rows_alike, Alike, Ended, neit
 use Rattle.register.specs.declared.Register.{Register}
 use Rattle.register.specs.Register.{fresh}
 use Rattle.register.specs.Format.{register_in_job, register_by_itself}
-use Rattle.register.specs.Encoding.{SaysLength, SaysRow}
+use Rattle.register.specs.Encoding.{SaysLength, SaysRow, SaysRange}
 use Rattle.register.specs.BeforeLengths.{choice_row_before_lengths, term_row_before_lengths, end_row_before_lengths, choice_checks_before_lengths, rows_before_lengths, part_before_lengths, in_job_before_lengths}
 use Rattle.register.specs.BeforeWindows.{choice_checks_before_windows, rows_before_windows, part_before_windows, in_job_before_windows, by_itself_before_windows}
 use Rattle.register.proofs.BeforeLengths.{as_before_lengths_in_job}
@@ -87,9 +87,9 @@ module _ (s : List ℕ) (none : get_or s 5 0 ≡ 0x13 → ⊥) where
   unfolding in_job_before_lengths in_job_before_windows
   both = read_alike part_before_lengths part_before_windows Reach s alike refl (record { start = λ e. refl; base = λ e. absurd (omega arith); no_window = λ e. absurd (omega arith); windows = refl })
 
-  module _ (no_length : SaysLength s → ⊥) (no_row_said : SaysRow s → ⊥) where
+  module _ (no_length : SaysLength s → ⊥) (no_row_said : SaysRow s → ⊥) (no_range_said : SaysRange s → ⊥) where
     pub as_before_windows_in_job : register_in_job s ≡ in_job_before_windows s
-    as_before_windows_in_job = as_before_lengths_in_job s no_length no_row_said ∙ both.0
+    as_before_windows_in_job = as_before_lengths_in_job s no_length no_row_said no_range_said ∙ both.0
 
     pub as_before_windows : register_by_itself s ≡ by_itself_before_windows s
     unfolding register_by_itself by_itself_before_windows
@@ -99,4 +99,4 @@ module _ (s : List ℕ) (none : get_or s 5 0 ≡ 0x13 → ⊥) where
     pub no_windows : {p : Progress Register} {end : ℕ} → register_by_itself s ≡ accepted p end → windows_of p.parsed ≡ windows_of fresh
     unfolding register_by_itself
     no_windows {p} {end} e =
-        let q : Ended Reach (accepted p end) = rw (sym (as_before_lengths_in_job s no_length no_row_said) ∙ (by_itself_accepted s (register_in_job s) p end e).0) at both.1 in q.windows
+        let q : Ended Reach (accepted p end) = rw (sym (as_before_lengths_in_job s no_length no_row_said no_range_said) ∙ (by_itself_accepted s (register_in_job s) p end e).0) at both.1 in q.windows

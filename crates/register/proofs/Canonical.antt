@@ -2,6 +2,7 @@
 use Prim.Native.Nat.{ℕ}
 use mathlib.Core.Path.{◌≡◌, refl, sym, ◌∙◌, ap, ap₂}
 use mathlib.Core.Logic.{◌⊎◌, inl, inr, ⊎_elim}
+use mathlib.Core.Bool.{Bool, true, false}
 use mathlib.Core.List.{List, [], ◌∷◌, ◌++◌, append-nil, flat_map}
 use lib.Dec.{eqb}
 use lib.IntN.{ℤ}
@@ -13,15 +14,15 @@ use Rattle.integers.proofs.Lists.{flag}
 use Rattle.integers.proofs.Blocks.{length_ones}
 use Rattle.wire.specs.Rows.{row_of}
 use Rattle.wire.specs.Encoding.{Command, fields, encode_command, encode}
-use Rattle.wire.specs.Grammar.{Only, Form, Kinds}
+use Rattle.wire.specs.Grammar.{Only, Among, Form, Kinds}
 use Rattle.wire.proofs.Encoding.{encode-append, encode_below}
 use Rattle.wire.proofs.Many.{fields_signed}
 use Rattle.wire.proofs.Grammar.{then_missing, then_present, optional_last, each_below, each_only}
 use Rattle.register.specs.declared.Register.{Register}
 use Rattle.register.specs.Limits.{row_entries, usual_day}
-use Rattle.register.specs.Register.{tank, minute, mask, coefficient, window_tank, window_from, window_to, row_total, row_entry}
+use Rattle.register.specs.Register.{tank, minute, mask, coefficient, high, is_range, window_tank, window_from, window_to, row_total, row_entry}
 use Rattle.register.specs.Format.{register_part}
-use Rattle.register.specs.Encoding.{base_command, length_command, Header, choice_command, term_command, window_command, row_list, row_command, end_command, choice_kind, term_kind, window_kind, row_kind, kinds, Commands, Encodes, encode_base, encode_choice, encode_term, encode_window, encode_row, encode_length, encode_after, encode_with_length, encode_without_length, encode_register}
+use Rattle.register.specs.Encoding.{base_command, length_command, Header, choice_command, term_command, range_command, entry_command, window_command, row_list, row_command, end_command, choice_kind, term_kind, window_kind, row_kind, kinds, Commands, Encodes, encode_base, encode_choice, encode_term, encode_range, encode_entry, encode_window, encode_row, encode_length, encode_after, encode_with_length, encode_without_length, encode_register}
 use Rattle.register.specs.Outside.{up_to_choices}
 
 -- ---- the bytes of a command
@@ -37,6 +38,14 @@ choice_bytes t m = rw append-nil
 term_bytes : (m : ℕ) (z : ℤ) → encode_command register_part (term_command m z) ≡ encode_term m z
 unfolding encode_command fields row_of encode_term
 term_bytes m z = rw append-nil
+
+range_bytes : (m : ℕ) (a b : ℤ) → encode_command register_part (range_command m a b) ≡ encode_range m a b
+unfolding encode_command fields row_of encode_range
+range_bytes m a b = rw append-nil
+
+entry_bytes : (ranged : Bool) (m : ℕ) (a b : ℤ) → encode_command register_part (entry_command ranged m a b) ≡ encode_entry ranged m a b
+entry_bytes true m a b = range_bytes m a b
+entry_bytes false m a b = term_bytes m a
 
 window_bytes : (t f o : ℕ) → encode_command register_part (window_command t f o) ≡ encode_window t f o
 unfolding encode_command fields row_of encode_window
@@ -56,6 +65,11 @@ end_bytes = refl
 
 -- ---- the commands that a writer makes
 
+-- the byte of a term's command
+pub entry_among : (ranged : Bool) (m : ℕ) (a b : ℤ) → Among (entry_command ranged m a b).byte term_kind.bytes
+entry_among true m a b = inr (inl refl)
+entry_among false m a b = inl refl
+
 module _ (r : Register) where
   abbrev pub windows_of : List Command
   windows_of = join_below r.windows (λ j. window_command (window_tank r j) (window_from r j) (window_to r j) ∷ [])
@@ -66,8 +80,11 @@ module _ (r : Register) where
   abbrev pub rows_of : List Command
   rows_of = join_below r.rows (λ k. row_command (row_total r k) (row_list r k) ∷ [])
 
+  abbrev pub term_of : ℕ → Command
+  term_of t = entry_command (is_range r t) (mask r t) (coefficient r t) (high r t)
+
   abbrev pub terms_of : List Command
-  terms_of = join_below r.terms (λ t. term_command (mask r t) (coefficient r t) ∷ [])
+  terms_of = join_below r.terms (λ t. term_of t ∷ [])
 
   -- after a header
   abbrev pub commands_after : List Command → List Command
@@ -96,7 +113,7 @@ module _ (r : Register) where
       is_second = each_below (Form row_kind r) (λ k. row_command (row_total r k) (row_list r k)) r.rows (λ k l. (inl refl, refl));
       whole = refl;
     };
-    is_second = each_below (Form term_kind r) (λ t. term_command (mask r t) (coefficient r t)) r.terms (λ t l. (inl refl, refl));
+    is_second = each_below (Form term_kind r) term_of r.terms (λ t l. (entry_among (is_range r t) (mask r t) (coefficient r t) (high r t), refl));
     whole = refl;
   }
 
@@ -121,7 +138,7 @@ module _ (r : Register) where
         encode_below register_part (λ j. window_command (window_tank r j) (window_from r j) (window_to r j)) (λ j. encode_window (window_tank r j) (window_from r j) (window_to r j)) r.windows (λ j. window_bytes (window_tank r j) (window_from r j) (window_to r j)),
         encode_below register_part (λ i. choice_command (tank r i) (minute r i)) (λ i. encode_choice (tank r i) (minute r i)) r.choices (λ i. choice_bytes (tank r i) (minute r i)),
         encode_below register_part (λ k. row_command (row_total r k) (row_list r k)) (λ k. encode_row (row_total r k) (row_list r k)) r.rows (λ k. row_bytes (row_total r k) (row_list r k) (length_ones (row_entry r k) row_entries)),
-        encode_below register_part (λ t. term_command (mask r t) (coefficient r t)) (λ t. encode_term (mask r t) (coefficient r t)) r.terms (λ t. term_bytes (mask r t) (coefficient r t)),
+        encode_below register_part term_of (λ t. encode_entry (is_range r t) (mask r t) (coefficient r t) (high r t)) r.terms (λ t. entry_bytes (is_range r t) (mask r t) (coefficient r t) (high r t)),
         end_bytes,
         append-nil,
       )
@@ -129,7 +146,7 @@ module _ (r : Register) where
   after_encodes : (h : List Command) {x : List ℕ} → Header r h → encode register_part h ≡ x → Encodes r (encode_after x r)
   after_encodes h x e = record { commands = commands_after h; are = after_are h x; bytes = sym (after_bytes h ∙ rw e) }
 
-  -- and no others, since each window, choice, row and term has one form
+  -- and no others, since each window, choice, row and term, with a range or without, has one form
 
   pub body_only : {cs : List Command} → Kinds r (Header r) kinds cs → (h : List Command) × (Header r h × (cs ≡ h ++ windows_of ++ choices_of ++ rows_of ++ terms_of))
   body_only body =

@@ -5,9 +5,10 @@ use native.Mathlib.Omega.{arith}
 use native.Mathlib.Decide.{ℕ_discrete}
 use mathlib.Core.Path.{◌≡◌, refl, sym, ◌∙◌, ap, subst}
 use mathlib.Core.Logic.{inl, inr, ⊎_elim}
+use mathlib.Core.Bool.{Bool, false}
 use mathlib.Core.List.{List, [], ◌∷◌}
 use lib.ListN.{length, get_or, set, replicate}
-use lib.Seq.{sets, get_or-set_same}
+use lib.Seq.{sets, get_or-set_same, set-get_or}
 use lib.IntN.{ℤ, pos, nat_abs}
 use mir.Syntax.{w8}
 use mir.Val.{SFits}
@@ -16,7 +17,7 @@ use Rattle.integers.proofs.Blocks.{ones_at, ones_are, sets_other, sets_in, colum
 use Rattle.integers.proofs.Entries.{below_or_last, each_more, kept_set, column_none, column_empty, column_more, column_less, set_back, table_none, table_more, table_less}
 use Rattle.register.specs.declared.Register.{Register}
 use Rattle.register.specs.Limits.{max_choices, max_terms, max_windows, max_rows, row_entries, max_base, usual_day, long_day}
-use Rattle.register.specs.Register.{tank, minute, mask, coefficient, window_tank, window_from, window_to, row_total, row_entry, fresh, set_base, set_length, set_choices, set_terms, set_windows, set_rows, with_base, with_length, with_choice, with_term, with_window, with_row}
+use Rattle.register.specs.Register.{tank, minute, mask, coefficient, high, is_range, window_tank, window_from, window_to, row_total, row_entry, fresh, set_base, set_length, set_choices, set_terms, set_windows, set_rows, with_base, with_length, with_choice, with_entry, with_window, with_row}
 use Rattle.register.specs.Answer.{NoFall}
 use Rattle.register.specs.Valid.{DayLength, FeedingRow, Within, Choices, Terms, Windows, Rows, MayFeed, window_at}
 use Rattle.register.specs.Encoding.{row_list}
@@ -27,8 +28,8 @@ use Rattle.register.proofs.Passes.{NextChoice, NextTerm, NextWindow, NextRow, wi
 pub choices_none : (length : ℕ) → Choices length 0 (replicate max_choices 0) (replicate max_choices 0)
 choices_none length = let column = column_none {A = ℕ} max_choices 0 in record { tanks = column; minutes = column; table = table_none max_choices _ _ _ }
 
-pub terms_none : (n : ℕ) → Terms n 0 (replicate max_terms 0) (replicate max_terms (pos 0))
-terms_none n = record { masks = column_none max_terms 0; coefficients = column_none max_terms (pos 0); table = table_none max_terms _ _ _ }
+pub terms_none : (n : ℕ) → Terms n 0 (replicate max_terms 0) (replicate max_terms (pos 0)) (replicate max_terms (pos 0)) (replicate max_terms false)
+terms_none n = let column = column_none max_terms (pos 0) in record { masks = column_none max_terms 0; coefficients = column; highs = column; ranged = column_none max_terms false; table = table_none max_terms _ _ _ }
 
 pub windows_none : (length : ℕ) → Windows length 0 (replicate max_windows 0) (replicate max_windows 0) (replicate max_windows 0)
 windows_none length = let column = column_none {A = ℕ} max_windows 0 in record { tanks = column; froms = column; tos = column; table = table_none max_windows _ _ _ }
@@ -49,8 +50,8 @@ choices_on b e c = record { tanks = c.tanks; minutes = c.minutes; table = rw e (
 windows_on : {k a : ℕ} {ts fs os : List ℕ} (b : ℕ) → k ≡ 0 → Windows a k ts fs os → Windows b k ts fs os
 windows_on b e w = record { tanks = w.tanks; froms = w.froms; tos = w.tos; table = rw e (table_none max_windows _ _ _) }
 
-terms_over : {m a : ℕ} {ms : List ℕ} {cs : List ℤ} (b : ℕ) → m ≡ 0 → Terms a m ms cs → Terms b m ms cs
-terms_over b e t = record { masks = t.masks; coefficients = t.coefficients; table = rw e (table_none max_terms _ _ _) }
+terms_over : {m a : ℕ} {ms : List ℕ} {cs hs : List ℤ} {rs : List Bool} (b : ℕ) → m ≡ 0 → Terms a m ms cs hs rs → Terms b m ms cs hs rs
+terms_over b e t = record { masks = t.masks; coefficients = t.coefficients; highs = t.highs; ranged = t.ranged; table = rw e (table_none max_terms _ _ _) }
 
 rows_over : {k a : ℕ} {bs es : List ℤ} (b : ℕ) → k ≡ 0 → Rows a k bs es → Rows b k bs es
 rows_over b e q = record { totals = q.totals; entries = q.entries; few = q.few; each = λ i l. absurd (omega arith) }
@@ -102,7 +103,7 @@ module _ (r : Register) (w : Within r) where
     may_feed = may;
   }
 
-  in_terms : {m : ℕ} {masks : List ℕ} {coefficients : List ℤ} → Terms r.choices m masks coefficients → Within (set_terms r m masks coefficients)
+  in_terms : {m : ℕ} {masks : List ℕ} {lows highs : List ℤ} {ranged : List Bool} → Terms r.choices m masks lows highs ranged → Within (set_terms r m masks lows highs ranged)
   in_terms t = record { base = w.base; day = w.day; choices = w.choices; terms = t; windows = w.windows; rows = w.rows; may_feed = w.may_feed }
 
   -- other windows, in which each choice may be fed
@@ -117,8 +118,8 @@ module _ (r : Register) where
   same_choices : {n : ℕ} {tanks minutes : List ℕ} → n ≡ r.choices → tanks ≡ r.tanks → minutes ≡ r.minutes → set_choices r n tanks minutes ≡ r
   same_choices a b c = rw (a, b, c)
 
-  same_terms : {m : ℕ} {masks : List ℕ} {coefficients : List ℤ} → m ≡ r.terms → masks ≡ r.masks → coefficients ≡ r.coefficients → set_terms r m masks coefficients ≡ r
-  same_terms a b c = rw (a, b, c)
+  same_terms : {m : ℕ} {masks : List ℕ} {lows highs : List ℤ} {ranged : List Bool} → m ≡ r.terms → masks ≡ r.masks → lows ≡ r.coefficients → highs ≡ r.highs → ranged ≡ r.ranged → set_terms r m masks lows highs ranged ≡ r
+  same_terms a b c d e = rw (a, b, c, d, e)
 
   same_windows : {k : ℕ} {tanks froms tos : List ℕ} → k ≡ r.windows → tanks ≡ r.window_tanks → froms ≡ r.window_froms → tos ≡ r.window_tos → set_windows r k tanks froms tos ≡ r
   same_windows a b c d = rw (a, b, c, d)
@@ -127,6 +128,9 @@ module _ (r : Register) where
   same_rows a b c = rw (a, b, c)
 
 -- ---- the base cost and the day length
+
+abbrev no_terms : Register → Register
+no_terms r = set_terms r 0 (replicate max_terms 0) (replicate max_terms (pos 0)) (replicate max_terms (pos 0)) (replicate max_terms false)
 
 abbrev no_windows : Register → Register
 no_windows r = set_windows r 0 (replicate max_windows 0) (replicate max_windows 0) (replicate max_windows 0)
@@ -145,9 +149,9 @@ module _ (r : Register) (w : Within r) where
   pub base_back : r.day_length ≡ usual_day → r.windows ≡ 0 → r.choices ≡ 0 → r.rows ≡ 0 → r.terms ≡ 0 → with_base fresh r.base ≡ r
   unfolding fresh
   base_back d k c q t =
-      ap (λ x. no_rows (no_windows (set_terms (set_choices (set_length r x) 0 (replicate max_choices 0) (replicate max_choices 0)) 0 (replicate max_terms 0) (replicate max_terms (pos 0))))) (sym d)
-      ∙ ap (λ x. no_rows (no_windows (set_terms x 0 (replicate max_terms 0) (replicate max_terms (pos 0))))) (same_choices r (sym c) (column_empty max_choices _ 0 _ c w.choices.tanks) (column_empty max_choices _ 0 _ c w.choices.minutes))
-      ∙ ap (λ x. no_rows (no_windows x)) (same_terms r (sym t) (column_empty max_terms _ 0 _ t w.terms.masks) (column_empty max_terms _ (pos 0) _ t w.terms.coefficients))
+      ap (λ x. no_rows (no_windows (no_terms (set_choices (set_length r x) 0 (replicate max_choices 0) (replicate max_choices 0))))) (sym d)
+      ∙ ap (λ x. no_rows (no_windows (no_terms x))) (same_choices r (sym c) (column_empty max_choices _ 0 _ c w.choices.tanks) (column_empty max_choices _ 0 _ c w.choices.minutes))
+      ∙ ap (λ x. no_rows (no_windows x)) (same_terms r (sym t) (column_empty max_terms _ 0 _ t w.terms.masks) (column_empty max_terms _ (pos 0) _ t w.terms.coefficients) (column_empty max_terms _ (pos 0) _ t w.terms.highs) (column_empty max_terms _ false _ t w.terms.ranged))
       ∙ ap no_rows (same_windows r (sym k) (column_empty max_windows _ 0 _ k w.windows.tanks) (column_empty max_windows _ 0 _ k w.windows.froms) (column_empty max_windows _ 0 _ k w.windows.tos))
       ∙ same_rows r (sym q) (column_empty max_rows _ (pos 0) _ q w.rows.totals) (column_empty (max_rows * row_entries) _ (pos 0) _ (omega arith) w.rows.entries)
 
@@ -195,47 +199,59 @@ module _ (r : Register) (w : Within r) (n : ℕ) (e : r.choices ≡ suc n) where
       let may : (i : ℕ) → i < n → MayFeed r.windows (window_at r) (tank (less_choice r n) i) (minute (less_choice r n) i) = λ i l. subst (λ c. MayFeed r.windows (window_at r) c.0 c.1) (choice_less i l) (w.may_feed i (omega arith)) in
       (in_choices r w no_row_lem none (record { tanks = column_less few (rw e at w.choices.tanks); minutes = column_less few (rw e at w.choices.minutes); table = t }) may, p, w.may_feed n (omega arith))
 
--- ---- terms
+-- ---- terms, with a range or without: the entries of a register with one more, and of one with one less
 
-abbrev pub term_at : Register → ℕ → ℕ × ℤ
-term_at r t = (mask r t, coefficient r t)
+abbrev pub term_at : Register → ℕ → ℕ × ℤ × ℤ × Bool
+term_at r t = (mask r t, coefficient r t, high r t, is_range r t)
 
-module _ (r : Register) (w : Within r) (m : ℕ) (z : ℤ) where
+module _ (r : Register) (w : Within r) (m : ℕ) (a b : ℤ) (ranged : Bool) where
   abbrev k : ℕ
   k = r.terms
 
-  pub term_kept : (t : ℕ) → t < k → term_at (with_term r m z) t ≡ term_at r t
-  term_kept t l = rw (kept_set r.masks k m 0 t l, kept_set r.coefficients k z (pos 0) t l)
+  pub term_kept : (t : ℕ) → t < k → term_at (with_entry r m a b ranged) t ≡ term_at r t
+  term_kept t l = rw (kept_set r.masks k m 0 t l, kept_set r.coefficients k a (pos 0) t l, kept_set r.highs k b (pos 0) t l, kept_set r.ranged k ranged false t l)
 
-  pub term_new : k < max_terms → term_at (with_term r m z) k ≡ (m, z)
-  term_new l = rw (get_or-set_same r.masks k m 0 (omega (arith, w.terms.masks.room)), get_or-set_same r.coefficients k z (pos 0) (omega (arith, w.terms.coefficients.room)))
+  pub term_new : k < max_terms → term_at (with_entry r m a b ranged) k ≡ (m, a, b, ranged)
+  term_new l =
+      rw (
+        get_or-set_same r.masks k m 0 (omega (arith, w.terms.masks.room)),
+        get_or-set_same r.coefficients k a (pos 0) (omega (arith, w.terms.coefficients.room)),
+        get_or-set_same r.highs k b (pos 0) (omega (arith, w.terms.highs.room)),
+        get_or-set_same r.ranged k ranged false (omega (arith, w.terms.ranged.room)),
+      )
 
-  pub term_more : NextTerm r.choices k (term_at r (k - 1)) m z → Within (with_term r m z)
+  pub term_more : NextTerm r.choices k (term_at r (k - 1)) m a b ranged → Within (with_entry r m a b ranged)
   term_more p =
       in_terms r w (record {
         masks = column_more m w.terms.masks;
-        coefficients = column_more z w.terms.coefficients;
-        table = table_more (term_at r) (term_at (with_term r m z)) k (m, z) term_kept (term_new p.few) w.terms.table p;
+        coefficients = column_more a w.terms.coefficients;
+        highs = column_more b w.terms.highs;
+        ranged = column_more ranged w.terms.ranged;
+        table = table_more (term_at r) (term_at (with_entry r m a b ranged)) k (m, a, b, ranged) term_kept (term_new p.few) w.terms.table p;
       })
+
+-- that the next term has no range is what its entry says already
+pub still_unranged : (r : Register) → Within r → set r.ranged r.terms false ≡ r.ranged
+still_unranged r w = ap (set r.ranged r.terms) (sym (w.terms.ranged.rest r.terms (omega arith))) ∙ set-get_or r.ranged r.terms false
 
 -- without its last term
 abbrev pub less_term : Register → ℕ → Register
-less_term r k = set_terms r k (set r.masks k 0) (set r.coefficients k (pos 0))
+less_term r k = set_terms r k (set r.masks k 0) (set r.coefficients k (pos 0)) (set r.highs k (pos 0)) (set r.ranged k false)
 
 module _ (r : Register) (w : Within r) (k : ℕ) (e : r.terms ≡ suc k) where
   some : k < max_terms
   some = omega (arith, w.terms.few)
 
   pub term_less : (t : ℕ) → t < k → term_at r t ≡ term_at (less_term r k) t
-  term_less t l = rw (kept_set r.masks k 0 0 t l, kept_set r.coefficients k (pos 0) (pos 0) t l)
+  term_less t l = rw (kept_set r.masks k 0 0 t l, kept_set r.coefficients k (pos 0) (pos 0) t l, kept_set r.highs k (pos 0) (pos 0) t l, kept_set r.ranged k false false t l)
 
-  pub term_back : with_term (less_term r k) (mask r k) (coefficient r k) ≡ r
-  term_back = same_terms r (sym e) (set_back r.masks k 0) (set_back r.coefficients k (pos 0))
+  pub term_back : with_entry (less_term r k) (mask r k) (coefficient r k) (high r k) (is_range r k) ≡ r
+  term_back = same_terms r (sym e) (set_back r.masks k 0) (set_back r.coefficients k (pos 0)) (set_back r.highs k (pos 0)) (set_back r.ranged k false)
 
-  pub term_next : Within (less_term r k) × NextTerm r.choices k (term_at (less_term r k) (k - 1)) (mask r k) (coefficient r k)
+  pub term_next : Within (less_term r k) × NextTerm r.choices k (term_at (less_term r k) (k - 1)) (mask r k) (coefficient r k) (high r k) (is_range r k)
   term_next =
       let (t, p) = table_less (term_at (less_term r k)) (term_at r) k (term_at r k) term_less refl (rw e at w.terms.table) in
-      (in_terms r w (record { masks = column_less some (rw e at w.terms.masks); coefficients = column_less some (rw e at w.terms.coefficients); table = t }), p)
+      (in_terms r w (record { masks = column_less some (rw e at w.terms.masks); coefficients = column_less some (rw e at w.terms.coefficients); highs = column_less some (rw e at w.terms.highs); ranged = column_less some (rw e at w.terms.ranged); table = t }), p)
 
 -- ---- windows: the entries of a register with one more, where there is no choice yet, and of one with one less
 

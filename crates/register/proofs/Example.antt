@@ -1,10 +1,12 @@
--- Part 1 of the paper's example: its bytes and its record.
+-- Part 1 of the paper's example: its bytes and its record. For other examples: terms without ranges.
+use mathlib.Core.Bool.{false}
 use mathlib.Core.List.{List, [], ◌∷◌}
 use Prim.Native.Nat.{ℕ}
-use lib.IntN.{pos, negsuc}
+use lib.IntN.{ℤ, pos, negsuc}
 use lib.ListN.{replicate}
 use Rattle.register.specs.declared.Register.{Register}
-use Rattle.register.specs.Limits.{usual_day}
+use Rattle.register.specs.Limits.{max_terms, usual_day}
+use Rattle.register.specs.Register.{set_terms}
 
 abbrev pub register_bytes : List ℕ
 register_bytes =
@@ -25,6 +27,8 @@ example_register = record {
   minutes = 480 ∷ 720 ∷ 480 ∷ replicate 29 0;
   masks = 1 ∷ 2 ∷ 7 ∷ replicate 253 0;
   coefficients = negsuc 5 ∷ negsuc 3 ∷ pos 5 ∷ replicate 253 (pos 0);
+  highs = negsuc 5 ∷ negsuc 3 ∷ pos 5 ∷ replicate 253 (pos 0);
+  ranged = replicate 256 false;
   windows = 0;
   window_tanks = replicate 64 0;
   window_froms = replicate 64 0;
@@ -33,3 +37,7 @@ example_register = record {
   row_totals = replicate 8 (pos 0);
   row_entries = replicate 256 (pos 0);
 }
+
+-- a register with other terms, none of which has a range
+abbrev pub known_terms : Register → ℕ → List ℕ → List ℤ → Register
+known_terms r m masks coefficients = set_terms r m masks coefficients coefficients (replicate max_terms false)

@@ -4,7 +4,7 @@ use Prim.Native.Nat.{ℕ, suc, ◌-◌, ◌^◌, ◌<◌, ◌≤◌}
 use native.Mathlib.Omega.{arith}
 use mathlib.Core.Path.{◌≡◌, refl, sym, ◌∙◌, ap}
 use mathlib.Core.Logic.{◌⊎◌, inl, inr, ⊎_elim}
-use mathlib.Core.Bool.{true, false, false≢true}
+use mathlib.Core.Bool.{Bool, true, false, false≢true}
 use mathlib.Core.List.{List, [], ◌∷◌, ◌++◌}
 use lib.ListN.{length, get_or}
 use lib.IntN.{ℤ, pos, nat_abs}
@@ -12,24 +12,24 @@ use lib.Pow.{pow_mono}
 use mir.Syntax.{w8, w16, w32}
 use mir.Val.{SFits, of_z, to_z, hbits}
 use mir.Facts.{to_z-of_z, of_z-to_z, Fits-of_z}
-use Rattle.integers.proofs.Lists.{◌▹◌}
+use Rattle.integers.proofs.Lists.{◌▹◌, flag}
 use Rattle.integers.proofs.Blocks.{length_ones}
 use Rattle.integers.proofs.Machine.{read_signed, fits_signed}
 use Rattle.wire.specs.Checks.{refusal}
 use Rattle.wire.specs.Rows.{is_among, row_of}
-use Rattle.wire.specs.Encoding.{Command, Fit}
+use Rattle.wire.specs.Encoding.{Command, Fit, Allowed}
 use Rattle.wire.specs.Grammar.{Only, Optional, Then, Among, Kind, Kinds}
 use Rattle.wire.proofs.Encoding.{fit_none, fit_one, fit_two, fit_three}
 use Rattle.wire.proofs.Grammar.{last_from, last_from_one, said, Last, then_missing, then_present, optional_last, None, Entries, apart_not, among_test, kinds_none, none_kinds, kinds_absent, kinds_stand, kinds_more, kinds_less, by_kind, under, under_all}
-use Rattle.wire.proofs.Accepting.{Grows, Back, Laws}
+use Rattle.wire.proofs.Accepting.{reached, Grows, Back, Laws}
 use Rattle.wire.proofs.Ends.{Ends}
 use Rattle.register.specs.declared.Register.{Register}
 use Rattle.register.specs.Limits.{row_entries, max_base, usual_day}
-use Rattle.register.specs.Register.{tank, minute, mask, coefficient, window_tank, window_from, window_to, row_total, row_entry, fresh, with_base, with_length, with_choice, with_term, with_window, with_row}
-use Rattle.register.specs.Format.{base_row, choice_row, term_row, window_row, row_row, entries_of, length_row, end_row, base_checks, length_checks, register_rows}
+use Rattle.register.specs.Register.{tank, minute, mask, coefficient, high, is_range, window_tank, window_from, window_to, row_total, row_entry, fresh, with_base, with_length, with_choice, with_entry, with_window, with_row}
+use Rattle.register.specs.Format.{base_row, choice_row, term_row, window_row, row_row, entries_of, range_row, length_row, end_row, base_checks, length_checks, register_rows, register_part}
 use Rattle.register.specs.Valid.{DayLength, Within, Valid, window_at}
-use Rattle.register.specs.Encoding.{base_command, length_command, choice_command, term_command, window_command, row_list, row_command, end_command, choice_kind, term_kind, window_kind, row_kind, kinds}
-use Rattle.register.proofs.Passes.{base_iff, choice_iff, term_iff, window_iff, row_iff, within_byte, length_within, length_iff, end_iff}
+use Rattle.register.specs.Encoding.{base_command, length_command, choice_command, term_command, range_command, entry_command, window_command, row_list, row_command, end_command, choice_kind, term_kind, window_kind, row_kind, kinds}
+use Rattle.register.proofs.Passes.{base_iff, choice_iff, NextTerm, term_iff, range_iff, window_iff, row_iff, within_byte, length_within, length_iff, end_iff}
 use Rattle.register.proofs.MayFeed.{may_iff}
 use Rattle.register.proofs.RowOperands.{entries_long, entries_read, row_said, row_fit, entries_back}
 use Rattle.register.proofs.Entries.{fresh_within, base_more, length_more, base_back, choice_kept, choice_new, choice_more, less_choice, choice_less, choice_back, choice_next, term_at, term_kept, term_new, term_more, less_term, term_less, term_back, term_next, window_kept, window_new, window_more, less_window, window_less, window_back, window_next, row_kept, row_new, row_more, less_row, row_less, row_back, row_next}
@@ -80,6 +80,15 @@ length_byte r l = ap (last_from 0) l.whole ∙ last_from_one 0 l.front l.last �
 
 pub header_stands : (B : Type 0) (r : Register) {cs : List Command} → HeaderWhere B r cs → Among (last_from 0 cs) (0x10 ∷ 0x18 ∷ [])
 header_stands B r h = ⊎_elim (λ b. inl (base_byte r b.1)) (λ l. inr (inl (length_byte r l))) (header_by r h)
+
+-- operands of a term that fit are those of what they say
+
+term_said : (xs : List ℕ) → Fit term_row.widths xs → xs ≡ get_or xs 0 0 ∷ of_z w32 (to_z w32 (get_or xs 1 0)) ∷ []
+term_said xs f = let (e, _, l) = fit_two 4 4 xs f in e ∙ rw (of_z-to_z {w = w32} (record { fits = l }))
+
+range_said : (xs : List ℕ) → Fit range_row.widths xs → xs ≡ get_or xs 0 0 ∷ of_z w32 (to_z w32 (get_or xs 1 0)) ∷ of_z w32 (to_z w32 (get_or xs 2 0)) ∷ []
+range_said [] f = absurd f
+range_said (x ∷ xs) f = let (e, k, l) = fit_two 4 4 xs f.1 in ap (λ ys. x ∷ ys) (e ∙ rw (of_z-to_z {w = w32} (record { fits = k }), of_z-to_z {w = w32} (record { fits = l })))
 
 -- ---- each row keeps it
 
@@ -142,22 +151,36 @@ module _ (B : Type 0) where
         };
   }
 
+  -- a term more, by either command
+  term_grown : (r : Register) (cs : List Command) (m : ℕ) (a b : ℤ) (ranged : Bool) (c : Command) → is_among c.byte term_kind.bytes ≡ true → (B → c ≡ entry_command ranged m a b)
+      → is_among (last_from 0 cs) term_row.follows ≡ true → NextTerm r.choices r.terms (term_at r (r.terms - 1)) m a b ranged → Good B r cs → Good B (with_entry r m a b ranged) (cs ++ (c ∷ []))
+  term_grown r cs m a b ranged c t says e p g =
+      let (d, body) = followed term_row.follows refl e g in
+      record {
+        within = term_more r g.within m a b ranged p;
+        body = inr (
+          d,
+          kinds_more (ToRows r) r (with_entry r m a b ranged) (under B term_kind) [] tt tt cs c refl
+              (λ i d l h x. h x ∙ ap (λ c. entry_command c.3 c.0 c.1 c.2) (sym (term_kept r g.within m a b ranged i l)))
+              (among_test c.byte term_kind.bytes t, λ x. says x ∙ ap (λ c. entry_command c.3 c.0 c.1 c.2) (sym (term_new r g.within m a b ranged p.few))) body,
+        );
+      }
+
   term_grows : Grows B (Good B) (Done B) 0x12 term_row
   term_grows = record {
     on = λ r cs xs g e q fit.
         let m = get_or xs 0 0 in
         let z = to_z w32 (get_or xs 1 0) in
-        let p = (term_iff r.choices r.terms (term_at r (r.terms - 1)) m z).0 q in
-        let (d, b) = followed term_row.follows refl e g in
-        record {
-          within = term_more r g.within m z p;
-          body = inr (
-            d,
-            kinds_more (ToRows r) r (with_term r m z) (under B term_kind) [] tt tt cs (record { byte = 0x12; operands = xs }) refl
-                (λ i d l h b. h b ∙ ap (λ c. term_command c.0 c.1) (sym (term_kept r g.within m z i l)))
-                (inl refl, λ b. let (f, _, l) = fit_two 4 4 xs (fit b) in said 0x12 {ys = m ∷ of_z w32 z ∷ []} (f ∙ rw (of_z-to_z (record { fits = l }))) ∙ ap (λ c. term_command c.0 c.1) (sym (term_new r g.within m z p.few))) b,
-          );
-        };
+        term_grown r cs m z z false (record { byte = 0x12; operands = xs }) refl (λ b. said 0x12 (term_said xs (fit b))) e ((term_iff r.choices r.terms (term_at r (r.terms - 1)) m z).0 q) g;
+  }
+
+  range_grows : Grows B (Good B) (Done B) 0x16 range_row
+  range_grows = record {
+    on = λ r cs xs g e q fit.
+        let m = get_or xs 0 0 in
+        let a = to_z w32 (get_or xs 1 0) in
+        let b = to_z w32 (get_or xs 2 0) in
+        term_grown r cs m a b true (record { byte = 0x16; operands = xs }) refl (λ b. said 0x16 (range_said xs (fit b))) e ((range_iff r.choices r.terms (term_at r (r.terms - 1)) m a b).0 q) g;
   }
 
   window_grows : Grows B (Good B) (Done B) 0x13 window_row
@@ -355,29 +378,59 @@ module _ (r : Register) (cs : List Command) (w : Within r) (d : DayLength r.day_
         whole = l.whole ∙ rw (l.form.1 tt);
       }
 
-  term_taken : (k : ℕ) → r.terms ≡ suc k → Unit {0} → Back fresh register_rows (Good U) false r cs
-  unfolding row_of
-  term_taken k e none =
+  -- a term, by the command that says it
+  term_taken_by : (k : ℕ) → r.terms ≡ suc k → (c : Command) → entry_command (is_range r k) (mask r k) (coefficient r k) (high r k) ≡ c
+      → ((previous : ℕ) → is_among previous term_row.follows ≡ true → Allowed register_part (reached previous (less_term r k)) c)
+      → (row_of register_rows c.byte).after (less_term r k) c.operands ≡ r → (row_of register_rows c.byte).last ≡ false → Back fresh register_rows (Good U) false r cs
+  term_taken_by k e c same allowed after ends =
       let r' = less_term r k in
-      let (w', p) = term_next r w k e in
-      let h : nat_abs (coefficient r k) ≤ max_base = omega (arith, p.fits.coefficient_within) in
-      let same = read_signed w32 (coefficient r k) (small (coefficient r k) h) in
-      let l = kinds_less (ToRows U r) r r' (under U term_kind) [] tt tt cs k e refl (λ i d k' h u. h u ∙ ap (λ c. term_command c.0 c.1) (term_less r w k e i k')) b in
+      let l = kinds_less (ToRows U r) r r' (under U term_kind) [] tt tt cs k e refl (λ i d k' h u. h u ∙ ap (λ c. entry_command c.3 c.0 c.1 c.2) (term_less r w k e i k')) b in
       record {
         before = r';
         front = l.front;
-        command = term_command (mask r k) (coefficient r k);
-        good = record { within = w'; body = inr (d, l.before) };
-        allowed = record {
-          byte = omega arith;
-          here = kinds_stand r' (HeaderWhere U r) (under_all U kinds) l.front (0x10 ∷ 0x18 ∷ []) term_row.follows tt (header_stands U r) l.before;
-          operands = (omega (arith, p.fits.mask_names, pow_mono w.choices.few), ((Fits-of_z (fits_signed w32 (coefficient r k) (small (coefficient r k) h))).fits, tt));
-          passes = rw same ((term_iff r.choices k (term_at r' (k - 1)) (mask r k) (coefficient r k)).1 p);
-        };
-        after = rw same (term_back r w k e);
-        ends_is = refl;
-        whole = l.whole ∙ rw (l.form.1 tt);
+        command = c;
+        good = record { within = (term_next r w k e).0; body = inr (d, l.before) };
+        allowed = allowed (last_from 0 l.front) (kinds_stand r' (HeaderWhere U r) (under_all U kinds) l.front (0x10 ∷ 0x18 ∷ []) term_row.follows tt (header_stands U r) l.before);
+        after = after;
+        ends_is = ends;
+        whole = l.whole ∙ ap (λ c. l.front ++ (c ∷ [])) (l.form.1 tt ∙ same);
       }
+
+  term_taken : (k : ℕ) → r.terms ≡ suc k → Unit {0} → Back fresh register_rows (Good U) false r cs
+  unfolding row_of
+  term_taken k e none = flag (is_range r k) ranged plain
+    where
+      p : NextTerm r.choices k (term_at (less_term r k) (k - 1)) (mask r k) (coefficient r k) (high r k) (is_range r k)
+      p = (term_next r w k e).1
+
+      mask_fits : mask r k < 256 ^ 4
+      mask_fits = omega (arith, p.fits.mask_names, pow_mono w.choices.few)
+
+      low_fits : SFits w32 (coefficient r k)
+      low_fits = fits_signed w32 (coefficient r k) (small (coefficient r k) (omega (arith, p.fits.coefficient_within)))
+
+      high_fits : SFits w32 (high r k)
+      high_fits = fits_signed w32 (high r k) (small (high r k) (omega (arith, p.fits.high_within)))
+
+      ranged : is_range r k ≡ true → Back fresh register_rows (Good U) false r cs
+      ranged t =
+          term_taken_by k e (range_command (mask r k) (coefficient r k) (high r k)) (rw t) (λ previous h. record {
+            byte = omega arith;
+            here = h;
+            operands = (mask_fits, ((Fits-of_z low_fits).fits, ((Fits-of_z high_fits).fits, tt)));
+            passes = rw (to_z-of_z low_fits, to_z-of_z high_fits) ((range_iff r.choices k (term_at (less_term r k) (k - 1)) (mask r k) (coefficient r k) (high r k)).1 (rw t at p));
+          }) (rw (to_z-of_z low_fits, to_z-of_z high_fits) (rw t at (term_back r w k e))) refl
+
+      -- its high coefficient is its low one
+      plain : is_range r k ≡ false → Back fresh register_rows (Good U) false r cs
+      plain t =
+          let one : high r k ≡ coefficient r k = (p.fits.known t).0 in
+          term_taken_by k e (term_command (mask r k) (coefficient r k)) (rw t) (λ previous h. record {
+            byte = omega arith;
+            here = h;
+            operands = (mask_fits, ((Fits-of_z low_fits).fits, tt));
+            passes = rw (to_z-of_z low_fits) ((term_iff r.choices k (term_at (less_term r k) (k - 1)) (mask r k) (coefficient r k)).1 (rw (t, one) at p));
+          }) (rw (to_z-of_z low_fits) (rw (t, one) at (term_back r w k e))) refl
 
 end_taken : (r : Register) (cs : List Command) → Done U r cs → Back fresh register_rows (Good U) true r cs
 unfolding row_of
@@ -402,7 +455,7 @@ end_taken r cs d =
 pub laws : Laws fresh register_rows Good Done
 laws = record {
   starts = λ B. record { within = fresh_within; body = inl (refl, refl) };
-  grows = λ B. base_grows B ▹ choice_grows B ▹ term_grows B ▹ window_grows B ▹ row_grows B ▹ length_grows B ▹ end_grows B ▹ tt;
+  grows = λ B. base_grows B ▹ choice_grows B ▹ term_grows B ▹ window_grows B ▹ row_grows B ▹ range_grows B ▹ length_grows B ▹ end_grows B ▹ tt;
   back = λ r cs g. ⊎_elim (λ h. inl h) (λ (d, b). inr (by_kind (Back fresh register_rows (Good U) false r cs) r (under_all U kinds) (header_taken r cs g.within d b) (window_taken r cs g.within d b, (choice_taken r cs g.within d b, (row_taken r cs g.within d b, (term_taken r cs g.within d b, tt)))))) g.body;
   back_end = end_taken;
 }

@@ -5,6 +5,7 @@ pub mod Order
 pub mod Passes
 pub mod MayFeed
 pub mod Entries
+pub mod Ranged
 pub mod RowOperands
 pub mod Passed
 pub mod Laws
@@ -16,6 +17,9 @@ pub mod Opened
 pub mod Prefix
 pub mod Position
 pub mod DayLengths
+pub mod Said
+pub mod BeforeRanges
+pub mod SaysRange
 pub mod BeforeRows
 pub mod SaysRow
 pub mod BeforeLengths

@@ -10,11 +10,11 @@ use Rattle.wire.specs.Part.{refused}
 use Rattle.wire.specs.Refused.{RefusedAt, RefusedByItself}
 use Rattle.wire.proofs.Lowest.{Rising, Rises, rows_rising, refused_iff, refused_by_itself_iff}
 use Rattle.register.specs.Register.{fresh}
-use Rattle.register.specs.Format.{base_checks, choice_checks, term_checks, window_checks, row_checks, length_checks, end_checks, register_rows, register_part, register_in_job, register_by_itself}
+use Rattle.register.specs.Format.{base_checks, choice_checks, term_checks, window_checks, row_checks, range_checks, length_checks, end_checks, register_rows, register_part, register_in_job, register_by_itself}
 
 register_rises : All Rises register_rows
-unfolding base_checks choice_checks term_checks window_checks row_checks length_checks end_checks
-register_rises = (λ r xs. tt) ▹ (λ r xs. tt) ▹ (λ r xs. tt) ▹ (λ r xs. tt) ▹ (λ r xs. tt) ▹ (λ r xs. tt) ▹ (λ r xs. tt) ▹ tt
+unfolding base_checks choice_checks term_checks window_checks row_checks range_checks length_checks end_checks
+register_rises = (λ r xs. tt) ▹ (λ r xs. tt) ▹ (λ r xs. tt) ▹ (λ r xs. tt) ▹ (λ r xs. tt) ▹ (λ r xs. tt) ▹ (λ r xs. tt) ▹ (λ r xs. tt) ▹ tt
 
 register_rising : Rising register_part
 register_rising = rows_rising fresh register_rows register_rises

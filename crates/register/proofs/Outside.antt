@@ -30,7 +30,7 @@ use Rattle.wire.proofs.Accepting.{reached, Back, Laws, Midway, read_starts, read
 use Rattle.register.specs.declared.Register.{Register}
 use Rattle.register.specs.Limits.{max_choices, max_tank}
 use Rattle.register.specs.Register.{tank, minute, window_tank, fresh}
-use Rattle.register.specs.Format.{base_checks, may_feed, choice_checks, choice_row, term_checks, window_checks, row_checks, length_checks, end_checks, register_rows, register_part, register_in_job}
+use Rattle.register.specs.Format.{base_checks, may_feed, choice_checks, choice_row, term_checks, window_checks, row_checks, range_checks, length_checks, end_checks, register_rows, register_part, register_in_job}
 use Rattle.register.specs.Valid.{MayFeed, window_at}
 use Rattle.register.specs.Encoding.{Header, choice_command, choice_kind, window_kind, kinds, encode_choice}
 use Rattle.register.specs.Outside.{up_to_choices, ChoiceOutside}
@@ -80,7 +80,7 @@ module _ (s : List ℕ) (read : Progress Register) (at : ℕ) (l : at < length s
 
   -- a choice's command
   byte_11 : get_or s at 0 ≡ 0x11
-  unfolding row_of base_checks term_checks window_checks row_checks length_checks end_checks
+  unfolding row_of base_checks term_checks window_checks row_checks range_checks length_checks end_checks
   byte_11 =
       by_bytes (λ c. get_or s at 0 ≡ c → refusal (register_part.checks read c (operands_at (register_part.widths c) s (at + 1))) ≡ 13 → get_or s at 0 ≡ 0x11) register_rows (get_or s at 0)
       (λ n e o. by_refusal [] 13 (ap (λ row. refusal (row.checks r (operands_at row.widths s (at + 1)))) (sym (no_row_lem register_rows (get_or s at 0) n)) ∙ o) (λ z. omega arith) tt)
@@ -89,6 +89,7 @@ module _ (s : List ℕ) (read : Progress Register) (at : ℕ) (l : at < length s
       ▹ (λ e o. by_refusal _ 13 o (λ z. omega arith) ((λ n t. absurd (omega arith)) ▹ (λ n t. absurd (omega arith)) ▹ (λ n t. absurd (omega arith)) ▹ (λ n t. absurd (omega arith)) ▹ tt))
       ▹ (λ e o. by_refusal _ 13 o (λ z. omega arith) ((λ n t. absurd (omega arith)) ▹ (λ n t. absurd (omega arith)) ▹ (λ n t. absurd (omega arith)) ▹ (λ n t. absurd (omega arith)) ▹ tt))
       ▹ (λ e o. by_refusal _ 13 o (λ z. omega arith) ((λ n t. absurd (omega arith)) ▹ (λ n t. absurd (omega arith)) ▹ (λ n t. absurd (omega arith)) ▹ tt))
+      ▹ (λ e o. by_refusal _ 13 o (λ z. omega arith) ((λ n t. absurd (omega arith)) ▹ (λ n t. absurd (omega arith)) ▹ (λ n t. absurd (omega arith)) ▹ (λ n t. absurd (omega arith)) ▹ (λ n t. absurd (omega arith)) ▹ tt))
       ▹ (λ e o. by_refusal _ 13 o (λ z. omega arith) ((λ n t. absurd (omega arith)) ▹ tt))
       ▹ (λ e o. by_refusal _ 13 o (λ z. omega arith) ((λ n t. absurd (omega arith)) ▹ tt))
       ▹ tt) refl (own_refused register_part s read at 13 (omega arith) f).1

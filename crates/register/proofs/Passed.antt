@@ -3,10 +3,11 @@ use Prim.Native.Nat.{ℕ, suc, ◌-◌, ◌<◌, ◌≤◌}
 use native.Mathlib.Omega.{arith}
 use mathlib.Core.Path.{◌≡◌, ap}
 use mathlib.Core.Logic.{◌⊎◌, ⊎_elim}
+use mathlib.Core.Bool.{Bool}
 use mathlib.Core.List.{List}
 use lib.IntN.{ℤ}
 use Rattle.register.specs.declared.Register.{Register}
-use Rattle.register.specs.Register.{tank, minute, window_tank, fresh, set_rows, with_base, with_length, with_choice, with_term, with_window}
+use Rattle.register.specs.Register.{tank, minute, window_tank, fresh, set_terms, set_rows, with_base, with_length, with_choice, with_window}
 use Rattle.register.specs.Valid.{Within}
 use Rattle.register.proofs.Passes.{NextChoice}
 use Rattle.register.proofs.Entries.{choice_new, window_kept}
@@ -26,8 +27,8 @@ module _ (r : Register) (w : Within r) {k : ℕ} (p : Passed r k) where
   pub passed_length : (length : ℕ) → Passed (with_length r length) k
   passed_length length = record { within = p.within; earlier = p.earlier }
 
-  pub passed_term : (m : ℕ) (z : ℤ) → Passed (with_term r m z) k
-  passed_term m z = record { within = p.within; earlier = p.earlier }
+  pub passed_terms : (m : ℕ) (masks : List ℕ) (lows highs : List ℤ) (ranged : List Bool) → Passed (set_terms r m masks lows highs ranged) k
+  passed_terms m masks lows highs ranged = record { within = p.within; earlier = p.earlier }
 
   pub passed_rows : (n : ℕ) (totals entries : List ℤ) → Passed (set_rows r n totals entries) k
   passed_rows n totals entries = record { within = p.within; earlier = p.earlier }

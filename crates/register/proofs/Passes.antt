@@ -1,24 +1,25 @@
 -- What the checks of a command say of its operands: none fails just where these are as they should be.
-use mathlib.Core.Path.{◌≡◌, sym, ◌∙◌}
+use mathlib.Core.Path.{◌≡◌, refl, sym, ◌∙◌}
 use mathlib.Core.Logic.{◌⊎◌, ◌↔◌, inl, inr, ⊎_elim}
-use mathlib.Core.Bool.{Bool, true, or-false, or-true, and-false, ◌||◌, ◌&&◌}
+use mathlib.Core.Bool.{Bool, true, false, true≢false, not, or-false, or-true, and-false, ◌||◌, ◌&&◌}
 use mathlib.Core.List.{[], ◌∷◌}
 use Prim.Native.Nat.{ℕ, ◌^◌, ◌≤◌, ◌<◌}
 use native.Mathlib.Omega.{arith}
-use lib.Dec.{eqb, ltb}
+use lib.Dec.{eqb, ltb, leb}
 use lib.IntN.{ℤ, pos, negsuc, nat_abs}
-use lib.Signed.{◌≤ℤ◌, mag}
+use lib.Signed.{◌≤ℤ◌, mag, lt_z, ≤ℤ_refl, clash_ℤ}
 use mir.Syntax.{w8}
 use mir.Val.{SFits}
 use borrow.Author.Tests.{eqb-true, eqb-false, ltb-true, ltb-false, leb-false, not-false, lt-ltb, le-ltb, lt-leb, eq-eqb, ne_eqb}
 use Rattle.integers.specs.Lists.{all_below, comes_before}
 use Rattle.integers.proofs.Diff.{diff₁, diffs}
 use Rattle.integers.proofs.Lists.{T_ext, T_true, flag, or_none, or_either, and_both, all_below_at, all_below_by}
+use Rattle.integers.proofs.Machine.{lt_z-true, lt_z-false}
 use Rattle.integers.proofs.Entries.{Next}
 use Rattle.wire.specs.Checks.{refusal}
 use Rattle.wire.proofs.Checks.{refusal_none, none_refusal}
 use Rattle.register.specs.Limits.{max_choices, max_terms, max_windows, max_rows, row_entries, max_row_total, lowest_entry, highest_entry, max_base, max_tank, max_coefficient, long_day}
-use Rattle.register.specs.Format.{base_checks, choice_checks, term_checks, window_checks, zero_past, row_checks, is_length, length_checks, end_checks}
+use Rattle.register.specs.Format.{base_checks, choice_checks, term_checks, window_checks, zero_past, row_checks, range_checks, is_length, length_checks, end_checks}
 use Rattle.register.specs.Valid.{DayLength, Choice, Before, Term, Rises, Window, FeedingRow}
 
 pub base_iff : (base : ℤ) → (refusal (base_checks base) ≡ 0) ↔ (nat_abs base ≤ max_base)
@@ -86,38 +87,89 @@ choice_settled length n tank₀ minute₀ tank minute a b h =
     (λ t. rw (h (⊎_elim (λ z. inl (eqb-true n 0 z)) (λ l. inr (⊎_elim (λ (k : tank₀ < tank). omega arith) (λ k. omega (arith, k.0)) ((later_iff tank₀ minute₀ tank minute).0 (rw earlier at l)))) (or_either _ _ t))))
     (λ t. rw t)
 
-abbrev pub NextTerm : (n m : ℕ) → ℕ × ℤ → (mask : ℕ) → ℤ → Type 0
-NextTerm n m last mask coefficient = Next max_terms m last (λ c. Term n c.0 c.1) Rises (mask, coefficient)
+-- what the checks of both of a term's commands say of its mask: it names some of n choices, and it is above that of the last of m
+-- other terms
+module _ (n m mask₀ mask : ℕ) where
+  named_iff : ((eqb mask 0 || leb (2 ^ n) mask) ≡ false) ↔ ((1 ≤ mask) × (mask < 2 ^ n))
+  named_iff = (
+    (λ e. let q : (eqb mask 0 ≡ false) × (leb (2 ^ n) mask ≡ false) = or_none _ _ e in (omega (arith, eqb-false mask 0 q.0), leb-false (2 ^ n) mask q.1)),
+    λ (a, b). rw (ne_eqb mask 0 (omega arith), lt-leb (2 ^ n) mask b),
+  )
 
-pub term_iff : (n m : ℕ) (last : ℕ × ℤ) (mask : ℕ) (coefficient : ℤ) → (refusal (term_checks n m last.0 mask coefficient) ≡ 0) ↔ NextTerm n m last mask coefficient
+  above_iff : (not (eqb m 0 || ltb mask₀ mask) ≡ false) ↔ ((m ≡ 0) ⊎ (mask₀ < mask))
+  above_iff = (
+    (λ e. ⊎_elim (λ a. inl (eqb-true m 0 a)) (λ b. inr (ltb-true mask₀ mask b)) (or_either _ _ (not-false _ e))),
+    λ h. ⊎_elim (λ (e : m ≡ 0). rw e) (λ l. rw (lt-ltb mask₀ mask l, or-true)) h,
+  )
+
+-- a term after m others, the last of which is `last`
+abbrev pub NextTerm : (n m : ℕ) → ℕ × ℤ × ℤ × Bool → (mask : ℕ) → (low high : ℤ) → Bool → Type 0
+NextTerm n m last mask low high ranged = Next max_terms m last (λ c. Term n c.0 c.1 c.2 c.3) Rises (mask, low, high, ranged)
+
+pub term_iff : (n m : ℕ) (last : ℕ × ℤ × ℤ × Bool) (mask : ℕ) (coefficient : ℤ) → (refusal (term_checks n m last.0 mask coefficient) ≡ 0) ↔ NextTerm n m last mask coefficient coefficient false
 unfolding term_checks
 term_iff n m last mask coefficient = (to, from)
   where
-    to : refusal (term_checks n m last.0 mask coefficient) ≡ 0 → NextTerm n m last mask coefficient
+    to : refusal (term_checks n m last.0 mask coefficient) ≡ 0 → NextTerm n m last mask coefficient coefficient false
     to e =
         let p = refusal_none (term_checks n m last.0 mask coefficient) (omega arith) e in
         let q = or_none _ _ p.1.0 in
-        let r = or_none _ _ p.1.1.0 in
+        let (above, within) = (named_iff n m last.0 mask).0 p.1.1.0 in
         record {
           few = leb-false max_terms m p.0;
           fits = record {
-            coefficient_not_0 = omega (arith, eqb-false (nat_abs coefficient) 0 q.0);
             coefficient_within = ltb-false max_coefficient (nat_abs coefficient) q.1;
-            mask_not_0 = omega (arith, eqb-false mask 0 r.0);
-            mask_names = leb-false (2 ^ n) mask r.1;
+            high_within = ltb-false max_coefficient (nat_abs coefficient) q.1;
+            ordered = ≤ℤ_refl coefficient;
+            known = λ _. (refl, omega (arith, eqb-false (nat_abs coefficient) 0 q.0));
+            mask_not_0 = above;
+            mask_names = within;
           };
-          rises = ⊎_elim (λ a. inl (eqb-true m 0 a)) (λ b. inr (ltb-true last.0 mask b)) (or_either _ _ (not-false _ p.1.1.1.0));
+          rises = (above_iff n m last.0 mask).0 p.1.1.1.0;
         }
 
-    from : NextTerm n m last mask coefficient → refusal (term_checks n m last.0 mask coefficient) ≡ 0
+    from : NextTerm n m last mask coefficient coefficient false → refusal (term_checks n m last.0 mask coefficient) ≡ 0
     from p =
         none_refusal (term_checks n m last.0 mask coefficient) (
           lt-leb max_terms m p.few,
           (
-            rw (ne_eqb (nat_abs coefficient) 0 (omega (arith, p.fits.coefficient_not_0)), le-ltb max_coefficient (nat_abs coefficient) p.fits.coefficient_within),
+            rw (ne_eqb (nat_abs coefficient) 0 (omega (arith, (p.fits.known refl).1)), le-ltb max_coefficient (nat_abs coefficient) p.fits.coefficient_within),
+            ((named_iff n m last.0 mask).1 (p.fits.mask_not_0, p.fits.mask_names), ((above_iff n m last.0 mask).1 p.rises, tt)),
+          ),
+        )
+
+-- a range may hold 0, and its low and its high may be equal
+pub range_iff : (n m : ℕ) (last : ℕ × ℤ × ℤ × Bool) (mask : ℕ) (low high : ℤ) → (refusal (range_checks n m last.0 mask low high) ≡ 0) ↔ NextTerm n m last mask low high true
+unfolding range_checks
+range_iff n m last mask low high = (to, from)
+  where
+    to : refusal (range_checks n m last.0 mask low high) ≡ 0 → NextTerm n m last mask low high true
+    to e =
+        let p = refusal_none (range_checks n m last.0 mask low high) (omega arith) e in
+        let q = or_none _ _ p.1.0 in
+        let (above, within) = (named_iff n m last.0 mask).0 p.1.1.0 in
+        record {
+          few = leb-false max_terms m p.0;
+          fits = record {
+            coefficient_within = ltb-false max_coefficient (nat_abs low) q.0;
+            high_within = ltb-false max_coefficient (nat_abs high) q.1;
+            ordered = lt_z-false high low p.1.1.1.0;
+            known = λ z. absurd (true≢false z);
+            mask_not_0 = above;
+            mask_names = within;
+          };
+          rises = (above_iff n m last.0 mask).0 p.1.1.1.1.0;
+        }
+
+    from : NextTerm n m last mask low high true → refusal (range_checks n m last.0 mask low high) ≡ 0
+    from p =
+        none_refusal (range_checks n m last.0 mask low high) (
+          lt-leb max_terms m p.few,
+          (
+            rw (le-ltb max_coefficient (nat_abs low) p.fits.coefficient_within, le-ltb max_coefficient (nat_abs high) p.fits.high_within),
             (
-              rw (ne_eqb mask 0 (omega (arith, p.fits.mask_not_0)), lt-leb (2 ^ n) mask p.fits.mask_names),
-              (⊎_elim (λ (e : m ≡ 0). rw e) (λ l. rw (lt-ltb last.0 mask l, or-true)) p.rises, tt),
+              (named_iff n m last.0 mask).1 (p.fits.mask_not_0, p.fits.mask_names),
+              (flag (lt_z high low) (λ t. clash_ℤ (lt_z-true high low t) p.fits.ordered) (λ t. t), ((above_iff n m last.0 mask).1 p.rises, tt)),
             ),
           ),
         )

@@ -13,17 +13,17 @@ use Rattle.wire.proofs.Prefix.{Limited, Keeps, limited, read_prefix, end_within}
 use Rattle.register.specs.declared.Register.{Register}
 use Rattle.register.specs.Limits.{max_choices, max_terms, max_windows, max_rows}
 use Rattle.register.specs.Register.{fresh}
-use Rattle.register.specs.Format.{base_row, choice_row, term_row, window_row, row_row, entries_of, length_row, end_row, register_part, register_in_job}
+use Rattle.register.specs.Format.{base_row, choice_row, term_row, window_row, row_row, entries_of, range_row, length_row, end_row, register_part, register_in_job}
 use Rattle.register.specs.Valid.{window_at}
 use Rattle.register.proofs.Entries.{term_at}
-use Rattle.register.proofs.Passes.{choice_iff, term_iff, window_iff, row_iff}
+use Rattle.register.proofs.Passes.{choice_iff, term_iff, window_iff, row_iff, range_iff}
 use Rattle.register.proofs.RowOperands.{entries_read}
 
 -- the position of a command, by what has been read
 record Reach (p : Progress Register) (at : ℕ) : Type 0 where
   start : p.previous ≡ 0 → at ≡ 0
   base : p.previous ≡ 0x10 → at ≡ 5
-  near : at ≤ 8 + 7 * p.parsed.windows + 5 * p.parsed.choices + 35 * p.parsed.rows + 9 * p.parsed.terms
+  near : at ≤ 8 + 7 * p.parsed.windows + 5 * p.parsed.choices + 35 * p.parsed.rows + 13 * p.parsed.terms
   choices : p.parsed.choices ≤ max_choices
   terms : p.parsed.terms ≤ max_terms
   windows : p.parsed.windows ≤ max_windows
@@ -31,11 +31,11 @@ record Reach (p : Progress Register) (at : ℕ) : Type 0 where
 
 -- the last position of a command
 abbrev far : ℕ
-far = 8 + 7 * max_windows + 5 * max_choices + 35 * max_rows + 9 * max_terms
+far = 8 + 7 * max_windows + 5 * max_choices + 35 * max_rows + 13 * max_terms
 
 limits : Limited register_part Reach far 35 (far + 1)
 unfolding fresh total
-limits = limited fresh _ (omega arith) (record { start = λ e. refl; base = λ e. absurd (omega arith); near = omega arith; choices = omega arith; terms = omega arith; windows = omega arith; rows = omega arith }) (λ p at r. omega arith) (base ▹ choice ▹ term ▹ window ▹ row ▹ day ▹ last ▹ tt)
+limits = limited fresh _ (omega arith) (record { start = λ e. refl; base = λ e. absurd (omega arith); near = omega arith; choices = omega arith; terms = omega arith; windows = omega arith; rows = omega arith }) (λ p at r. omega arith) (base ▹ choice ▹ term ▹ window ▹ row ▹ range ▹ day ▹ last ▹ tt)
   where
     base : Keeps Reach 35 (far + 1) 0x10 base_row
     base = record {
@@ -67,6 +67,12 @@ limits = limited fresh _ (omega arith) (record { start = λ e. refl; base = λ e
       moves = λ p at xs r e h. record { start = λ z. absurd (omega arith); base = λ z. absurd (omega arith); near = omega (arith, r.near); choices = r.choices; terms = r.terms; windows = r.windows; rows = ((row_iff p.parsed.choices _ _ (λ j. get_or (entries_of xs) j (pos 0)) (λ j l. entries_read xs j)).0 h).few };
     }
 
+    range : Keeps Reach 35 (far + 1) 0x16 range_row
+    range = record {
+      small = omega arith;
+      moves = λ p at xs r e h. record { start = λ z. absurd (omega arith); base = λ z. absurd (omega arith); near = omega (arith, r.near); choices = r.choices; terms = ((range_iff _ _ (term_at p.parsed (p.parsed.terms - 1)) _ _ _).0 h).few; windows = r.windows; rows = r.rows };
+    }
+
     day : Keeps Reach 35 (far + 1) 0x18 length_row
     day = record {
       small = omega arith;
@@ -80,13 +86,13 @@ limits = limited fresh _ (omega arith) (record { start = λ e. refl; base = λ e
 pub size_within : (b : ℕ) → size register_part b ≤ 35
 size_within = limits.small
 
--- the longest register: `10`, `18`, every window, choice, row and term that there may be, and `1F`
+-- the longest register: `10`, `18`, every window, choice, row and term that there may be, each term with a range, and `1F`
 unfoldable pub register_longest : ℕ
-register_longest = size_of base_row + size_of length_row + size_of window_row * max_windows + size_of choice_row * max_choices + size_of row_row * max_rows + size_of term_row * max_terms + size_of end_row
+register_longest = size_of base_row + size_of length_row + size_of window_row * max_windows + size_of choice_row * max_choices + size_of row_row * max_rows + size_of range_row * max_terms + size_of end_row
 
 -- no bytes after these can matter: the longest command in place of `1F`
 unfoldable pub register_reach : ℕ
-register_reach = size_of base_row + size_of length_row + size_of window_row * max_windows + size_of choice_row * max_choices + size_of row_row * max_rows + size_of term_row * max_terms + size_of row_row
+register_reach = size_of base_row + size_of length_row + size_of window_row * max_windows + size_of choice_row * max_choices + size_of row_row * max_rows + size_of range_row * max_terms + size_of row_row
 
 pub register_prefix : (K : ℕ) (s : List ℕ) → register_reach ≤ K → register_in_job (take K s) ≡ register_in_job s
 unfolding register_in_job register_reach total

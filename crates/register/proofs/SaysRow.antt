@@ -1,133 +1,135 @@
--- An accepted register has rows just where its bytes say one. And bytes that say a length have a byte `18`.
-use Prim.Native.Nat.{ℕ, zero, suc, ◌+◌, ◌≤◌, ◌<◌}
+-- An accepted register has rows just where its bytes say one, whether it has ranges or not. And bytes that say a length have a byte
+-- `18`.
+use Prim.Native.Nat.{ℕ, ◌*◌, ◌≤◌}
 use native.Mathlib.Omega.{arith}
+use native.Mathlib.Decide.{ℕ_discrete}
 use mathlib.Core.Path.{◌≡◌, refl, sym, ◌∙◌, ap}
-use mathlib.Core.Logic.{◌↔◌, ⊎_elim}
-use mathlib.Core.Bool.{true, false, false≢true}
+use mathlib.Core.Logic.{◌⊎◌, inl, inr, ◌↔◌}
+use mathlib.Core.Bool.{true, false, true≢false, false≢true}
 use mathlib.Core.List.{List}
-use lib.Dec.{eqb, ltb}
+use lib.Dec.{T, ltb}
+use lib.IntN.{pos}
 use lib.ListN.{length, get_or, get_or-eq_default}
-use borrow.Author.Tests.{eqb-true, eqb-false, ltb-true, ltb-false}
-use Rattle.integers.proofs.Lists.{◌▹◌, flag, or_either, and_both}
-use Rattle.wire.specs.Checks.{refusal}
-use Rattle.wire.specs.Part.{accepted, operands_at, size, checks_at, after_at, step, read_from, read_part}
-use Rattle.wire.specs.Rows.{Progress, row_of}
-use Rattle.wire.specs.Walk.{passing, comes_from, comes_to}
-use Rattle.wire.proofs.Part.{operands, Passes, Ways, by_ways, checks_at_passed, passed_checks_at, step_refused, step_goes, step_ends, read_from_goes}
-use Rattle.wire.proofs.Rest.{no_row_lem, by_bytes}
+use borrow.Author.Tests.{ltb-true, ltb-false}
+use Rattle.integers.proofs.Lists.{◌▹◌, flag}
+use Rattle.integers.proofs.Entries.{column_empty}
+use Rattle.wire.specs.Part.{Reading, accepted, after_at, read_from}
+use Rattle.wire.specs.Rows.{Progress, is_among, row_of}
+use Rattle.wire.specs.Grammar.{Among}
+use Rattle.wire.proofs.Grammar.{among_test, apart, apart_not}
+use Rattle.wire.proofs.Part.{operands, Passes, Ways, by_ways, passed_checks_at, read_from_goes}
+use Rattle.wire.proofs.Prefix.{row_of_by}
+use Rattle.wire.proofs.Alike.{Alike}
 use Rattle.wire.proofs.Encoding.{by_itself_accepted}
 use Rattle.register.specs.declared.Register.{Register}
+use Rattle.register.specs.Limits.{max_rows, row_entries}
 use Rattle.register.specs.Register.{fresh}
-use Rattle.register.specs.Format.{register_rows, register_part, register_in_job, register_by_itself}
-use Rattle.register.specs.BeforeRows.{part_before_rows}
-use Rattle.register.specs.Encoding.{HasByte, row_may_stand, SaysRow, SaysLength}
-use Rattle.register.proofs.BeforeRows.{Reach, agree, no_rows_in_job}
+use Rattle.register.specs.Format.{base_row, choice_row, window_row, row_row, length_row, register_rows, register_part, register_in_job, register_by_itself}
+use Rattle.register.specs.BeforeRanges.{part_before_ranges}
+use Rattle.register.specs.BeforeRows.{rows_before_rows, part_before_rows}
+use Rattle.register.specs.Encoding.{term_kind, HasByte, range_may_stand, row_may_stand, SaysRow, SaysLength}
+use Rattle.register.proofs.Accept.{valid_accepted}
+use Rattle.register.proofs.Said.{New, alike_through}
+use Rattle.register.proofs.Said as S
+use Rattle.register.proofs.BeforeRanges as R
+use Rattle.register.proofs.BeforeRows as B
+use Rattle.register.proofs.BeforeRows.{rows_of}
+
+-- ---- after a term no row follows
+
+after_term : (previous c : ℕ) (r : Register) (xs : List ℕ) → Among previous term_kind.bytes → is_among previous (row_of register_rows c).follows ≡ true
+    → ((row_of register_rows c).last ≡ false → Among c term_kind.bytes) × (((row_of register_rows c).after r xs).rows ≡ r.rows)
+after_term previous c r xs m =
+    row_of_by (λ c row. is_among previous row.follows ≡ true → (row.last ≡ false → Among c term_kind.bytes) × ((row.after r xs).rows ≡ r.rows)) register_rows c (λ e. absurd (false≢true e))
+    ((λ e. absurd (none base_row.follows tt e))
+    ▹ (λ e. absurd (none choice_row.follows tt e))
+    ▹ (λ e. ((λ _. inl refl), refl))
+    ▹ (λ e. absurd (none window_row.follows tt e))
+    ▹ (λ e. absurd (none row_row.follows tt e))
+    ▹ (λ e. ((λ _. inr (inl refl)), refl))
+    ▹ (λ e. absurd (none length_row.follows tt e))
+    ▹ (λ e. ((λ l. absurd (true≢false l)), refl))
+    ▹ tt)
+  where
+    none : (bs : List ℕ) → T (apart term_kind.bytes bs) → is_among previous bs ≡ true → ⊥
+    none bs t e = apart_not previous term_kind.bytes bs t m (among_test previous bs e)
+
+module _ (s : List ℕ) (p : Progress Register) (end : ℕ) where
+  abbrev Stays : Progress Register → ℕ → Reading (Progress Register) → Type 0
+  Stays read at x = Among read.previous term_kind.bytes → x ≡ accepted p end → p.parsed.rows ≡ read.parsed.rows
+
+  rows_stay : (read : Progress Register) (at : ℕ) → Stays read at (read_from register_part s read at)
+  unfolding after_at
+  rows_stay = by_ways register_part s Stays ways
+    where
+      ways : Ways register_part s Stays
+      ways = record {
+        missing = λ read at l m q. let z : ◌≡◌ {A = ℕ} 0 1 = cc in absurd (omega arith);
+        refuses = λ read at n l e d m q. let z : ◌≡◌ {A = ℕ} 0 1 = cc in absurd (omega arith);
+        goes = λ read at x h l rest m q. let (next, same) = after_term read.previous (get_or s at 0) read.parsed (operands register_part s at) m h.here in rest (next l) q ∙ same;
+        ends = λ read at h l m q.
+            let z : after_at register_part s read at ≡ p = cc in
+            ap (λ p. p.parsed.rows) (sym z) ∙ (after_term read.previous (get_or s at 0) read.parsed (operands register_part s at) m h.here).1;
+      }
+
+-- ---- rows of an accepted register
+
+-- neither a row nor a range was read
+abbrev Reach : Progress Register → ℕ → Type 0
+Reach read at = R.Reach read at × B.Reach read at
+
+agree : (read : Progress Register) (at c : ℕ) → Reach read at → (c ≡ 0x16 → range_may_stand read ≡ false) → (c ≡ 0x14 → row_may_stand read ≡ false) → Alike register_part part_before_rows Reach read at c
+agree read at c (r, r') d d' = alike_through register_part part_before_ranges part_before_rows R.Reach B.Reach (R.agree read at c r d) (B.agree read at c r' d')
+
+-- a range is no row, and none follows it
+other : (s : List ℕ) (read : Progress Register) (at : ℕ) → Reach read at → Passes register_part s read at → is_among read.previous (row_of rows_before_rows (get_or s at 0)).follows ≡ false
+    → (get_or s at 0 ≡ 0x14) ⊎ ((p : Progress Register) (end : ℕ) → read_from register_part s read at ≡ accepted p end → 1 ≤ p.parsed.rows → ⊥)
+unfolding row_of after_at fresh
+other s read at r g f = go (ℕ_discrete (get_or s at 0) 0x14) (ℕ_discrete (get_or s at 0) 0x16)
+  where
+    range : get_or s at 0 ≡ 0x16 → (p : Progress Register) (end : ℕ) → read_from register_part s read at ≡ accepted p end → 1 ≤ p.parsed.rows → ⊥
+    range e p end a some =
+        let onward = read_from_goes register_part s read at g.inside (passed_checks_at register_part s read at g) (rw e) in
+        let stays : p.parsed.rows ≡ read.parsed.rows = rows_stay s p end _ _ (inr (inl e)) (sym onward ∙ a) ∙ rw e in
+        omega (arith, some, stays, ap (λ w. w.0) r.1.none)
+
+    go : Dec (get_or s at 0 ≡ 0x14) → Dec (get_or s at 0 ≡ 0x16) → (get_or s at 0 ≡ 0x14) ⊎ ((p : Progress Register) (end : ℕ) → read_from register_part s read at ≡ accepted p end → 1 ≤ p.parsed.rows → ⊥)
+    go (yes e) _ = inl e
+    go (no d) (yes e) = inr (range e)
+    go (no d) (no d') = absurd (true≢false (sym g.here ∙ (agree read at (get_or s at 0) r (λ e. absurd (d' e)) (λ e. absurd (d e))).here ∙ f))
+
+new_row : New rows_before_rows 0x14 row_may_stand (λ r. 1 ≤ r.rows) Reach
+unfolding row_of fresh
+new_row = record {
+  starts = (R.starts, B.starts);
+  none = λ read at r some. omega (arith, some, ap (λ w. w.0) r.1.none);
+  agree = λ read at c r h. agree read at c r (λ e. absurd (false≢true (rw e at h))) (λ e. absurd (false≢true (rw e at h)));
+  other = other;
+  stands = λ read. refl;
+  some = λ read at c xs r e q. rw e (omega arith);
+  kept = (λ r xs t. t) ▹ (λ r xs t. t) ▹ (λ r xs t. t) ▹ (λ r xs t. t) ▹ (λ r xs t. omega arith) ▹ (λ r xs t. t) ▹ (λ r xs t. t) ▹ (λ r xs t. t) ▹ tt;
+}
 
 module _ (s : List ℕ) where
-  -- ---- rows of an accepted register
-
   module _ (p : Progress Register) (end : ℕ) where
-    -- a command of a row gives one more row, and none gives fewer
-
-    kept : (b : ℕ) (r : Register) (xs : List ℕ) → r.rows ≤ ((row_of register_rows b).after r xs).rows
-    unfolding row_of
-    kept b r xs =
-        by_bytes (λ b. r.rows ≤ ((row_of register_rows b).after r xs).rows) register_rows b (λ n. rw (no_row_lem register_rows b n) (omega arith))
-        ((omega arith) ▹ (omega arith) ▹ (omega arith) ▹ (omega arith) ▹ (omega arith) ▹ (omega arith) ▹ (omega arith) ▹ tt)
-
-    more : (b : ℕ) (r : Register) (xs : List ℕ) → b ≡ 0x14 → suc r.rows ≤ ((row_of register_rows b).after r xs).rows
-    unfolding row_of
-    more b r xs e = rw e (omega arith)
-
-    abbrev Grown : Progress Register → ℕ → Type 0
-    Grown read at = (read.parsed.rows ≤ p.parsed.rows) × (get_or s at 0 ≡ 0x14 → suc read.parsed.rows ≤ p.parsed.rows)
-
-    grown : (read : Progress Register) (at : ℕ) → read_from register_part s read at ≡ accepted p end → Grown read at
-    unfolding after_at
-    grown = by_ways register_part s (λ read at x. x ≡ accepted p end → Grown read at) ways
-      where
-        ways : Ways register_part s (λ read at x. x ≡ accepted p end → Grown read at)
-        ways = record {
-          missing = λ read at l q. let z : ◌≡◌ {A = ℕ} 0 1 = cc in absurd (omega arith);
-          refuses = λ read at n l e d q. let z : ◌≡◌ {A = ℕ} 0 1 = cc in absurd (omega arith);
-          goes = λ read at x h l rest q.
-              let b = get_or s at 0 in
-              let (g, _) = rest q in
-              (omega (arith, kept b read.parsed (operands register_part s at), g), λ e. omega (arith, more b read.parsed (operands register_part s at) e, g));
-          ends = λ read at h l q.
-              let b = get_or s at 0 in
-              let z : after_at register_part s read at ≡ p = cc in
-              let g : ((row_of register_rows b).after read.parsed (operands register_part s at)).rows ≡ p.parsed.rows = ap (λ p. p.parsed.rows) z in
-              (omega (arith, kept b read.parsed (operands register_part s at), g), λ e. omega (arith, more b read.parsed (operands register_part s at) e, g));
-        }
-
-    -- a command that was not refused before there were rows is read as it was
-    module _ (read : Progress Register) (at : ℕ) (r : Reach read at) (q : Passes part_before_rows s read at) (go : part_before_rows.last (get_or s at 0) ≡ false) where
-      record Onward : Type 0 where
-        next : Progress Register
-        to : ℕ
-        reach : Reach next to
-        before : after_at part_before_rows s read at ≡ next
-        place : at + size part_before_rows (get_or s at 0) ≡ to
-        now : read_from register_part s read at ≡ read_from register_part s next to
-
-      no_row_here : get_or s at 0 ≡ 0x14 → ⊥
-      unfolding row_of
-      no_row_here e = false≢true (rw e at q.here)
-
-      onward : Onward
-      unfolding after_at
-      onward =
-          let c = get_or s at 0 in
-          let a = agree read at c r (λ e. absurd (no_row_here e)) in
-          let here = a.here ∙ q.here in
-          let same = a.same here in
-          let xs = operands register_part s at in
-          let operands_same : operands part_before_rows s at ≡ xs = ap (λ ws. operands_at ws s (at + 1)) (sym same.widths) in
-          let passes : refusal (register_part.checks read c xs) ≡ 0 = same.checks xs ∙ ap (λ ys. refusal (part_before_rows.checks read c ys)) (sym operands_same) ∙ q.allowed in
-          let h : Passes register_part s read at = record { inside = q.inside; here = here; room = rw same.widths q.room; allowed = passes } in
-          record {
-            next = register_part.after read c xs;
-            to = at + size register_part c;
-            reach = same.moves xs passes;
-            before = ap (part_before_rows.after read c) operands_same ∙ sym (same.after xs);
-            place = rw same.widths;
-            now = read_from_goes register_part s read at q.inside (passed_checks_at register_part s read at h) (same.last ∙ go);
-          }
-
-    comes : (k : ℕ) (read : Progress Register) (at : ℕ) → Reach read at → read_from register_part s read at ≡ accepted p end → comes_from part_before_rows row_may_stand 0x14 s k read at ≡ true → 1 ≤ p.parsed.rows
-    unfolding comes_from passing
-    comes zero read at r a e = absurd (false≢true e)
-    comes (suc k) read at r a e =
-        let (l, f) = and_both _ _ e in
-        ⊎_elim
-        (λ t. omega (arith, (grown read at a).1 (eqb-true _ _ (and_both _ _ t).0)))
-        (past (comes k) (ltb-true _ _ l)) (or_either _ _ f)
-      where
-        past : ((read : Progress Register) (at : ℕ) → Reach read at → read_from register_part s read at ≡ accepted p end → comes_from part_before_rows row_may_stand 0x14 s k read at ≡ true → 1 ≤ p.parsed.rows)
-            → at < length s → passing (step part_before_rows s read at) (comes_from part_before_rows row_may_stand 0x14 s k) ≡ true → 1 ≤ p.parsed.rows
-        past later l t =
-            let n = refusal (checks_at part_before_rows s read at) in
-            flag (eqb n 0)
-            (λ z.
-            let passed = eqb-true n 0 z in
-            flag (part_before_rows.last (get_or s at 0))
-            (λ u. absurd (false≢true (rw (step_ends part_before_rows s read at l passed u) at t)))
-            (λ u.
-            let o = onward read at r (checks_at_passed part_before_rows s read at l passed) u in
-            later o.next o.to o.reach (sym o.now ∙ a) (rw (o.before, o.place) at (rw (step_goes part_before_rows s read at l passed u) at t))))
-            (λ z. absurd (false≢true (rw (step_refused part_before_rows s read at n l refl (eqb-false n 0 z)) at t)))
-
     pub said_in_job : register_in_job s ≡ accepted p end → SaysRow s ↔ (1 ≤ p.parsed.rows)
-    unfolding register_in_job read_part comes_to fresh
-    said_in_job a = (
-      comes (length s) register_part.start 0 (record { no_row_read = λ e. omega arith; rows = refl }) a,
-      λ some. flag (comes_to part_before_rows row_may_stand 0x14 s) (λ t. t) (λ t. absurd (omega (arith, some, ap (λ w. w.0) (no_rows_in_job s (λ e. false≢true (sym t ∙ e)) a)))),
-    )
+    said_in_job = S.said_in_job rows_before_rows 0x14 row_may_stand (λ r. 1 ≤ r.rows) Reach new_row s p end
 
     pub said_by_itself : register_by_itself s ≡ accepted p end → SaysRow s ↔ (1 ≤ p.parsed.rows)
+    said_by_itself = S.said_by_itself rows_before_rows 0x14 row_may_stand (λ r. 1 ≤ r.rows) Reach new_row s p end
+
+  -- where they say none, the fields that came with rows are those of a fresh register, all 0
+  module _ (none : SaysRow s → ⊥) where
+    pub no_rows_in_job : {p : Progress Register} {end : ℕ} → register_in_job s ≡ accepted p end → rows_of p.parsed ≡ rows_of fresh
+    unfolding fresh
+    no_rows_in_job {p} {end} e =
+        let w = (valid_accepted s p end e).0.within.rows in
+        let zero : p.parsed.rows ≡ 0 = flag (ltb 0 p.parsed.rows) (λ t. absurd (none ((said_in_job p end e).1 (ltb-true _ _ t)))) (λ t. omega (arith, ltb-false _ _ t)) in
+        rw (zero, ← column_empty max_rows _ (pos 0) _ zero w.totals, ← column_empty (max_rows * row_entries) _ (pos 0) _ (omega (arith, zero)) w.entries)
+
+    pub no_rows : {p : Progress Register} {end : ℕ} → register_by_itself s ≡ accepted p end → rows_of p.parsed ≡ rows_of fresh
     unfolding register_by_itself
-    said_by_itself a = said_in_job (by_itself_accepted s (register_in_job s) p end a).0
+    no_rows {p} {end} e = no_rows_in_job (by_itself_accepted s (register_in_job s) p end e).0
 
   -- ---- a length
 

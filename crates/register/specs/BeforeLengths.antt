@@ -1,6 +1,6 @@
--- How the register was read before it had a day length, which was before it had rows: no row for `14` or `18`, nothing that follows
--- them, and in the checks a fixed highest minute and a fixed highest "to". The record is today's: `10` gives it the usual length, and
--- its rows are as in a fresh one; no check looks at either.
+-- How the register was read before it had a day length, which was before it had rows or ranges: no row for `14`, `16` or `18`, nothing
+-- that follows them, and in the checks a fixed highest minute and a fixed highest "to". The record is today's: `10` gives it the usual
+-- length, and its rows are as in a fresh one; no check looks at either.
 use Rattle.std.specs.Prelude.{ℕ, suc, ◌-◌, Bool, not, ◌||◌, List, [], ◌∷◌, ltb, leb, eqb}
 use Rattle.integers.specs.Lists.{comes_before}
 use Rattle.wire.specs.Checks.{Check, check}
@@ -10,7 +10,7 @@ use Rattle.register.specs.declared.Register.{Register}
 use Rattle.register.specs.Limits.{max_choices, max_windows, max_tank}
 use Rattle.register.specs.Register.{tank, minute, window_tank, window_from, fresh}
 use Rattle.register.specs.Format.{base_row, may_feed, choice_row, term_row, window_row, end_row}
-use Rattle.register.specs.BeforeRows.{row_before}
+use Rattle.register.specs.BeforeRanges.{row_before}
 
 -- the highest minute and the highest "to", as they were
 

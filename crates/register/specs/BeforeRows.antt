@@ -1,16 +1,12 @@
--- How the register was read before it had rows: no row for `14`, and nothing that follows it. The record is today's, with its rows as
--- in a fresh one, at which no check looks.
+-- How the register was read before it had rows, which was before it had ranges: no row for `14` or `16`, and nothing that follows them.
+-- The record is today's, with its rows as in a fresh one, at which no check looks.
 use Rattle.std.specs.Prelude.{List, [], ◌∷◌, ℕ}
-use Rattle.wire.specs.Checks.{Check}
 use Rattle.wire.specs.Part.{Part, Reading, read_part, by_itself}
 use Rattle.wire.specs.Rows.{Progress, Row, part_of}
 use Rattle.register.specs.declared.Register.{Register}
 use Rattle.register.specs.Register.{fresh}
 use Rattle.register.specs.Format.{base_row, choice_row, term_row, window_row, length_row, end_row}
-
--- a row of today, with what it followed and its checks as they were
-abbrev pub row_before : Row Register → List ℕ → (Register → List ℕ → List Check) → Row Register
-row_before row follows checks = record row { follows = follows; checks = checks }
+use Rattle.register.specs.BeforeRanges.{row_before}
 
 abbrev pub term_row_before_rows : Row Register
 term_row_before_rows = row_before term_row (0x10 ∷ 0x11 ∷ 0x12 ∷ 0x13 ∷ 0x18 ∷ []) term_row.checks

@@ -1,6 +1,6 @@
--- How the register was read before it had windows, which was before it had a day length or rows: no row for `13`, `14` or `18`, nothing
--- that follows them, no check 13, and a fixed highest minute. The record is today's, with its windows and rows as in a fresh one and
--- the length that `10` gives it, at which no check looks.
+-- How the register was read before it had windows, which was before it had a day length, rows or ranges: no row for `13`, `14`, `16` or
+-- `18`, nothing that follows them, no check 13, and a fixed highest minute. The record is today's, with its windows and rows as in a
+-- fresh one and the length that `10` gives it, at which no check looks.
 use Rattle.std.specs.Prelude.{ℕ, ◌-◌, not, ◌||◌, List, [], ◌∷◌, ltb, leb, eqb}
 use Rattle.integers.specs.Lists.{comes_before}
 use Rattle.wire.specs.Checks.{Check, check}
@@ -10,7 +10,7 @@ use Rattle.register.specs.declared.Register.{Register}
 use Rattle.register.specs.Limits.{max_choices, max_tank}
 use Rattle.register.specs.Register.{tank, minute, fresh}
 use Rattle.register.specs.Format.{base_row, choice_row, term_row, end_row}
-use Rattle.register.specs.BeforeRows.{row_before}
+use Rattle.register.specs.BeforeRanges.{row_before}
 use Rattle.register.specs.BeforeLengths.{max_minute_before}
 
 unfoldable pub choice_checks_before_windows : (n tank₀ minute₀ tank minute : ℕ) → List Check

@@ -1,6 +1,7 @@
 -- The register's bytes: `10` base cost, `18` day length, which may be missing where it is the usual one, `13` for each window, `11`
--- for each choice, `14` for each row, `12` for each term, `1F`. Written without the reader: of the part's rows only the widths of
--- operands are used. `SaysRow` alone, below, uses a reader, as it was before there were rows, and what a `14` may stand after.
+-- for each choice, `14` for each row, `12` or `16` for each term, `1F`. Written without the reader: of the part's rows only the widths of
+-- operands are used. `SaysRow` and `SaysRange` alone, below, use a reader, as it was before there were rows or ranges, and what a `14` or
+-- a `16` may stand after.
 use Rattle.std.specs.Prelude.{ℕ, ◌≡◌, ◌<◌, Bool, true, cond, map, eqb, ℤ, length, get_or}
 use mathlib.Core.List.{List, [], ◌∷◌, ◌++◌, flat_map}
 use Rattle.std.specs.Int.{w8, w16, w32}
@@ -14,9 +15,10 @@ use Rattle.wire.specs.Walk.{comes_to}
 use Rattle.wire.specs.Rows.{Progress, is_among}
 use Rattle.register.specs.declared.Register.{Register}
 use Rattle.register.specs.Limits.{usual_day, row_entries}
-use Rattle.register.specs.Register.{tank, minute, mask, coefficient, window_tank, window_from, window_to, row_total, row_entry}
-use Rattle.register.specs.Format.{row_row, register_part}
+use Rattle.register.specs.Register.{tank, minute, mask, coefficient, high, is_range, window_tank, window_from, window_to, row_total, row_entry}
+use Rattle.register.specs.Format.{row_row, range_row, register_part}
 use Rattle.register.specs.BeforeRows.{part_before_rows}
+use Rattle.register.specs.BeforeRanges.{part_before_ranges}
 
 -- ---- an encoding: header, each window, choice, row and term in one of its forms, end
 
@@ -43,8 +45,16 @@ choice_kind = record { bytes = 0x11 ∷ []; count = λ r. r.choices; says = λ r
 abbrev pub term_command : (mask : ℕ) → ℤ → Command
 term_command mask coefficient = record { byte = 0x12; operands = mask ∷ of_z w32 coefficient ∷ [] }
 
+-- `16` mask, low, high
+abbrev pub range_command : (mask : ℕ) → (low high : ℤ) → Command
+range_command mask low high = record { byte = 0x16; operands = mask ∷ of_z w32 low ∷ of_z w32 high ∷ [] }
+
+-- a term, by whether it has a range
+abbrev pub entry_command : Bool → (mask : ℕ) → (low high : ℤ) → Command
+entry_command ranged mask low high = cond ranged (range_command mask low high) (term_command mask low)
+
 abbrev pub term_kind : Kind Register
-term_kind = record { bytes = 0x12 ∷ []; count = λ r. r.terms; says = λ r t c. c ≡ term_command (mask r t) (coefficient r t) }
+term_kind = record { bytes = 0x12 ∷ 0x16 ∷ []; count = λ r. r.terms; says = λ r t c. c ≡ entry_command (is_range r t) (mask r t) (coefficient r t) (high r t) }
 
 -- `13` tank, from, to
 abbrev pub window_command : (tank from to : ℕ) → Command
@@ -103,6 +113,10 @@ encode_window tank from to = 0x13 ∷ (bytes_of 2 tank ++ (bytes_of 2 from ++ by
 unfoldable pub encode_row : ℤ → List ℤ → List ℕ
 encode_row total entries = 0x14 ∷ (bytes_of 2 (of_z w16 total) ++ flat_map (λ a. bytes_of 1 (of_z w8 a)) entries)
 
+-- `16` range: mask u32, low i32, high i32
+unfoldable pub encode_range : (mask : ℕ) → (low high : ℤ) → List ℕ
+encode_range mask low high = 0x16 ∷ (bytes_of 4 mask ++ (bytes_of 4 (of_z w32 low) ++ bytes_of 4 (of_z w32 high)))
+
 -- `18` day length u16
 unfoldable pub encode_length : ℕ → List ℕ
 encode_length length = 0x18 ∷ bytes_of 2 length
@@ -118,8 +132,11 @@ encode_choices r = join_below r.choices (λ i. encode_choice (tank r i) (minute 
 abbrev pub encode_rows : Register → List ℕ
 encode_rows r = join_below r.rows (λ k. encode_row (row_total r k) (row_list r k))
 
+abbrev pub encode_entry : Bool → (mask : ℕ) → (low high : ℤ) → List ℕ
+encode_entry ranged mask low high = cond ranged (encode_range mask low high) (encode_term mask low)
+
 abbrev pub encode_terms : Register → List ℕ
-encode_terms r = join_below r.terms (λ t. encode_term (mask r t) (coefficient r t))
+encode_terms r = join_below r.terms (λ t. encode_entry (is_range r t) (mask r t) (coefficient r t) (high r t))
 
 -- after the bytes of a header
 abbrev pub encode_after : List ℕ → Register → List ℕ
@@ -162,3 +179,14 @@ row_may_stand p = is_among p.previous row_row.follows
 -- its bytes say one (`row_byte` and `says_row` in soundness/specs/Rows)
 abbrev pub SaysRow : List ℕ → Type 0
 SaysRow s = comes_to part_before_rows row_may_stand 0x14 s ≡ true
+
+-- ---- ranges in bytes
+
+-- a `16` may stand directly after what has been read
+abbrev pub range_may_stand : Progress Register → Bool
+range_may_stand p = is_among p.previous range_row.follows
+
+-- reading as before there were ranges, which refuses each `16` with 1, comes to one where it may stand. An accepted register has a range
+-- just where its bytes say one (`says_range` in soundness/specs/PriceRanges)
+abbrev pub SaysRange : List ℕ → Type 0
+SaysRange s = comes_to part_before_ranges range_may_stand 0x16 s ≡ true

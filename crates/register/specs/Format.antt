@@ -1,6 +1,8 @@
--- The register's commands: `10` base cost, `11` choice, `12` term, `13` window, `14` row, `18` day length, `1F` end.
+-- The register's commands: `10` base cost, `11` choice, `12` term, `13` window, `14` row, `16` range, `18` day length, `1F`
+-- end.
 use Rattle.std.specs.Prelude.{ℕ, ◌-◌, ◌^◌, Bool, true, false, not, ◌&&◌, ◌||◌, List, [], ◌∷◌, ltb, leb, eqb, ℤ, pos, nat_abs, get_or, map, drop, replicate}
 use Rattle.std.specs.Int.{w8, w16, w32}
+use Rattle.std.specs.Int.Signed.{lt_z}
 use Rattle.std.proofs.Common.{to_z}
 use Rattle.integers.specs.Lists.{all_below, any_below, comes_before}
 use Rattle.wire.specs.Checks.{Check, check}
@@ -8,7 +10,7 @@ use Rattle.wire.specs.Part.{Part, Reading, read_part, by_itself}
 use Rattle.wire.specs.Rows.{Progress, Row, part_of, unary, binary, ternary, first_of}
 use Rattle.register.specs.declared.Register.{Register}
 use Rattle.register.specs.Limits.{max_choices, max_terms, max_windows, max_rows, row_entries, max_row_total, max_base, max_tank, max_coefficient, short_day, usual_day, long_day}
-use Rattle.register.specs.Register.{tank, minute, mask, window_tank, window_from, fresh, with_base, with_length, with_choice, with_term, with_window, with_row}
+use Rattle.register.specs.Register.{tank, minute, mask, window_tank, window_from, fresh, with_base, with_length, with_choice, with_term, with_window, with_row, with_range}
 
 -- base cost within ±1,000,000,000
 unfoldable pub base_checks : ℤ → List Check
@@ -42,7 +44,7 @@ choice_checks length n tank₀ minute₀ tank minute may =
     ∷ check 13 (not may)
     ∷ []
 
--- `11` choice: tank u16, minute u16. All `11` come before all `12`
+-- `11` choice: tank u16, minute u16. All `11` come before all `12` and `16`
 abbrev pub choice_row : Row Register
 choice_row = record {
   byte = 0x11;
@@ -54,8 +56,8 @@ choice_row = record {
   last = false;
 }
 
--- up to 256 terms, coefficients within ±1,000,000 and not 0, masks that name choices, rising strictly: n choices and m terms
--- were read, the last term with mask₀
+-- up to 256 terms, coefficients within ±1,000,000 and not 0, masks that name choices, rising strictly: n choices and m terms, with
+-- ranges or without, were read, the last term with mask₀
 unfoldable pub term_checks : (n m mask₀ mask : ℕ) → ℤ → List Check
 term_checks n m mask₀ mask coefficient =
     check 3 (leb max_terms m)
@@ -68,7 +70,7 @@ term_checks n m mask₀ mask coefficient =
 abbrev pub term_row : Row Register
 term_row = record {
   byte = 0x12;
-  follows = 0x10 ∷ 0x11 ∷ 0x12 ∷ 0x13 ∷ 0x14 ∷ 0x18 ∷ [];
+  follows = 0x10 ∷ 0x11 ∷ 0x12 ∷ 0x13 ∷ 0x14 ∷ 0x16 ∷ 0x18 ∷ [];
   widths = 4 ∷ 4 ∷ [];
   checks = λ r. binary λ m c. term_checks r.choices r.terms (mask r (r.terms - 1)) m (to_z w32 c);
   after = λ r. binary λ m c. with_term r m (to_z w32 c);
@@ -112,7 +114,7 @@ row_checks k b zeros =
 abbrev pub entries_of : List ℕ → List ℤ
 entries_of xs = map (to_z w8) (first_of row_entries (drop 1 xs))
 
--- `14` row: total i16, then 32 entries i8. After all `13` and `11` and before all `12`
+-- `14` row: total i16, then 32 entries i8. After all `13` and `11` and before all `12` and `16`
 abbrev pub row_row : Row Register
 row_row = record {
   byte = 0x14;
@@ -120,6 +122,28 @@ row_row = record {
   widths = 2 ∷ replicate row_entries 1;
   checks = λ r xs. row_checks r.rows (unary (to_z w16) xs) (zero_past r.choices (λ j. get_or (entries_of xs) j (pos 0)));
   after = λ r xs. with_row r (unary (to_z w16) xs) (entries_of xs);
+  last = false;
+}
+
+-- up to 256 terms, both coefficients within ±1,000,000, masks that name choices, the low coefficient not above the high one, masks
+-- rising strictly: n choices and m terms, with ranges or without, were read, the last term with mask₀
+unfoldable pub range_checks : (n m mask₀ mask : ℕ) → (low high : ℤ) → List Check
+range_checks n m mask₀ mask low high =
+    check 3 (leb max_terms m)
+    ∷ check 4 (ltb max_coefficient (nat_abs low) || ltb max_coefficient (nat_abs high))
+    ∷ check 5 (eqb mask 0 || leb (2 ^ n) mask)
+    ∷ check 6 (lt_z high low)
+    ∷ check 7 (not (eqb m 0 || ltb mask₀ mask))
+    ∷ []
+
+-- `16` range: mask u32, low i32, high i32. Among the `12`
+abbrev pub range_row : Row Register
+range_row = record {
+  byte = 0x16;
+  follows = 0x10 ∷ 0x11 ∷ 0x12 ∷ 0x13 ∷ 0x14 ∷ 0x16 ∷ 0x18 ∷ [];
+  widths = 4 ∷ 4 ∷ 4 ∷ [];
+  checks = λ r. ternary λ m l h. range_checks r.choices r.terms (mask r (r.terms - 1)) m (to_z w32 l) (to_z w32 h);
+  after = λ r. ternary λ m l h. with_range r m (to_z w32 l) (to_z w32 h);
   last = false;
 }
 
@@ -150,7 +174,7 @@ end_checks n = check 3 (eqb n 0) ∷ []
 abbrev pub end_row : Row Register
 end_row = record {
   byte = 0x1F;
-  follows = 0x10 ∷ 0x11 ∷ 0x12 ∷ 0x13 ∷ 0x14 ∷ 0x18 ∷ [];
+  follows = 0x10 ∷ 0x11 ∷ 0x12 ∷ 0x13 ∷ 0x14 ∷ 0x16 ∷ 0x18 ∷ [];
   widths = [];
   checks = λ r xs. end_checks r.choices;
   after = λ r xs. r;
@@ -158,7 +182,7 @@ end_row = record {
 }
 
 abbrev pub register_rows : List (Row Register)
-register_rows = base_row ∷ choice_row ∷ term_row ∷ window_row ∷ row_row ∷ length_row ∷ end_row ∷ []
+register_rows = base_row ∷ choice_row ∷ term_row ∷ window_row ∷ row_row ∷ range_row ∷ length_row ∷ end_row ∷ []
 
 abbrev pub register_part : Part (Progress Register)
 register_part = part_of fresh register_rows

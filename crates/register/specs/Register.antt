@@ -1,6 +1,7 @@
 -- The register's record: its entries, the fresh one, and what a command gives.
-use Rattle.std.specs.Prelude.{ℕ, suc, ◌+◌, ◌*◌, List, get_or, set, replicate, ℤ, pos}
+use Rattle.std.specs.Prelude.{ℕ, suc, ◌+◌, ◌*◌, Bool, true, false, List, get_or, set, replicate, ℤ, pos}
 use Rattle.std.proofs.lemmas.List.Edits.{sets}
+use Rattle.integers.specs.Lists.{any_below}
 use Rattle.register.specs.declared.Register.{Register}
 use Rattle.register.specs.Limits.{max_choices, max_terms, max_windows, max_rows, row_entries, usual_day}
 
@@ -12,13 +13,24 @@ tank r i = get_or r.tanks i 0
 abbrev pub minute : Register → ℕ → ℕ
 minute r i = get_or r.minutes i 0
 
--- term t: its mask, in which bit i names choice i, and its coefficient
+-- term t: its mask, in which bit i names choice i; its coefficient, of a range the low one; the high one, of a term without a range the
+-- coefficient once more; and whether it has a range
 
 abbrev pub mask : Register → ℕ → ℕ
 mask r t = get_or r.masks t 0
 
 abbrev pub coefficient : Register → ℕ → ℤ
 coefficient r t = get_or r.coefficients t (pos 0)
+
+abbrev pub high : Register → ℕ → ℤ
+high r t = get_or r.highs t (pos 0)
+
+abbrev pub is_range : Register → ℕ → Bool
+is_range r t = get_or r.ranged t false
+
+-- the register has a term with a range, be its low and its high equal
+abbrev pub has_range : Register → Bool
+has_range r = any_below r.terms (is_range r)
 
 -- window j: its tank, its "from" and its "to"
 
@@ -56,6 +68,8 @@ fresh = record {
   minutes = replicate max_choices 0;
   masks = replicate max_terms 0;
   coefficients = replicate max_terms (pos 0);
+  highs = replicate max_terms (pos 0);
+  ranged = replicate max_terms false;
   windows = 0;
   window_tanks = replicate max_windows 0;
   window_froms = replicate max_windows 0;
@@ -77,8 +91,8 @@ set_length r length = record r { day_length = length }
 abbrev pub set_choices : Register → ℕ → (tanks minutes : List ℕ) → Register
 set_choices r n tanks minutes = record r { choices = n; tanks = tanks; minutes = minutes }
 
-abbrev pub set_terms : Register → ℕ → List ℕ → List ℤ → Register
-set_terms r m masks coefficients = record r { terms = m; masks = masks; coefficients = coefficients }
+abbrev pub set_terms : Register → ℕ → List ℕ → (coefficients highs : List ℤ) → List Bool → Register
+set_terms r m masks coefficients highs ranged = record r { terms = m; masks = masks; coefficients = coefficients; highs = highs; ranged = ranged }
 
 abbrev pub set_windows : Register → ℕ → (tanks froms tos : List ℕ) → Register
 set_windows r k tanks froms tos = record r { windows = k; window_tanks = tanks; window_froms = froms; window_tos = tos }
@@ -100,9 +114,18 @@ with_length r length = set_length r length
 abbrev pub with_choice : Register → ℕ → ℕ → Register
 with_choice r tank minute = set_choices r (suc r.choices) (set r.tanks r.choices tank) (set r.minutes r.choices minute)
 
--- one term more
+-- one term more: with a low and a high, and whether they are a range
+abbrev pub with_entry : Register → ℕ → (low high : ℤ) → Bool → Register
+with_entry r mask low high ranged =
+    set_terms r (suc r.terms) (set r.masks r.terms mask) (set r.coefficients r.terms low) (set r.highs r.terms high) (set r.ranged r.terms ranged)
+
+-- with one coefficient, and with a range
+
 abbrev pub with_term : Register → ℕ → ℤ → Register
-with_term r mask coefficient = set_terms r (suc r.terms) (set r.masks r.terms mask) (set r.coefficients r.terms coefficient)
+with_term r mask coefficient = with_entry r mask coefficient coefficient false
+
+abbrev pub with_range : Register → ℕ → (low high : ℤ) → Register
+with_range r mask low high = with_entry r mask low high true
 
 -- one window more
 abbrev pub with_window : Register → (tank from to : ℕ) → Register

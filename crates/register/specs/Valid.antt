@@ -1,7 +1,7 @@
--- The conditions of the scope paper, of R-1, of R-4 and of R-5 on a register: counts, ranges, names, orders, windows, rows and the
--- day's length.
+-- The conditions of the scope paper, of R-1, of R-4, of R-5 and of R-9 on a register: counts, ranges, names, orders, windows, rows and
+-- the day's length.
 -- Written without the reader.
-use Rattle.std.specs.Prelude.{ℕ, ◌^◌, ◌<◌, ◌≤◌, ◌≡◌, ◌⊎◌, ◌*◌, ℤ, pos, nat_abs, ◌≤ℤ◌, List, get_or}
+use Rattle.std.specs.Prelude.{ℕ, ◌^◌, ◌<◌, ◌≤◌, ◌≡◌, ◌⊎◌, ◌*◌, Bool, false, ℤ, pos, nat_abs, ◌≤ℤ◌, List, get_or}
 use Rattle.integers.specs.Lists.{Column, Table}
 use Rattle.register.specs.declared.Register.{Register}
 use Rattle.register.specs.Limits.{max_choices, max_terms, max_windows, max_rows, row_entries, max_row_total, lowest_entry, highest_entry, max_base, max_tank, max_coefficient, short_day, usual_day, long_day}
@@ -21,15 +21,22 @@ pub record Choice (length tank minute : ℕ) : Type 0 where
 abbrev pub Before : (c d : ℕ × ℕ) → Type 0
 Before c d = (c.0 < d.0) ⊎ ((c.0 ≡ d.0) × (c.1 < d.1))
 
--- the coefficient has a range of both signs without 0; the mask names some of the n choices, at least one
-pub record Term (n mask : ℕ) (coefficient : ℤ) : Type 0 where
-  pub coefficient_within : nat_abs coefficient ≤ max_coefficient
-  pub coefficient_not_0 : 1 ≤ nat_abs coefficient
+-- one coefficient, which is not 0
+abbrev pub Known : (low high : ℤ) → Type 0
+Known low high = (high ≡ low) × (1 ≤ nat_abs low)
+
+-- both coefficients are within ±1,000,000, and the low one is at most the high one; where the term has no range (`ranged`), they are
+-- one, which is not 0. The mask names some of the n choices, at least one
+pub record Term (n mask : ℕ) (low high : ℤ) (ranged : Bool) : Type 0 where
+  pub coefficient_within : nat_abs low ≤ max_coefficient
+  pub high_within : nat_abs high ≤ max_coefficient
+  pub ordered : low ≤ℤ high
+  pub known : ranged ≡ false → Known low high
   pub mask_not_0 : 1 ≤ mask
   pub mask_names : mask < 2 ^ n
 
--- masks rise
-abbrev pub Rises : (c d : ℕ × ℤ) → Type 0
+-- masks rise, whether terms have ranges or not
+abbrev pub Rises : (c d : ℕ × ℤ × ℤ × Bool) → Type 0
 Rises c d = c.0 < d.0
 
 -- the ranges of a window's numbers on a day of this length; "from" is below "to"
@@ -53,8 +60,8 @@ pub record FeedingRow (n : ℕ) (total : ℤ) (entry : ℕ → ℤ) : Type 0 whe
 abbrev pub choice_in : (ts ms : List ℕ) → ℕ → ℕ × ℕ
 choice_in ts ms i = (get_or ts i 0, get_or ms i 0)
 
-abbrev pub term_in : List ℕ → List ℤ → ℕ → ℕ × ℤ
-term_in ms cs i = (get_or ms i 0, get_or cs i (pos 0))
+abbrev pub term_in : List ℕ → (cs hs : List ℤ) → List Bool → ℕ → ℕ × ℤ × ℤ × Bool
+term_in ms cs hs rs i = (get_or ms i 0, get_or cs i (pos 0), get_or hs i (pos 0), get_or rs i false)
 
 abbrev pub window_in : (ts fs os : List ℕ) → ℕ → ℕ × ℕ × ℕ
 window_in ts fs os i = (get_or ts i 0, get_or fs i 0, get_or os i 0)
@@ -66,11 +73,14 @@ pub record Choices (length n : ℕ) (ts ms : List ℕ) : Type 0 where
   pub table : Table max_choices n (choice_in ts ms) (λ c. Choice length c.0 c.1) Before
   pub open table use *
 
--- up to 256 terms over n choices, masks rising; ms and cs are the arrays of their masks and coefficients
-pub record Terms (n m : ℕ) (ms : List ℕ) (cs : List ℤ) : Type 0 where
+-- up to 256 terms over n choices, masks rising; ms, cs, hs and rs are the arrays of their masks, of their low and high coefficients, and
+-- of whether they have ranges
+pub record Terms (n m : ℕ) (ms : List ℕ) (cs hs : List ℤ) (rs : List Bool) : Type 0 where
   pub masks : Column max_terms m 0 ms
   pub coefficients : Column max_terms m (pos 0) cs
-  pub table : Table max_terms m (term_in ms cs) (λ c. Term n c.0 c.1) Rises
+  pub highs : Column max_terms m (pos 0) hs
+  pub ranged : Column max_terms m false rs
+  pub table : Table max_terms m (term_in ms cs hs rs) (λ c. Term n c.0 c.1 c.2 c.3) Rises
   pub open table use *
 
 -- up to 64 windows (tank, from, to), each in its ranges, rising; ts, fs and os are the arrays of the three
@@ -110,7 +120,7 @@ pub record Within (r : Register) : Type 0 where
   -- 0 before the first command
   pub day : (r.day_length ≡ 0) ⊎ DayLength r.day_length
   pub choices : Choices r.day_length r.choices r.tanks r.minutes
-  pub terms : Terms r.choices r.terms r.masks r.coefficients
+  pub terms : Terms r.choices r.terms r.masks r.coefficients r.highs r.ranged
   pub windows : Windows r.day_length r.windows r.window_tanks r.window_froms r.window_tos
   pub rows : Rows r.choices r.rows r.row_totals r.row_entries
   -- each choice's tank may be fed at its minute

@@ -1,6 +1,6 @@
 // The refusal of each of the register's commands, by what has been read before it. They are told apart by a `match` on their byte, as the
 // format names them.
-ghost use Rattle.std.specs.Prelude.{◌≡◌, [], ◌∷◌, not, ◌||◌, eqb, ◌<◌, ◌≤◌, ◌-◌, length, get_or};
+ghost use Rattle.std.specs.Prelude.{◌≡◌, [], ◌∷◌, not, ◌||◌, ltb, leb, eqb, ◌<◌, ◌≤◌, ◌-◌, ◌^◌, length, get_or};
 ghost use Rattle.integers.specs.Lists.{comes_before};
 ghost use Rattle.wire.specs.Checks.{refusal};
 ghost use Rattle.wire.specs.Part.{checks_at, size};
@@ -8,7 +8,7 @@ ghost use Rattle.wire.specs.Results.{number_in};
 ghost use Rattle.wire.specs.Rows.{is_among, row_of};
 ghost use Rattle.register.specs.Limits.{max_choices, max_terms, max_windows};
 ghost use Rattle.register.specs.Register.{window_tank, window_from};
-ghost use Rattle.register.specs.Format.{base_checks, choice_checks, term_checks, window_checks, row_checks, length_checks, end_checks, register_rows, register_part};
+ghost use Rattle.register.specs.Format.{base_checks, choice_checks, term_checks, window_checks, row_checks, range_checks, length_checks, end_checks, register_rows, register_part};
 ghost use Rattle.register.specs.Answer.{Given};
 
 use super::Register;
@@ -51,21 +51,52 @@ fn choice_refusal(register: &Register, tank: u16, minute: u16, may: bool) -> Res
     refuse_if(!may, Refusal::OutsideWindows)
 }
 
+// A mask names no choice, or one that is not there.
+#[tactic(auto)]
+fn names_none(register: &Register, mask: u32) -> bool
+    requires { register.now.choices ≤ max_choices }
+    ensures { result ≡ (eqb mask 0 || leb (2 ^ register.now.choices) mask) }
+{
+    (mask == 0) | (1u64 << register.choices <= u64::from(mask))
+}
+
+// A mask does not come after that of the last term.
+#[tactic(auto)]
+fn mask_falls(register: &Register, mask: u32) -> bool
+    requires { register.now.terms ≤ max_terms }
+    ensures { let r = register.now in result ≡ not (eqb r.terms 0 || ltb (get_or r.masks (r.terms - 1) 0) mask) }
+{
+    let m = register.terms;
+    !((m == 0) | (register.masks[m.saturating_sub(1)] < mask))
+}
+
 // A term after those of the register.
 #[tactic(auto, unfolding(wire::specs::Checks::refusal, crate::specs::Format::term_checks))]
 fn term_refusal(register: &Register, mask: u32, coefficient: i32) -> Result<(), Refusal>
     requires { (register.now.choices ≤ max_choices) × (register.now.terms ≤ max_terms) }
     ensures { let r = register.now in number_in result ≡ refusal (term_checks r.choices r.terms (get_or r.masks (r.terms - 1) 0) mask coefficient) }
 {
-    let m = register.terms;
     let size = coefficient.unsigned_abs();
     let outside = (size == 0) | (Register::MAX_COEFFICIENT < size);
-    let unnamed = (mask == 0) | (1u64 << register.choices <= u64::from(mask));
-    let falls = !((m == 0) | (register.masks[m.saturating_sub(1)] < mask));
-    refuse_if(Register::MAX_TERMS <= m, Refusal::TooMany)?;
+    refuse_if(Register::MAX_TERMS <= register.terms, Refusal::TooMany)?;
     refuse_if(outside, Refusal::OutOfRange)?;
-    refuse_if(unnamed, Refusal::NotThere)?;
-    refuse_if(falls, Refusal::NotRising)
+    refuse_if(names_none(register, mask), Refusal::NotThere)?;
+    refuse_if(mask_falls(register, mask), Refusal::NotRising)
+}
+
+// A term with a range, after those of the register.
+#[tactic(auto, unfolding(wire::specs::Checks::refusal, crate::specs::Format::range_checks))]
+fn range_refusal(register: &Register, mask: u32, low: i32, high: i32) -> Result<(), Refusal>
+    requires { (register.now.choices ≤ max_choices) × (register.now.terms ≤ max_terms) }
+    ensures { let r = register.now in number_in result ≡ refusal (range_checks r.choices r.terms (get_or r.masks (r.terms - 1) 0) mask low high) }
+{
+    let outside = (Register::MAX_COEFFICIENT < low.unsigned_abs())
+        | (Register::MAX_COEFFICIENT < high.unsigned_abs());
+    refuse_if(Register::MAX_TERMS <= register.terms, Refusal::TooMany)?;
+    refuse_if(outside, Refusal::OutOfRange)?;
+    refuse_if(names_none(register, mask), Refusal::NotThere)?;
+    refuse_if(high < low, Refusal::Misordered)?;
+    refuse_if(mask_falls(register, mask), Refusal::NotRising)
 }
 
 // A window after those of the register.
@@ -129,7 +160,7 @@ fn stands_after(previous: u8, command: u8) -> bool
     match command {
         0x10 => previous == 0,
         0x11 => [0x10, 0x11, 0x13, 0x18].contains(&previous),
-        0x12 | 0x1f => [0x10, 0x11, 0x12, 0x13, 0x14, 0x18].contains(&previous),
+        0x12 | 0x16 | 0x1f => { [0x10, 0x11, 0x12, 0x13, 0x14, 0x16, 0x18].contains(&previous) }
         0x13 => [0x10, 0x13, 0x18].contains(&previous),
         0x14 => [0x10, 0x11, 0x13, 0x14, 0x18].contains(&previous),
         0x18 => previous == 0x10,
@@ -149,6 +180,8 @@ pub const WINDOW_SIZE: usize = 1 + 2 + 2 + 2;
 
 pub const ROW_SIZE: usize = 1 + 2 + Register::ROW_ENTRIES;
 
+pub const RANGE_SIZE: usize = 1 + 4 + 4 + 4;
+
 pub const LENGTH_SIZE: usize = 1 + 2;
 
 // The bytes of a command.
@@ -162,6 +195,7 @@ pub fn command_size(command: u8) -> usize
         0x12 => TERM_SIZE,
         0x13 => WINDOW_SIZE,
         0x14 => ROW_SIZE,
+        0x16 => RANGE_SIZE,
         0x18 => LENGTH_SIZE,
         _ => 1,
     }
@@ -209,6 +243,12 @@ pub fn refusal_at(
             let total = i16::read(bytes, at + 1);
             let zeros = past_zero(bytes, at + 1 + 2, register.choices);
             row_refusal(register.rows, total, zeros)
+        }
+        0x16 => {
+            let mask = u32::read(bytes, at + 1);
+            let low = i32::read(bytes, at + 1 + 4);
+            let high = i32::read(bytes, at + 1 + 4 + 4);
+            range_refusal(register, mask, low, high)
         }
         0x18 => length_refusal(u16::read(bytes, at + 1)),
         _ => end_refusal(register.choices),

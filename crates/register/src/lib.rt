@@ -1,5 +1,5 @@
-// Part 1 of the job file, the register: the day's length, the choices of a plan, the terms of its cost, the windows of its tanks and
-// the rows, which fix totals.
+// Part 1 of the job file, the register: the day's length, the choices of a plan, the terms of its cost, some with ranges, the windows of
+// its tanks and the rows, which fix totals.
 
 #![tactic(auto)]
 
@@ -8,15 +8,18 @@ mod rows;
 pub mod walk;
 mod windows;
 
-ghost use Rattle.std.specs.Prelude.{◌≡◌};
+ghost use Rattle.std.specs.Prelude.{◌≡◌, ◌≤◌};
 ghost use Rattle.wire.specs.Outcome.{added_by};
 ghost use Rattle.wire.specs.Results.{number_of, reading_of, outcome_of};
-ghost use Rattle.register.specs.Register.{fresh};
+ghost use Rattle.register.specs.Limits.{max_terms};
+ghost use Rattle.register.specs.Register.{fresh, has_range};
 ghost use Rattle.register.specs.Format.{register_in_job, register_by_itself};
 ghost use Rattle.register.specs.Opening.{open_register};
 ghost use Rattle.register.specs.Answer.{register_answer};
 
-use checks::{BASE_SIZE, CHOICE_SIZE, LENGTH_SIZE, ROW_SIZE, TERM_SIZE, WINDOW_SIZE, refusal_at};
+use checks::{
+    BASE_SIZE, CHOICE_SIZE, LENGTH_SIZE, RANGE_SIZE, ROW_SIZE, TERM_SIZE, WINDOW_SIZE, refusal_at,
+};
 use rows::put_entries;
 use windows::pass_windows;
 use wire::{Fault, FromBytes, Read, Refusal, Refused, by_itself};
@@ -33,7 +36,12 @@ pub struct Register {
     pub tanks: [u16; Register::MAX_CHOICES],
     pub minutes: [u16; Register::MAX_CHOICES],
     pub masks: [u32; Register::MAX_TERMS],
+    // Of a range the low coefficient.
     pub coefficients: [i32; Register::MAX_TERMS],
+    // Of a term without a range the coefficient once more.
+    pub highs: [i32; Register::MAX_TERMS],
+    // The term has a range, be its two coefficients equal.
+    pub ranged: [bool; Register::MAX_TERMS],
     pub windows: usize,
     pub window_tanks: [u16; Register::MAX_WINDOWS],
     pub window_froms: [u16; Register::MAX_WINDOWS],
@@ -98,6 +106,8 @@ impl Register {
             minutes: [0; Register::MAX_CHOICES],
             masks: [0; Register::MAX_TERMS],
             coefficients: [0; Register::MAX_TERMS],
+            highs: [0; Register::MAX_TERMS],
+            ranged: [false; Register::MAX_TERMS],
             windows: 0,
             window_tanks: [0; Register::MAX_WINDOWS],
             window_froms: [0; Register::MAX_WINDOWS],
@@ -106,6 +116,19 @@ impl Register {
             row_totals: [0; Register::MAX_ROWS],
             row_entries: [0; Register::MAX_ROWS * Register::ROW_ENTRIES],
         }
+    }
+
+    // A term has a range.
+    pub fn has_range(&self) -> bool
+        requires { self.now.terms ≤ max_terms }
+        ensures { result ≡ has_range self.now }
+    {
+        for t in 0..self.terms {
+            if self.ranged[t] {
+                return true;
+            }
+        }
+        false
     }
 }
 
@@ -160,8 +183,10 @@ pub fn read_register(bytes: &[u8]) -> Result<Read<Register>, Refused>
             }
             0x12 => {
                 let m = register.terms;
+                let coefficient = i32::read(bytes, at + 1 + 4);
                 register.masks[m] = u32::read(bytes, at + 1);
-                register.coefficients[m] = i32::read(bytes, at + 1 + 4);
+                register.coefficients[m] = coefficient;
+                register.highs[m] = coefficient;
                 register.terms = m + 1;
                 previous = 0x12;
                 at += TERM_SIZE;
@@ -187,6 +212,16 @@ pub fn read_register(bytes: &[u8]) -> Result<Read<Register>, Refused>
                 register.rows = row + 1;
                 previous = 0x14;
                 at += ROW_SIZE;
+            }
+            0x16 => {
+                let m = register.terms;
+                register.masks[m] = u32::read(bytes, at + 1);
+                register.coefficients[m] = i32::read(bytes, at + 1 + 4);
+                register.highs[m] = i32::read(bytes, at + 1 + 4 + 4);
+                register.ranged[m] = true;
+                register.terms = m + 1;
+                previous = 0x16;
+                at += RANGE_SIZE;
             }
             0x18 => {
                 register.day_length = u16::read(bytes, at + 1);

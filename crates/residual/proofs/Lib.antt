@@ -14,3 +14,4 @@ pub mod RowAdded
 pub mod ByCommand
 pub mod Midway
 pub mod Filled
+pub mod Same

@@ -1,8 +1,8 @@
 -- What g is worth at a filling.
-use mathlib.Core.Path.{◌≡◌, refl, ◌∙◌, ap₂}
+use mathlib.Core.Path.{◌≡◌, refl, ◌∙◌, ap, ap₂}
 use mathlib.Core.List.{[], ◌∷◌}
 use mathlib.Core.Bool.{Bool, true, false, cond, ◌&&◌}
-use Prim.Native.Nat.{ℕ, suc}
+use Prim.Native.Nat.{ℕ, suc, ◌<◌}
 use native.Mathlib.Omega.{arith}
 use lib.Dec.{eqb}
 use lib.IntN.{ℤ, pos, ◌+ℤ◌, ◌*ℤ◌, *ℤ-zero}
@@ -10,11 +10,12 @@ use borrow.Author.Tests.{eqb-true}
 use Rattle.forms.proofs.Form.{value_join}
 use Rattle.forms.specs.Form.{mono, value}
 use Rattle.integers.proofs.Diff.{diff₁, diffs}
+use Rattle.integers.proofs.Join.{join_cong}
 use Rattle.integers.proofs.Sum.{sum_below_cong}
 use Rattle.integers.specs.Sum.{sum_below, sum_over}
 use Rattle.register.specs.declared.Register.{Register}
 use Rattle.scheme.specs.Filling.{Filling, factor}
-use Rattle.scheme.specs.Function.{term, g}
+use Rattle.scheme.specs.Function.{term, term_of, g}
 use Rattle.scheme.specs.Scheme.{split_left, split_right}
 use Rattle.scheme.specs.declared.Scheme.{Scheme}
 
@@ -49,3 +50,8 @@ value-g z c r s =
   where
     one : (a : ℤ) → a *ℤ pos 1 *ℤ pos 1 ≡ a
     one = diff₁ _ λ p q. simp diffs (omega arith)
+
+-- coefficients that are the same give the same function
+pub g_same : (c d : ℕ → ℤ) (r : Register) (s : Scheme) → ((t : ℕ) → t < r.terms → c t ≡ d t) → g c r s ≡ g d r s
+unfolding g
+g_same c d r s h = ap (λ f. mono 0 0 r.base ∷ f) (join_cong r.terms (term_of c s) (term_of d s) (λ t l. ap (term (split_left s t) (split_right s t)) (h t l)))

@@ -21,13 +21,13 @@ use Rattle.wire.proofs.Loop.{Here, here_at, going_starts, going_missing, going_r
 use Rattle.register.specs.declared.Register.{Register}
 use Rattle.register.specs.Limits.{max_choices, max_terms, max_windows, max_rows}
 use Rattle.register.specs.Register.{tank, minute, fresh}
-use Rattle.register.specs.Format.{base_row, choice_row, term_row, window_row, row_row, entries_of, length_row, end_row, register_rows, register_part, register_in_job}
+use Rattle.register.specs.Format.{base_row, choice_row, term_row, window_row, row_row, entries_of, range_row, length_row, end_row, register_rows, register_part, register_in_job}
 use Rattle.register.specs.Valid.{Within, window_at}
 use Rattle.register.specs.Answer.{Given}
-use Rattle.register.proofs.Passes.{NextChoice, choice_iff, term_iff, window_iff, row_iff}
+use Rattle.register.proofs.Passes.{NextChoice, choice_iff, term_iff, window_iff, row_iff, range_iff}
 use Rattle.register.proofs.RowOperands.{entries_read, entries_at_lem}
-use Rattle.register.proofs.Entries.{term_at, windows_no_fall}
-use Rattle.register.proofs.Passed.{Passed, passed_starts, passed_base, passed_length, passed_choice, passed_term, passed_window, passed_rows}
+use Rattle.register.proofs.Entries.{term_at, still_unranged, windows_no_fall}
+use Rattle.register.proofs.Passed.{Passed, passed_starts, passed_base, passed_length, passed_choice, passed_terms, passed_window, passed_rows}
 use Rattle.register.proofs.Laws.{laws}
 use Rattle.register.proofs.read_register.Goals.{In_ok-map_err}
 use Rattle.register.proofs.read_register.Goals as goal
@@ -65,6 +65,10 @@ module _ (c : In_ok-map_err) where
   few_terms : get_or bytes at 0 ≡ 0x12 → r.terms < max_terms
   unfolding row_of
   few_terms e = ((term_iff _ _ (term_at r (r.terms - 1)) _ _).0 (here 0x12 e).allowed).few
+
+  few_with_range : get_or bytes at 0 ≡ 0x16 → r.terms < max_terms
+  unfolding row_of
+  few_with_range e = ((range_iff _ _ (term_at r (r.terms - 1)) _ _ _).0 (here 0x16 e).allowed).few
 
   few_windows : get_or bytes at 0 ≡ 0x13 → r.windows < max_windows
   unfolding row_of
@@ -127,6 +131,10 @@ loop-at-preserved-in-17 c =
       lower = rw add-one (passed_choice c.loop-at.register (within e) c.loop-at.invariant.lower _ _ (rw (c.read-in-17.ensures, c.read-tank.ensures) (next_choice e c.in-17.is)) _ w.within.1 w.lower);
     }
 
+pub read-coefficient-requires : goal.read-coefficient-requires
+unfolding row_of total
+read-coefficient-requires c = omega (arith, (here (goal.at.read-coefficient-requires c).In_ok-map_err 0x12 c.in-18.is).room)
+
 pub read-requires-in-18 : goal.read-requires-in-18
 unfolding row_of total
 read-requires-in-18 c = omega (arith, (here (goal.at.read-requires-in-18 c).In_ok-map_err 0x12 c.in-18.is).room)
@@ -134,19 +142,18 @@ read-requires-in-18 c = omega (arith, (here (goal.at.read-requires-in-18 c).In_o
 pub bounds-register-m : goal.bounds-register-m
 bounds-register-m c = few_terms (goal.at.bounds-register-m c).In_ok-map_err c.in-18.is
 
-pub read-requires-in-18-2 : goal.read-requires-in-18-2
-unfolding row_of total
-read-requires-in-18-2 c = omega (arith, (here (goal.at.read-requires-in-18-2 c).In_ok-map_err 0x12 c.in-18.is).room)
-
 pub bounds-register-m-in-18 : goal.bounds-register-m-in-18
 bounds-register-m-in-18 c = few_terms (goal.at.bounds-register-m-in-18 c).In_ok-map_err c.in-18.is
+
+pub bounds-register-m-in-18-2 : goal.bounds-register-m-in-18-2
+bounds-register-m-in-18-2 c = few_terms (goal.at.bounds-register-m-in-18-2 c).In_ok-map_err c.in-18.is
 
 pub loop-at-preserved-in-18 : goal.loop-at-preserved-in-18
 unfolding row_of total operands_at int_at
 loop-at-preserved-in-18 c =
     let e = (goal.at.loop-at-preserved-in-18 c).In_ok-map_err in record {
-      going = rw (to_z-of_z (record { sfits = c.read-in-18-2.type_inv }), c.read-in-18-2.ensures, c.read-in-18.ensures, add-one) (going_on fresh register_rows laws c.loop-at.invariant.going c.loop-at-test.true (judged e) 0x12 c.in-18.is refl);
-      lower = rw add-one (passed_term c.loop-at.register (within e) c.loop-at.invariant.lower _ _);
+      going = rw (to_z-of_z (record { sfits = c.read-coefficient.type_inv }), c.read-coefficient.ensures, c.read-in-18.ensures, add-one, ← still_unranged c.loop-at.register (within e)) (going_on fresh register_rows laws c.loop-at.invariant.going c.loop-at-test.true (judged e) 0x12 c.in-18.is refl);
+      lower = rw add-one (passed_terms c.loop-at.register (within e) c.loop-at.invariant.lower _ _ _ _ _);
     }
 
 pub read-requires-in-19 : goal.read-requires-in-19
@@ -200,6 +207,38 @@ loop-at-preserved-in-20 c =
       lower = passed_rows c.loop-at.register (within e) c.loop-at.invariant.lower _ _ _;
     }
 
+pub read-requires-in-22 : goal.read-requires-in-22
+unfolding row_of total
+read-requires-in-22 c = omega (arith, (here (goal.at.read-requires-in-22 c).In_ok-map_err 0x16 c.in-22.is).room)
+
+pub bounds-register-m-in-22 : goal.bounds-register-m-in-22
+bounds-register-m-in-22 c = few_with_range (goal.at.bounds-register-m-in-22 c).In_ok-map_err c.in-22.is
+
+pub read-requires-in-22-2 : goal.read-requires-in-22-2
+unfolding row_of total
+read-requires-in-22-2 c = omega (arith, (here (goal.at.read-requires-in-22-2 c).In_ok-map_err 0x16 c.in-22.is).room)
+
+pub bounds-register-m-in-22-2 : goal.bounds-register-m-in-22-2
+bounds-register-m-in-22-2 c = few_with_range (goal.at.bounds-register-m-in-22-2 c).In_ok-map_err c.in-22.is
+
+pub read-requires-in-22-3 : goal.read-requires-in-22-3
+unfolding row_of total
+read-requires-in-22-3 c = omega (arith, (here (goal.at.read-requires-in-22-3 c).In_ok-map_err 0x16 c.in-22.is).room)
+
+pub bounds-register-m-in-22-3 : goal.bounds-register-m-in-22-3
+bounds-register-m-in-22-3 c = few_with_range (goal.at.bounds-register-m-in-22-3 c).In_ok-map_err c.in-22.is
+
+pub bounds-register-m-in-22-4 : goal.bounds-register-m-in-22-4
+bounds-register-m-in-22-4 c = few_with_range (goal.at.bounds-register-m-in-22-4 c).In_ok-map_err c.in-22.is
+
+pub loop-at-preserved-in-22 : goal.loop-at-preserved-in-22
+unfolding row_of total operands_at int_at
+loop-at-preserved-in-22 c =
+    let e = (goal.at.loop-at-preserved-in-22 c).In_ok-map_err in record {
+      going = rw (to_z-of_z (record { sfits = c.read-in-22-2.type_inv }), to_z-of_z (record { sfits = c.read-in-22-3.type_inv }), c.read-in-22-3.ensures, c.read-in-22-2.ensures, c.read-in-22.ensures, add-one) (going_on fresh register_rows laws c.loop-at.invariant.going c.loop-at-test.true (judged e) 0x16 c.in-22.is refl);
+      lower = rw add-one (passed_terms c.loop-at.register (within e) c.loop-at.invariant.lower _ _ _ _ _);
+    }
+
 pub read-requires-in-24 : goal.read-requires-in-24
 unfolding row_of total
 read-requires-in-24 c = omega (arith, (here (goal.at.read-requires-in-24 c).In_ok-map_err 0x18 c.in-24.is).room)
@@ -216,7 +255,7 @@ pub returns-in_default : goal.returns-in_default
 unfolding register_in_job row_of total operands_at
 returns-in_default c =
     let e = (goal.at.returns-in_default c).In_ok-map_err in
-    let f : get_or c.args.bytes.now c.loop-at.at 0 ≡ 0x1F = only_last end_row (get_or c.args.bytes.now c.loop-at.at 0) (base_row ∷ choice_row ∷ term_row ∷ window_row ∷ row_row ∷ length_row ∷ []) ((λ e. omega arith) ▹ (λ e. omega arith) ▹ (λ e. omega arith) ▹ (λ e. omega arith) ▹ (λ e. omega arith) ▹ (λ e. omega arith) ▹ tt) _ (here e _ refl).place in
+    let f : get_or c.args.bytes.now c.loop-at.at 0 ≡ 0x1F = only_last end_row (get_or c.args.bytes.now c.loop-at.at 0) (base_row ∷ choice_row ∷ term_row ∷ window_row ∷ row_row ∷ range_row ∷ length_row ∷ []) ((λ e. omega arith) ▹ (λ e. omega arith) ▹ (λ e. omega arith) ▹ (λ e. omega arith) ▹ (λ e. omega arith) ▹ (λ e. omega arith) ▹ (λ e. omega arith) ▹ tt) _ (here e _ refl).place in
     ap (added_by (λ r. r)) (sym (going_ends fresh register_rows laws c.loop-at.invariant.going c.loop-at-test.true (judged e) 0x1F f refl))
 
 pub returns : goal.returns

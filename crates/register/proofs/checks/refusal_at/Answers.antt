@@ -20,7 +20,7 @@ use Rattle.wire.proofs.Results.{numbered}
 use Rattle.wire.proofs.Loop.{operands_of, common_refused, common_own}
 use Rattle.register.specs.declared.Register.{Register}
 use Rattle.register.specs.Register.{fresh}
-use Rattle.register.specs.Format.{base_row, choice_row, term_row, window_row, row_row, length_row, end_row, may_feed, register_rows, register_part}
+use Rattle.register.specs.Format.{base_row, choice_row, term_row, window_row, row_row, range_row, length_row, end_row, may_feed, register_rows, register_part}
 use Rattle.register.proofs.Passes.{choice_settled}
 use Rattle.register.proofs.RowOperands.{zeros_at}
 use Rattle.register.proofs.checks.refusal_at.Goals.{In_ok-check_command}
@@ -103,6 +103,18 @@ pub past_zero-zeros-requires : goal.past_zero-zeros-requires
 unfolding row_of total
 past_zero-zeros-requires c = omega (arith, room (goal.at.past_zero-zeros-requires c).In_ok-check_command 0x14 35 c.in-20.is refl)
 
+pub read-mask-requires-in-22 : goal.read-mask-requires-in-22
+unfolding row_of total
+read-mask-requires-in-22 c = omega (arith, room (goal.at.read-mask-requires-in-22 c).In_ok-check_command 0x16 13 c.in-22.is refl)
+
+pub read-low-requires : goal.read-low-requires
+unfolding row_of total
+read-low-requires c = omega (arith, room (goal.at.read-low-requires c).In_ok-check_command 0x16 13 c.in-22.is refl)
+
+pub read-high-requires : goal.read-high-requires
+unfolding row_of total
+read-high-requires c = omega (arith, room (goal.at.read-high-requires c).In_ok-check_command 0x16 13 c.in-22.is refl)
+
 pub read-requires-in-24 : goal.read-requires-in-24
 unfolding row_of total
 read-requires-in-24 c = omega (arith, room (goal.at.read-requires-in-24 c).In_ok-check_command 0x18 3 c.in-24.is refl)
@@ -137,6 +149,12 @@ returns-in-20 c =
     c.row_refusal.ensures
     ∙ rw (c.past_zero-zeros.ensures, to_z-of_z (record { sfits = c.read-total.type_inv }), c.read-total.ensures, ← zeros_at c.args.register.now.choices c.args.bytes.now (c.args.at + 1)) (own (goal.at.returns-in-20 c).In_ok-check_command 0x14 c.in-20.is)
 
+pub returns-in-22 : goal.returns-in-22
+unfolding row_of operands_at int_at
+returns-in-22 c =
+    c.range_refusal.ensures
+    ∙ rw (to_z-of_z (record { sfits = c.read-low.type_inv }), to_z-of_z (record { sfits = c.read-high.type_inv }), c.read-high.ensures, c.read-low.ensures, c.read-mask-in-22.ensures) (own (goal.at.returns-in-22 c).In_ok-check_command 0x16 c.in-22.is)
+
 pub returns-in-24 : goal.returns-in-24
 unfolding row_of operands_at
 returns-in-24 c = c.length_refusal.ensures ∙ rw c.read-in-24.ensures (own (goal.at.returns-in-24 c).In_ok-check_command 0x18 c.in-24.is)
@@ -146,4 +164,4 @@ unfolding row_of operands_at
 returns-in_default c =
     let e = (goal.at.returns-in_default c).In_ok-check_command in
     c.end_refusal.ensures
-    ∙ own e 0x1F (only_last end_row _ (base_row ∷ choice_row ∷ term_row ∷ window_row ∷ row_row ∷ length_row ∷ []) ((λ e. omega arith) ▹ (λ e. omega arith) ▹ (λ e. omega arith) ▹ (λ e. omega arith) ▹ (λ e. omega arith) ▹ (λ e. omega arith) ▹ tt) _ (command_here _ _ _ [] _ (passed e) refl))
+    ∙ own e 0x1F (only_last end_row _ (base_row ∷ choice_row ∷ term_row ∷ window_row ∷ row_row ∷ range_row ∷ length_row ∷ []) ((λ e. omega arith) ▹ (λ e. omega arith) ▹ (λ e. omega arith) ▹ (λ e. omega arith) ▹ (λ e. omega arith) ▹ (λ e. omega arith) ▹ (λ e. omega arith) ▹ tt) _ (command_here _ _ _ [] _ (passed e) refl))
