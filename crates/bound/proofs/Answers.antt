@@ -18,15 +18,17 @@ use Rattle.wire.proofs.Outcome.{Numbered}
 use Rattle.forms.specs.Table.{table_numbers}
 use Rattle.register.specs.declared.Register.{Register}
 use Rattle.register.specs.Register.{coefficient}
+use Rattle.plan.specs.Chosen.{chosen, under}
 use Rattle.scheme.specs.declared.Scheme.{Scheme}
-use Rattle.scheme.specs.Answer.{open_parts}
-use Rattle.scheme.proofs.Opened.{Opened, opens, opened, opening_numbered}
 use Rattle.bound.specs.declared.CheckAnswer.{CheckAnswer}
 use Rattle.certificate.specs.Certificate.{Certificate}
 use Rattle.bound.specs.Bound.{carries, bound}
 use Rattle.certificate.specs.Format.{certificate_part, commands_in_job}
 use Rattle.bound.specs.Format.{dominance_checked, certificate_in_job, certificate_by_itself}
+use Rattle.bound.specs.Opening.{open_chosen, opened_under}
 use Rattle.bound.specs.Check.{with_residual, refused_answer, accepted_answer, open_certificate, check_outcome, check_answer, check_table}
+use Rattle.bound.proofs.Same.{certificate_under, residual_under}
+use Rattle.bound.proofs.Opening.{Chosen, opens_chosen, chosen_opened, chosen_numbered, under_refused, under_accepted}
 
 -- zeros and the bound
 abbrev pub answered : ℤ → CheckAnswer
@@ -52,26 +54,26 @@ module _ (c : ℕ → ℤ) (reg : Register) (sch : Scheme) (s : List ℕ) where
 -- ---- the call
 
 -- what it answers and what the table then holds
-pub record Answered (t s k : List ℕ) (lent : List ℤ) (a : CheckAnswer) (table : List ℤ) : Type 0 where
-  pub answers : a ≡ check_answer t s k lent
-  pub holds : table ≡ check_table t s k lent
+pub record Answered (t s k q : List ℕ) (lent : List ℤ) (a : CheckAnswer) (table : List ℤ) : Type 0 where
+  pub answers : a ≡ check_answer t s k q lent
+  pub holds : table ≡ check_table t s k q lent
 
 -- a table below 4,225 numbers
-pub short : (t s k : List ℕ) (lent : List ℤ) → length lent < table_numbers → Answered t s k lent (refused_answer 11 0 0) lent
+pub short : (t s k q : List ℕ) (lent : List ℤ) → length lent < table_numbers → Answered t s k q lent (refused_answer 11 0 0) lent
 unfolding check_answer check_table
-short t s k lent l = let e = lt-ltb (length lent) table_numbers l in record { answers = rw e; holds = rw e }
+short t s k q lent l = let e = lt-ltb (length lent) table_numbers l in record { answers = rw e; holds = rw e }
 
--- ---- by what the first two parts lead to, where the table is long enough
+-- ---- by what the other parts lead to, where the table is long enough
 
-module _ (t s k : List ℕ) (lent : List ℤ) (l : table_numbers ≤ length lent) where
-  pub part_refused : (n part at : ℕ) → open_parts t s ≡ refuses n part at → Answered t s k lent (refused_answer n part at) lent
+module _ (t s k q : List ℕ) (lent : List ℤ) (l : table_numbers ≤ length lent) where
+  pub part_refused : (n part at : ℕ) → open_chosen t s q ≡ refuses n part at → Answered t s k q lent (refused_answer n part at) lent
   unfolding check_answer check_table
   part_refused n part at e = let f = le-ltb (length lent) table_numbers l in record { answers = rw (f, e); holds = rw (f, e) }
 
-  pub parts_accepted : (reg : Register) (sch : Scheme) → Opened t s reg sch →
-      Answered t s k lent (after_certificate (certificate_by_itself (coefficient reg) reg sch k)) (with_residual reg sch (commands_in_job reg sch k) lent)
+  pub parts_accepted : (reg : Register) (sch : Scheme) (plan : ℕ) → Chosen t s q reg sch plan →
+      Answered t s k q lent (after_certificate (certificate_by_itself (chosen reg plan) reg sch k)) (with_residual (chosen reg plan) reg sch (commands_in_job reg sch k) lent)
   unfolding check_answer check_table
-  parts_accepted reg sch o = let f = le-ltb (length lent) table_numbers l in record { answers = rw (f, opens o); holds = rw (f, opens o) }
+  parts_accepted reg sch plan o = let f = le-ltb (length lent) table_numbers l in record { answers = rw (f, opens_chosen o); holds = rw (f, opens_chosen o) }
 
 -- ---- by the outcome that the call answers
 
@@ -85,11 +87,11 @@ bound_whole k (accepted p end) = by (ltb end (length k))
     by true = refl
     by false = refl
 
-module _ (t s k : List ℕ) (lent : List ℤ) where
+module _ (t s k q : List ℕ) (lent : List ℤ) where
   -- what the call answers
-  pub answer_is : answer_by refused_answer answered (check_outcome t s k lent) ≡ check_answer t s k lent
+  pub answer_is : answer_by refused_answer answered (check_outcome t s k q lent) ≡ check_answer t s k q lent
   unfolding check_answer
-  answer_is = by (ltb (length lent) table_numbers) (open_certificate t s k)
+  answer_is = by (ltb (length lent) table_numbers) (open_certificate t s k q)
     where
       by : (below : Bool) (x : Outcome Certificate) → answer_by refused_answer answered (cond below (refuses 11 0 0) (and_then x λ cert. accepts (bound cert))) ≡ cond below (refused_answer 11 0 0) (answer_by refused_answer accepted_answer x)
       by true x = refl
@@ -97,47 +99,62 @@ module _ (t s k : List ℕ) (lent : List ℤ) where
       by false (accepts cert) = refl
 
   module _ (l : table_numbers ≤ length lent) where
-    pub opening_refused : {n part at : ℕ} → refuses n part at ≡ open_parts t s → (refuses n part at ≡ check_outcome t s k lent) × (lent ≡ check_table t s k lent)
+    pub opening_refused : {n part at : ℕ} → refuses n part at ≡ opened_under t s q → (refuses n part at ≡ check_outcome t s k q lent) × (lent ≡ check_table t s k q lent)
     unfolding check_table
-    opening_refused e = let f = le-ltb (length lent) table_numbers l in (rw (f, ← e), rw (f, ← e))
+    opening_refused e = let f = le-ltb (length lent) table_numbers l in let g = under_refused t s q e in (rw (f, g), rw (f, g))
 
-    pub opening_accepted : {reg : Register} {sch : Scheme} → accepts (reg, sch) ≡ open_parts t s →
-        (whole_of 3 (by_itself k (added_by bound (certificate_in_job (coefficient reg) reg sch k))) ≡ check_outcome t s k lent)
-        × (with_residual reg sch (commands_in_job reg sch k) lent ≡ check_table t s k lent)
+    -- with the register that the code makes for the plan
+
+    made_accepted : (reg : Register) (sch : Scheme) (plan : ℕ) → Chosen t s q reg sch plan → let made = under reg plan in
+        (whole_of 3 (by_itself k (added_by bound (certificate_in_job (coefficient made) made sch k))) ≡ check_outcome t s k q lent)
+        × (with_residual (coefficient made) made sch (commands_in_job made sch k) lent ≡ check_table t s k q lent)
     unfolding check_table certificate_by_itself
-    opening_accepted {reg} {sch} e =
+    made_accepted reg sch plan o =
         let f = le-ltb (length lent) table_numbers l in
-        (rw (f, ← e) (bound_whole k (certificate_in_job (coefficient reg) reg sch k)), rw (f, ← e))
+        let w = o.parts.register_valid.within in (
+          ap (λ x. whole_of 3 (by_itself k (added_by bound x))) (certificate_under reg w sch plan k) ∙ rw (f, opens_chosen o) (bound_whole k (certificate_in_job (chosen reg plan) reg sch k)),
+          residual_under reg w sch plan k lent ∙ rw (f, opens_chosen o),
+        )
+
+    pub opening_accepted : {made : Register} {sch : Scheme} → accepts (made, sch) ≡ opened_under t s q →
+        (whole_of 3 (by_itself k (added_by bound (certificate_in_job (coefficient made) made sch k))) ≡ check_outcome t s k q lent)
+        × (with_residual (coefficient made) made sch (commands_in_job made sch k) lent ≡ check_table t s k q lent)
+    opening_accepted e =
+        under_accepted t s q
+        (λ made sch. (whole_of 3 (by_itself k (added_by bound (certificate_in_job (coefficient made) made sch k))) ≡ check_outcome t s k q lent)
+        × (with_residual (coefficient made) made sch (commands_in_job made sch k) lent ≡ check_table t s k q lent))
+        e made_accepted
 
 -- ---- by what the call answers
 
 -- an answer of no refusal: the table is long enough, and the parts are read
-pub record Checked (t s k : List ℕ) (lent : List ℤ) : Type 0 where
+pub record Checked (t s k q : List ℕ) (lent : List ℤ) : Type 0 where
   pub reg : Register
   pub sch : Scheme
+  pub plan : ℕ
   pub read : Progress Certificate
   pub end : ℕ
   pub long : table_numbers ≤ length lent
-  pub parts : Opened t s reg sch
-  pub reads : certificate_by_itself (coefficient reg) reg sch k ≡ accepted read end
-  pub answers : check_answer t s k lent ≡ answered (bound read.parsed)
+  pub opens : Chosen t s q reg sch plan
+  pub reads : certificate_by_itself (chosen reg plan) reg sch k ≡ accepted read end
+  pub answers : check_answer t s k q lent ≡ answered (bound read.parsed)
 
-pub checked : (t s k : List ℕ) (lent : List ℤ) → (check_answer t s k lent).number ≡ 0 → Checked t s k lent
+pub checked : (t s k q : List ℕ) (lent : List ℤ) → (check_answer t s k q lent).number ≡ 0 → Checked t s k q lent
 unfolding certificate_by_itself
-checked t s k lent z = by (dec_lt (length lent) table_numbers)
+checked t s k q lent z = by (dec_lt (length lent) table_numbers)
   where
-    third : (reg : Register) (sch : Scheme) → Opened t s reg sch → table_numbers ≤ length lent → Checked t s k lent
-    third reg sch o l =
-        go (certificate_by_itself (coefficient reg) reg sch k) refl (by_itself_numbered k _ (job_numbered (coefficient reg) reg sch k)) (sym (parts_accepted t s k lent l reg sch o).answers)
+    third : (reg : Register) (sch : Scheme) (plan : ℕ) → Chosen t s q reg sch plan → table_numbers ≤ length lent → Checked t s k q lent
+    third reg sch plan o l =
+        go (certificate_by_itself (chosen reg plan) reg sch k) refl (by_itself_numbered k _ (job_numbered (chosen reg plan) reg sch k)) (sym (parts_accepted t s k q lent l reg sch plan o).answers)
       where
-        go : (x : Reading (Progress Certificate)) → certificate_by_itself (coefficient reg) reg sch k ≡ x → NumberedReading x → check_answer t s k lent ≡ after_certificate x → Checked t s k lent
+        go : (x : Reading (Progress Certificate)) → certificate_by_itself (chosen reg plan) reg sch k ≡ x → NumberedReading x → check_answer t s k q lent ≡ after_certificate x → Checked t s k q lent
         go (refused n at) e d a = absurd (d (sym (ap (λ r. r.number) a) ∙ z))
-        go (accepted p end) e d a = record { reg = reg; sch = sch; read = p; end = end; long = l; parts = o; reads = e; answers = a }
+        go (accepted p end) e d a = record { reg = reg; sch = sch; plan = plan; read = p; end = end; long = l; opens = o; reads = e; answers = a }
 
-    first : table_numbers ≤ length lent → (x : Outcome (Register × Scheme)) → open_parts t s ≡ x → Numbered x → Checked t s k lent
-    first l (refuses n part at) e d = absurd (d (ap (λ r. r.number) (part_refused t s k lent l n part at e).answers ∙ z))
-    first l (accepts (reg, sch)) e d = third reg sch (opened t s reg sch e) l
+    first : table_numbers ≤ length lent → (x : Outcome (Register × Scheme × ℕ)) → open_chosen t s q ≡ x → Numbered x → Checked t s k q lent
+    first l (refuses n part at) e d = absurd (d (ap (λ r. r.number) (part_refused t s k q lent l n part at e).answers ∙ z))
+    first l (accepts (reg, sch, plan)) e d = third reg sch plan (chosen_opened t s q reg sch plan e) l
 
-    by : Dec (length lent < table_numbers) → Checked t s k lent
-    by (yes l) = let n : ◌≡◌ {A = ℕ} 11 0 = ap (λ r. r.number) (short t s k lent l).answers ∙ z in absurd (omega arith)
-    by (no l) = first (omega arith) (open_parts t s) refl (opening_numbered t s)
+    by : Dec (length lent < table_numbers) → Checked t s k q lent
+    by (yes l) = let n : ◌≡◌ {A = ℕ} 11 0 = ap (λ r. r.number) (short t s k q lent l).answers ∙ z in absurd (omega arith)
+    by (no l) = first (omega arith) (open_chosen t s q) refl (chosen_numbered t s q)

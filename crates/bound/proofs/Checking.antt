@@ -48,7 +48,7 @@ module _ (reg : Register) (sch : Scheme) (s : List ℕ) where
   checked = added_by bound (certificate_in_job c reg sch s)
 
   -- commands that are refused
-  pub commands_refused : {n at : ℕ} → commands_in_job reg sch s ≡ refused n at → (lent : List ℤ) → (refused n at ≡ checked) × (lent ≡ with_residual reg sch (commands_in_job reg sch s) lent)
+  pub commands_refused : {n at : ℕ} → commands_in_job reg sch s ≡ refused n at → (lent : List ℤ) → (refused n at ≡ checked) × (lent ≡ with_residual c reg sch (commands_in_job reg sch s) lent)
   unfolding certificate_in_job dominance_checked
   commands_refused e lent = (rw e, rw e)
 
@@ -70,7 +70,7 @@ module _ (reg : Register) (sch : Scheme) (s : List ℕ) where
       abbrev n : ℕ
       n = side reg.choices sch
 
-      pub table_after : t ≡ with_residual reg sch (commands_in_job reg sch s) lent
+      pub table_after : t ≡ with_residual c reg sch (commands_in_job reg sch s) lent
       table_after = filled ∙ rw e
 
       pub side_small : n ≤ square_entries

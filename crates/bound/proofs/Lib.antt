@@ -10,6 +10,8 @@ pub mod SecondOrder
 pub mod Worked
 pub mod Example
 pub mod FirstShort
+pub mod Same
+pub mod Opening
 pub mod Checking
 pub mod Answers
 pub mod Demand

@@ -5,6 +5,7 @@ pub mod Relaxation
 pub mod Format
 pub mod Valid
 pub mod Refused
+pub mod Opening
 pub mod Check
 pub mod Demand
 -- not the paper's: what the code keeps of the rows

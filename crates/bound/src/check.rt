@@ -10,11 +10,12 @@ ghost use Rattle.bound.specs.Format.{certificate_in_job};
 ghost use Rattle.bound.specs.Check.{with_residual, check_outcome, check_answer, check_table};
 
 use crate::CheckAnswer;
+use crate::chosen::open_chosen;
 use crate::dominance::{ceil_div, first_short};
 use certificate::read_commands;
 use forms::WorkingTable;
 use residual::put_residual;
-use scheme::{Quadratization, open_parts};
+use scheme::Quadratization;
 use wire::{Fault, Read, Refusal, Refused, by_itself};
 
 // The certificate at the front of a run of bytes: its bound. The table holds R where `3F` is reached.
@@ -25,7 +26,7 @@ pub fn check_certificate(
 ) -> Result<Read<i64>, Refused>
     requires table_numbers_in_bounds { table_numbers ≤ length table.old }
     ensures value { reading_of result ≡ added_by bound (certificate_in_job (coefficient quadratization.now.register) quadratization.now.register quadratization.now.scheme bytes.now) }
-    ensures table_after { table.new ≡ with_residual quadratization.now.register quadratization.now.scheme (commands_in_job quadratization.now.register quadratization.now.scheme bytes.now) table.old }
+    ensures table_after { table.new ≡ with_residual (coefficient quadratization.now.register) quadratization.now.register quadratization.now.scheme (commands_in_job quadratization.now.register quadratization.now.scheme bytes.now) table.old }
 {
     let commands = read_commands(bytes, quadratization)?;
     put_residual(bytes, quadratization, table);
@@ -41,20 +42,21 @@ pub fn check_certificate(
     })
 }
 
-// Parts 1 to 3, each a run of bytes by itself: the bound.
+// Parts 1 to 3, and of a register with a range part 4, each a run of bytes by itself: the bound.
 fn check_parts(
     register: &[u8],
     scheme: &[u8],
     certificate: &[u8],
+    plan: &[u8],
     table: &mut [i64],
 ) -> Result<i64, Fault>
-    ensures value { outcome_of result ≡ check_outcome register.now scheme.now certificate.now table.old }
-    ensures table_after { table.new ≡ check_table register.now scheme.now certificate.now table.old }
+    ensures value { outcome_of result ≡ check_outcome register.now scheme.now certificate.now plan.now table.old }
+    ensures table_after { table.new ≡ check_table register.now scheme.now certificate.now plan.now table.old }
 {
     if table.len() < WorkingTable::NUMBERS {
         return Err(Fault::nowhere(Refusal::TooShort));
     }
-    let quadratization = open_parts(register, scheme)?;
+    let quadratization = open_chosen(register, scheme, plan)?;
     by_itself(
         certificate,
         3,
@@ -62,18 +64,19 @@ fn check_parts(
     )
 }
 
-// Checks a certificate against a register and a scheme, each as a run of bytes by itself.
+// Checks a certificate against a register, a scheme and, where the register has a range, a plan, each as a run of bytes by itself.
 #[unsafe(no_mangle)]
 pub extern "C" fn feedcheck_check(
     register: &[u8],
     scheme: &[u8],
     certificate: &[u8],
+    plan: &[u8],
     table: &mut [i64],
 ) -> CheckAnswer
-    ensures value { result ≡ check_answer register.now scheme.now certificate.now table.old }
-    ensures table_after { table.new ≡ check_table register.now scheme.now certificate.now table.old }
+    ensures value { result ≡ check_answer register.now scheme.now certificate.now plan.now table.old }
+    ensures table_after { table.new ≡ check_table register.now scheme.now certificate.now plan.now table.old }
 {
-    match check_parts(register, scheme, certificate, table) {
+    match check_parts(register, scheme, certificate, plan, table) {
         Ok(bound) => CheckAnswer {
             number: 0,
             part: 0,

@@ -3,6 +3,7 @@
 #![tactic(auto)]
 
 pub mod check;
+pub mod chosen;
 mod dominance;
 
 // The answer of the call, a C record: a refusal's number, part and position, or zeros and the bound.

@@ -2,7 +2,7 @@
 -- answers is made into either.
 use Prim.Native.Nat.{ℕ, zero, suc, ◌+◌, ◌≤◌, ◌<◌}
 use native.Mathlib.Omega.{arith}
-use mathlib.Core.Path.{◌≡◌, refl, subst}
+use mathlib.Core.Path.{◌≡◌, refl}
 use mathlib.Core.Bool.{Bool, true, false, cond}
 use mathlib.Core.List.{List, [], ◌∷◌, ◌++◌}
 use lib.Dec.{eqb, ltb}
@@ -18,6 +18,7 @@ use Rattle.wire.specs.Writer.{refused_answer, written_answer, bytes_answer, with
 use Rattle.wire.proofs.Part.{NumberedReading, read_part_numbered, by_itself_numbered}
 use Rattle.wire.proofs.Outcome as O
 use Rattle.register.specs.declared.Register.{Register}
+use Rattle.register.specs.Register.{has_range}
 use Rattle.register.specs.Format.{register_part, register_in_job, register_by_itself}
 use Rattle.register.specs.Encoding.{term_kind}
 use Rattle.register.specs.Opening.{open_register}
@@ -27,7 +28,10 @@ use Rattle.scheme.specs.declared.Scheme.{Scheme}
 use Rattle.scheme.specs.Encoding.{encode_scheme}
 use Rattle.scheme.specs.Format.{scheme_part, scheme_in_job, scheme_by_itself}
 use Rattle.scheme.specs.Answer.{open_parts}
-use Rattle.scheme.proofs.Opened as S
+use Rattle.plan.specs.Chosen.{chosen}
+use Rattle.plan.specs.Format.{plan_part, plan_in_job, plan_by_itself}
+use Rattle.bound.specs.Opening.{open_plan, open_chosen}
+use Rattle.bound.proofs.Opening.{chosen_opened, chosen_numbered}
 use Rattle.builder.specs.Builder.{Built, stopped, built, build}
 use Rattle.builder.specs.Answer.{built_room, built_answer, built_buffer, build_answer, build_buffer}
 use Rattle.builder.proofs.Validity.{build_size}
@@ -37,7 +41,7 @@ use Rattle.job.proofs.Positions.{part_within}
 use Rattle.listing.specs.Listing.{refusal_line}
 use Rattle.listing.specs.Answer.{listing_room}
 use Rattle.console.specs.declared.parts.Made.{Made}
-use Rattle.console.specs.Parts.{printed, made, built_bytes, built_scheme, own_certificate, end_in, register_end, counted_from, certificate_after, line_in, answer_from}
+use Rattle.console.specs.Parts.{printed, made, built_bytes, built_scheme, own_certificate, end_in, register_end, scheme_end, counted_from, certificate_after, line_in, answer_from}
 
 -- ---- where refusals stand, and how much is written
 
@@ -85,9 +89,9 @@ scheme_within : (reg : Register) (s : List ℕ) → O.position_of (scheme_by_its
 unfolding scheme_by_itself scheme_in_job
 scheme_within reg s = itself_within s (scheme_in_job reg s) (part_within (scheme_part reg) s)
 
-scheme_numbered : (reg : Register) (s : List ℕ) → NumberedReading (scheme_by_itself reg s)
-unfolding scheme_by_itself scheme_in_job
-scheme_numbered reg s = by_itself_numbered s (scheme_in_job reg s) (read_part_numbered (scheme_part reg) s)
+plan_within : (reg : Register) (s : List ℕ) → O.position_of (plan_by_itself reg s) ≤ length s
+unfolding plan_by_itself plan_in_job
+plan_within reg s = itself_within s (plan_in_job reg s) (part_within (plan_part reg) s)
 
 -- ---- the two programs
 
@@ -110,39 +114,92 @@ built_within s = by (register_by_itself s) refl (register_within s) (register_nu
     by (refused n at) e l d = (d, l)
     by (accepted p end) e l d = of_built p.parsed (rw e) (build p.parsed) refl
 
--- of parts 1 and 2, each by itself, with positions from the start of part 1
-own_within : (t s : List ℕ) → Within (length t + length s) (counted_from (length t) (own_certificate t s))
-own_within t s = by (register_by_itself t) refl (register_within t) (register_numbered t)
-  where
-    of_parts : (r : Register) → accepts r ≡ open_register t → (x : Reading (Progress Scheme)) → scheme_by_itself r s ≡ x → O.position_of x ≤ length s → NumberedReading x →
-        Within (length t + length s) (counted_from (length t) (and_then (and_then (given 2 x) λ sch. accepts (r, sch)) λ (reg, sch). accepts (own_bytes reg sch)))
-    of_parts r e (refused n at) q l d = (d, omega arith)
-    of_parts r e (accepted p end) q l d =
-        let o = S.opened t s r p.parsed (rw (← e, q)) in
-        omega (arith, plain_bytes r p.parsed o.register_valid o.scheme_valid, room_is)
+-- a refusal of parts with these lengths stands within its own
 
-    by : (x : Reading (Progress Register)) → register_by_itself t ≡ x → O.position_of x ≤ length t → NumberedReading x →
-        Within (length t + length s) (counted_from (length t) (and_then (and_then (given 1 x) λ reg. and_then (given 2 (scheme_by_itself reg s)) λ sch. accepts (reg, sch)) λ (reg, sch). accepts (own_bytes reg sch)))
-    by (refused n at) e l d = (d, omega arith)
-    by (accepted p end) e l d = of_parts p.parsed (rw e) (scheme_by_itself p.parsed s) refl (scheme_within p.parsed s) (scheme_numbered p.parsed s)
+abbrev Placed : {A : Type 0} → (ℕ → ℕ) → Outcome A → Type 0
+Placed lengths (refuses number part at) = at ≤ lengths part
+Placed lengths (accepts a) = Unit {0}
+
+module _ {A : Type 0} (lengths : ℕ → ℕ) where
+  then_placed : {B : Type 0} (x : Outcome A) (rest : A → Outcome B) → Placed lengths x → ((a : A) → Placed lengths (rest a)) → Placed lengths (and_then x rest)
+  then_placed (refuses n part at) rest l h = l
+  then_placed (accepts a) rest l h = h a
+
+  given_placed : (part : ℕ) (x : Reading (Progress A)) → O.position_of x ≤ lengths part → Placed lengths (given part x)
+  given_placed part (refused n at) l = l
+  given_placed part (accepted p end) l = tt
+
+-- of parts 1, 2 and 4, each by itself
+module _ (t s k : List ℕ) where
+  abbrev lengths : ℕ → ℕ
+  lengths part = cond (eqb part 2) (length s) (cond (eqb part 4) (length k) (length t))
+
+  plan_placed : (reg : Register) → Placed lengths (open_plan reg k)
+  plan_placed reg = by (has_range reg)
+    where
+      by : (b : Bool) → Placed lengths (cond b (given 4 (plan_by_itself reg k)) (accepts 0))
+      by true = given_placed lengths 4 (plan_by_itself reg k) (plan_within reg k)
+      by false = tt
+
+  chosen_placed : Placed lengths (open_chosen t s k)
+  chosen_placed =
+      then_placed lengths (open_parts t s) _ parts λ (reg, sch).
+      then_placed lengths (open_plan reg k) _ (plan_placed reg) λ p.
+      tt
+    where
+      parts : Placed lengths (open_parts t s)
+      parts =
+          then_placed lengths (open_register t) _ (given_placed lengths 1 (register_by_itself t) (register_within t)) λ reg.
+          then_placed lengths (given 2 (scheme_by_itself reg s)) _ (given_placed lengths 2 (scheme_by_itself reg s) (scheme_within reg s)) λ sch.
+          tt
+
+  -- with positions from the start of part 1, by where parts 2 and 4 start
+  own_within : (two four n : ℕ) → length t ≤ n → two + length s ≤ n → four + length k ≤ n → Within n (counted_from two four (own_certificate t s k))
+  own_within two four n l m h = by (open_chosen t s k) refl (chosen_numbered t s k) chosen_placed
+    where
+      by : (x : Outcome (Register × Scheme × ℕ)) → open_chosen t s k ≡ x → O.Numbered x → Placed lengths x → Within n (counted_from two four (and_then x λ (reg, sch, p). accepts (own_bytes reg sch p)))
+      by (refuses number part at) e d q =
+          let near : cond (eqb part 2) (two + at) (cond (eqb part 4) (four + at) at) ≤ n =
+          flag (eqb part 2) (λ u. let i : at ≤ length s = rw u at q in rw u (omega arith)) λ u.
+          flag (eqb part 4) (λ v. let i : at ≤ length k = rw (u, v) at q in rw (u, v) (omega arith)) λ v.
+          let i : at ≤ length t = rw (u, v) at q in rw (u, v) (omega arith)
+          in (d, near)
+      by (accepts (reg, sch, p)) e d q =
+          let o = chosen_opened t s k reg sch p e in
+          omega (arith, plain_bytes (chosen reg p) reg sch o.parts.register_valid o.parts.scheme_valid, room_is)
+
+-- where a part ends is within its bytes
+
+module _ {A : Type 0} (s : List ℕ) where
+  ends_within : (x : Reading A) → O.position_of x ≤ length s → end_in s x ≤ length s
+  ends_within (refused n at) l = omega arith
+  ends_within (accepted p end) l = l
 
 pub end_within : (s : List ℕ) → register_end s ≤ length s
 unfolding register_in_job
-end_within s = by (register_in_job s) (part_within register_part s)
+end_within s = ends_within s (register_in_job s) (part_within register_part s)
+
+pub scheme_end_within : (t s : List ℕ) → scheme_end t s ≤ length s
+unfolding scheme_in_job
+scheme_end_within t s = by (open_register t)
   where
-    by : (x : Reading (Progress Register)) → O.position_of x ≤ length s → end_in s x ≤ length s
-    by (refused n at) l = omega arith
-    by (accepted p end) l = l
+    of_register : (reg : Register) (b : Bool) → cond b (end_in s (scheme_in_job reg s)) (length s) ≤ length s
+    of_register reg true = ends_within s (scheme_in_job reg s) (part_within (scheme_part reg) s)
+    of_register reg false = omega arith
+
+    by : (x : Outcome Register) → answer_by (λ number part at. length s) (λ reg. cond (has_range reg) (end_in s (scheme_in_job reg s)) (length s)) x ≤ length s
+    by (refuses n part at) = omega arith
+    by (accepts reg) = of_register reg (has_range reg)
 
 pub after_within : (s : List ℕ) → Within (length s) (certificate_after s)
 unfolding certificate_after
 after_within s =
-    let l = end_within s in
-    let e = register_end s in
-    let front : length (take e s) ≡ e = omega (arith, length-take e s) in
-    let whole : length (take e s) + length (drop e s) ≡ length s = omega (arith, length-take e s, length-drop e s) in
-    subst (λ n. Within n (counted_from e (own_certificate (take e s) (drop e s)))) whole
-    (subst (λ n. Within (length (take e s) + length (drop e s)) (counted_from n (own_certificate (take e s) (drop e s)))) front (own_within (take e s) (drop e s)))
+    let two = register_end s in
+    let rest = drop two s in
+    let end = scheme_end (take two s) rest in
+    let l : length rest + two ≡ length s = omega (arith, end_within s, length-drop two s) in
+    own_within (take two s) (take end rest) (drop end rest) two (two + end) (length s)
+    (omega (arith, length-take two s)) (omega (arith, l, length-take end rest)) (omega (arith, l, scheme_end_within (take two s) rest, length-drop end rest))
 
 -- ---- what the two calls answer, where the buffer has room
 
@@ -175,30 +232,35 @@ module _ (text : List ℕ) (room : listing_room ≤ length text) where
       by (refuses number part at) w = (refl, refl)
       by (accepts reg) w = of_built reg (build reg) w
 
-  pub own_is : (t s : List ℕ) (e n : ℕ) → Within n (counted_from e (own_certificate t s)) →
-      (plain_answer t s text ≡ answer_in (own_certificate t s)) × (plain_buffer t s text ≡ text_in (own_certificate t s) text)
+  pub own_is : (t s k : List ℕ) (two four n : ℕ) → Within n (counted_from two four (own_certificate t s k)) →
+      (plain_answer t s k text ≡ answer_in (own_certificate t s k)) × (plain_buffer t s k text ≡ text_in (own_certificate t s k) text)
   unfolding plain_answer plain_buffer
-  own_is t s e n = by (open_parts t s)
+  own_is t s k two four n = by (open_chosen t s k)
     where
-      by : (x : Outcome (Register × Scheme)) → Within n (counted_from e (and_then x λ (reg, sch). accepts (own_bytes reg sch))) →
-          (answer_by refused_answer (λ (reg, sch). bytes_answer (own_bytes reg sch) text) x ≡ answer_in (and_then x λ (reg, sch). accepts (own_bytes reg sch)))
-          × (answer_by (λ number part at. text) (λ (reg, sch). with_front (own_bytes reg sch) text) x ≡ text_in (and_then x λ (reg, sch). accepts (own_bytes reg sch)) text)
+      by : (x : Outcome (Register × Scheme × ℕ)) → Within n (counted_from two four (and_then x λ (reg, sch, p). accepts (own_bytes reg sch p))) →
+          (answer_by refused_answer (λ (reg, sch, p). bytes_answer (own_bytes reg sch p) text) x ≡ answer_in (and_then x λ (reg, sch, p). accepts (own_bytes reg sch p)))
+          × (answer_by (λ number part at. text) (λ (reg, sch, p). with_front (own_bytes reg sch p) text) x ≡ text_in (and_then x λ (reg, sch, p). accepts (own_bytes reg sch p)) text)
       by (refuses number part at) w = (refl, refl)
-      by (accepts (reg, sch)) w = fits (own_bytes reg sch) w
+      by (accepts (reg, sch, p)) w = fits (own_bytes reg sch p) w
 
 -- positions counted from the start of part 1, in the answer and in what it says
 
-pub counted_is : (e : ℕ) (x : Outcome (List ℕ)) → answer_from e (answer_in x) ≡ answer_in (counted_from e x)
-counted_is e (refuses number part at) = refl
-counted_is e (accepts bytes) = refl
+module _ (two four : ℕ) where
+  pub counted_is : (x : Outcome (List ℕ)) → answer_from two four (answer_in x) ≡ answer_in (counted_from two four x)
+  counted_is (refuses number part at) = refl
+  counted_is (accepts bytes) = refl
 
-pub counted_text : (e : ℕ) (x : Outcome (List ℕ)) (text : List ℕ) → text_in x text ≡ text_in (counted_from e x) text
-counted_text e (refuses number part at) text = refl
-counted_text e (accepts bytes) text = refl
+  pub counted_text : (x : Outcome (List ℕ)) (text : List ℕ) → text_in x text ≡ text_in (counted_from two four x) text
+  counted_text (refuses number part at) text = refl
+  counted_text (accepts bytes) text = refl
 
-pub counted_near : (e n : ℕ) (x : Outcome (List ℕ)) → Within n (counted_from e x) → e + (answer_in x).position ≤ e + n
-counted_near e n (refuses number part at) w = flag (eqb part 2) (λ t. let (_, l) = rw t at w in omega arith) (λ f. let (_, l) = rw f at w in omega arith)
-counted_near e n (accepts bytes) w = omega arith
+  -- the position in the part itself is no higher
+  pub counted_near : (n : ℕ) (x : Outcome (List ℕ)) → Within n (counted_from two four x) → (answer_in x).position ≤ n
+  counted_near n (refuses number part at) w =
+      flag (eqb part 2) (λ t. let (_, l) = rw t at w in omega arith) λ t.
+      flag (eqb part 4) (λ u. let (_, l) = rw (t, u) at w in omega arith) λ u.
+      let (_, l) = rw (t, u) at w in omega arith
+  counted_near n (accepts bytes) w = omega arith
 
 -- ---- what is made of the answer
 

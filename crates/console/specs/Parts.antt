@@ -1,16 +1,17 @@
 -- What the programs make of their input that write a part of a job: `build_scheme` part 2 for part 1, `own_certificate` part 3 for parts
--- 1 and 2.
+-- 1 and 2, and for the plan of part 4 where the register has a range.
 use Rattle.std.specs.Prelude.{ℕ, ◌+◌, true, false, cond, eqb, List, [], length, take, drop}
 use Rattle.wire.specs.Part.{Reading, refused, accepted}
-use Rattle.wire.specs.Rows.{Progress}
-use Rattle.wire.specs.Outcome.{Outcome, refuses, accepts, and_then}
+use Rattle.wire.specs.Outcome.{Outcome, refuses, accepts, and_then, answer_by}
 use Rattle.wire.specs.declared.WriterAnswer.{WriterAnswer}
 use Rattle.register.specs.declared.Register.{Register}
+use Rattle.register.specs.Register.{has_range}
 use Rattle.register.specs.Format.{register_in_job}
 use Rattle.register.specs.Opening.{open_register}
 use Rattle.register.specs.Position.{term_position}
 use Rattle.scheme.specs.Encoding.{encode_scheme}
-use Rattle.scheme.specs.Answer.{open_parts}
+use Rattle.scheme.specs.Format.{scheme_in_job}
+use Rattle.bound.specs.Opening.{open_chosen}
 use Rattle.builder.specs.Builder.{Built, stopped, built, build}
 use Rattle.plain.specs.Answer.{own_bytes}
 use Rattle.listing.specs.Listing.{refusal_line}
@@ -39,26 +40,35 @@ built_scheme register = and_then (open_register register) λ reg. built_bytes re
 
 -- ---- part 3
 
--- of the bytes of parts 1 and 2, each by itself
-abbrev pub own_certificate : List ℕ → List ℕ → Outcome (List ℕ)
-own_certificate register scheme = and_then (open_parts register scheme) λ (reg, sch). accepts (own_bytes reg sch)
+-- of the bytes of parts 1, 2 and 4, each by itself; those of part 4 are looked at where the register has a range
+abbrev pub own_certificate : (register scheme plan : List ℕ) → Outcome (List ℕ)
+own_certificate register scheme plan = and_then (open_chosen register scheme plan) λ (reg, sch, p). accepts (own_bytes reg sch p)
 
--- where part 1 ends in a run of bytes; a part that is refused has them all
-abbrev pub end_in : List ℕ → Reading (Progress Register) → ℕ
+-- where a part ends in a run of bytes; a part that is refused has them all
+abbrev pub end_in : {A : Type 0} → List ℕ → Reading A → ℕ
 end_in s (refused number at) = length s
 end_in s (accepted p end) = end
 
 abbrev pub register_end : List ℕ → ℕ
 register_end s = end_in s (register_in_job s)
 
--- positions in part 2 counted from the start of part 1
-abbrev pub counted_from : ℕ → Outcome (List ℕ) → Outcome (List ℕ)
-counted_from end (refuses number part at) = refuses number part (cond (eqb part 2) (end + at) at)
-counted_from end (accepts bytes) = accepts bytes
+-- where part 2 ends in its bytes and those of a plan, which stands behind it where the register has a range; without one it has them all
+abbrev pub scheme_end : (register rest : List ℕ) → ℕ
+scheme_end register rest = answer_by (λ number part at. length rest) (λ reg. cond (has_range reg) (end_in rest (scheme_in_job reg rest)) (length rest)) (open_register register)
 
--- of the bytes of parts 1 and 2, one straight after the other
+-- positions in parts 2 and 4 counted from the start of part 1, by where these two parts start
+abbrev pub counted_from : (two four : ℕ) → Outcome (List ℕ) → Outcome (List ℕ)
+counted_from two four (refuses number part at) = refuses number part (cond (eqb part 2) (two + at) (cond (eqb part 4) (four + at) at))
+counted_from two four (accepts bytes) = accepts bytes
+
+-- of the bytes of these parts, one straight after the other
 unfoldable pub certificate_after : List ℕ → Outcome (List ℕ)
-certificate_after s = counted_from (register_end s) (own_certificate (take (register_end s) s) (drop (register_end s) s))
+certificate_after s =
+    let two = register_end s in
+    let register = take two s in
+    let rest = drop two s in
+    let end = scheme_end register rest in
+    counted_from two (two + end) (own_certificate register (take end rest) (drop end rest))
 
 -- ---- not the paper's: what the code keeps
 
@@ -66,6 +76,7 @@ certificate_after s = counted_from (register_end s) (own_certificate (take (regi
 unfoldable pub line_in : WriterAnswer → List ℕ
 line_in a = cond (eqb a.number 0) [] (refusal_line a.number a.position)
 
--- an answer whose positions in part 2 are counted from the start of part 1
-abbrev pub answer_from : ℕ → WriterAnswer → WriterAnswer
-answer_from end a = record { number = a.number; part = a.part; position = cond (eqb a.part 2) (end + a.position) a.position; count = a.count }
+-- an answer whose positions in parts 2 and 4 are counted from the start of part 1
+abbrev pub answer_from : (two four : ℕ) → WriterAnswer → WriterAnswer
+answer_from two four a =
+    record { number = a.number; part = a.part; position = cond (eqb a.part 2) (two + a.position) (cond (eqb a.part 4) (four + a.position) a.position); count = a.count }

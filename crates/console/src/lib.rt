@@ -1,6 +1,6 @@
 // What the programs do: `feedcheck` reads a job and prints its lines, `supplier_view` reads a job and prints the lines that its
 // supplier may read, and `cheapest` reads a register and prints its cheapest plan. `build_scheme` reads a register and writes a scheme,
-// and `own_certificate` reads a register and a scheme and writes a certificate.
+// and `own_certificate` reads a register and a scheme, and a plan where the register has a range, and writes a certificate.
 
 #![tactic(auto)]
 
@@ -242,7 +242,7 @@ pub fn build_scheme(rt: &HostRuntime) -> ExitCode {
 pub fn own_certificate(rt: &HostRuntime) -> ExitCode {
     run(
         rt,
-        "cat REGISTER SCHEME | own_certificate > CERTIFICATE",
+        "cat REGISTER SCHEME [PLAN] | own_certificate > CERTIFICATE",
         || print_certificate(&mut rt.reader(), &mut rt.stdout(), &mut rt.stderr()),
     )
 }

@@ -1,12 +1,13 @@
 // What the programs make of their input that write a part of a job.
 ghost use Rattle.std.specs.Prelude.{◌≡◌, ◌++◌, ◌+◌, ◌≤◌, ◌<◌, ◌^◌, true, false, cond, eqb, length, drop};
 ghost use Rattle.listing.specs.Answer.{listing_room};
-ghost use Rattle.console.specs.Parts.{made, printed, line_in, answer_from, register_end, built_scheme, certificate_after};
+ghost use Rattle.console.specs.Parts.{made, printed, line_in, answer_from, register_end, scheme_end, built_scheme, certificate_after};
 
 use builder::feedcheck_build;
 use listing::Listing;
 use plain::feedcheck_plain;
-use register::read_register;
+use register::{open_register, read_register};
+use scheme::read_scheme;
 use wire::WriterAnswer;
 
 // What a program makes of its input, at the front of a text: so many bytes of what it was asked for or, in place of a part that is not
@@ -63,21 +64,23 @@ pub fn scheme_of(register: &[u8], text: &mut [u8]) -> Made
     made_of(answer, text)
 }
 
-// An answer whose positions in part 2 are counted from the start of part 1, which has so many bytes.
-fn counted_from(end: usize, answer: WriterAnswer) -> WriterAnswer
-    requires { end + answer.position < 2 ^ 64 }
-    ensures { result ≡ answer_from end answer }
+// An answer whose positions in parts 2 and 4 are counted from the start of part 1, by where these two parts start.
+fn counted_from(two: usize, four: usize, answer: WriterAnswer) -> WriterAnswer
+    requires { (two + answer.position < 2 ^ 64) × (four + answer.position < 2 ^ 64) }
+    ensures { result ≡ answer_from two four answer }
 {
-    if answer.part == 2 {
-        return WriterAnswer {
-            position: end + answer.position,
-            ..answer
-        };
+    let from = match answer.part {
+        2 => two,
+        4 => four,
+        _ => 0,
+    };
+    WriterAnswer {
+        position: from + answer.position,
+        ..answer
     }
-    answer
 }
 
-// Where part 1 ends in its bytes and those of part 2. One that is refused has all of them.
+// Where part 1 ends in its bytes and those of the parts behind it. One that is refused has all of them.
 fn end_of_register(parts: &[u8]) -> usize
     ensures value { result ≡ register_end parts.now }
     ensures within { result ≤ length parts.now }
@@ -88,15 +91,33 @@ fn end_of_register(parts: &[u8]) -> usize
     }
 }
 
-// The certificate of our own for a register and the scheme that stands straight after it, or the line of a refusal, at the front of the
-// lent text. Positions are counted from the start of both.
+// Where part 2 ends in its bytes and those of a plan, which stands behind it where the register has a range. One that is refused has all
+// of them.
+fn end_of_scheme(register: &[u8], rest: &[u8]) -> usize
+    ensures value { result ≡ scheme_end register.now rest.now }
+    ensures within { result ≤ length rest.now }
+{
+    match open_register(register) {
+        Ok(register) if register.has_range() => match read_scheme(rest, &register) {
+            Ok(read) => read.end,
+            Err(_) => rest.len(),
+        },
+        _ => rest.len(),
+    }
+}
+
+// The certificate of our own for a register and the scheme that stands straight after it, and for the plan behind these where the register
+// has a range; or the line of a refusal: at the front of the lent text. Positions are counted from the start of all.
 pub fn certificate_of(parts: &[u8], text: &mut [u8]) -> Made
     requires { listing_room ≤ length text.old }
     ensures value { result ≡ made (certificate_after parts.now) }
     ensures text_after { text.new ≡ printed (certificate_after parts.now) ++ drop result.count text.old }
     ensures within { result.count ≤ length text.new }
 {
-    let end = end_of_register(parts);
-    let answer = feedcheck_plain(&parts[..end], &parts[end..], text);
-    made_of(counted_from(end, answer), text)
+    let two = end_of_register(parts);
+    let register = &parts[..two];
+    let rest = &parts[two..];
+    let end = end_of_scheme(register, rest);
+    let answer = feedcheck_plain(register, &rest[..end], &rest[end..], text);
+    made_of(counted_from(two, two + end, answer), text)
 }

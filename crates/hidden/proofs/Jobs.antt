@@ -2,8 +2,8 @@
 use Prim.Native.Nat.{ℕ}
 use native.Mathlib.Omega.{arith}
 use mathlib.Core.Path.{◌≡◌, refl, sym, ap, ◌∙◌}
-use mathlib.Core.Bool.{false}
-use mathlib.Core.List.{List, [], ◌∷◌, ◌++◌}
+use mathlib.Core.Bool.{false, cond}
+use mathlib.Core.List.{List, ◌++◌}
 use lib.IntN.{ℤ}
 use lib.ListN.{length, get_or, drop, length-append}
 use lib.Seq.{drop_at}
@@ -16,9 +16,10 @@ use Rattle.wire.proofs.Accepting.{reached}
 use Rattle.wire.proofs.Walk.{accepts_sized}
 use Rattle.wire.proofs.Outcome.{accepts_one}
 use Rattle.register.specs.declared.Register.{Register}
+use Rattle.register.specs.Register.{has_range}
 use Rattle.register.specs.Format.{register_part, register_in_job}
 use Rattle.register.proofs.Accept.{commands_accepted, register_accepted}
-use Rattle.job.specs.Outcome.{Parts, of_register, part_two, order, in_turn, last_of, ended, outcome, table_by, table_after}
+use Rattle.job.specs.Outcome.{Parts, of_register, order, before, in_turn, last_of, ended, outcome, table_by, table_after}
 use Rattle.job.specs.Valid.{Valid, Encodes}
 use Rattle.job.proofs.Sound.{accepted_valid}
 use Rattle.job.proofs.Accept.{accepted_iff}
@@ -27,7 +28,7 @@ use Rattle.hidden.specs.Alike.{SameButHidden, HiddenLaws}
 use Rattle.hidden.proofs.Commands.{Ends}
 use Rattle.hidden.proofs.Marks.{marks_of, walk_marks, places_only, places_all}
 use Rattle.hidden.proofs.Blank.{Like, registers_alike}
-use Rattle.hidden.proofs.Rest.{blank_parts, blank_outcome, after_blank, table_blank, after_same, table_same}
+use Rattle.hidden.proofs.Rest.{blank_parts, blank_outcome, blind, blind_before, after_blank, table_blank, after_same, table_same}
 
 -- ---- an accepted job: the commands of its part 1, and what stands after them
 
@@ -41,7 +42,7 @@ record Opened (job : List ℕ) (p : Parts) : Type 0 where
 abbrev open_job : (job : List ℕ) (p : Parts) → Valid p → Encodes p job → Opened job p
 open_job job p v k =
     let e = k.register in
-    let rest = k.second ++ (k.third ++ k.fourth) in
+    let rest = k.second ++ cond (has_range p.register) (k.fourth ++ k.third) (k.third ++ k.fourth) in
     record {
       commands = e.commands;
       rest = rest;
@@ -65,7 +66,7 @@ module _ (job : List ℕ) (p : Parts) (o : Opened job p) where
   unfolding outcome
   then_outcome = rw o.reads
 
-  then_table : (lent : List ℤ) → table_after job lent ≡ table_by job lent (in_turn (part_two ∷ []) job (of_register p.register) end)
+  then_table : (lent : List ℤ) → table_after job lent ≡ table_by job lent (in_turn (before 3 (order p.register)) job (of_register p.register) end)
   unfolding table_after
   then_table lent = rw o.reads
 
@@ -103,11 +104,11 @@ module _ (job job' : List ℕ) (p p' : Parts) (o : Opened job p) (o' : Opened jo
   outcomes =
       let n = end job p o in
       ap blank_outcome (then_outcome job p o)
-      ∙ sym (after_blank job r (of_register r) n 4)
-      ∙ after_same job job' a.lengths (order r) (blank_parts (of_register r)) n 4 after
-      ∙ ap (λ x. and_then (in_turn (order r) job' (of_register x) n) (ended 4 job')) alike.like
-      ∙ ap (λ k. and_then (in_turn (order r') job' (blank_parts (of_register r')) k) (ended 4 job')) ends
-      ∙ after_blank job' r' (of_register r') (end job' p' o') 4
+      ∙ sym (after_blank job r (of_register r) n (last_of 1 (order r)))
+      ∙ after_same job job' a.lengths (order r) (blank_parts (of_register r)) n (last_of 1 (order r)) after
+      ∙ ap (λ x. and_then (in_turn (order x) job' (of_register x) n) (ended (last_of 1 (order x)) job')) alike.like
+      ∙ ap (λ k. and_then (in_turn (order r') job' (blank_parts (of_register r')) k) (ended (last_of 1 (order r')) job')) ends
+      ∙ after_blank job' r' (of_register r') (end job' p' o') (last_of 1 (order r'))
       ∙ sym (ap blank_outcome (then_outcome job' p' o'))
 
   same_parts : outcome job ≡ accepts p → outcome job' ≡ accepts p' → SameButHidden p p'
@@ -124,11 +125,11 @@ module _ (job job' : List ℕ) (p p' : Parts) (o : Opened job p) (o' : Opened jo
   same_table lent =
       let n = end job p o in
       then_table job p o lent
-      ∙ sym (table_blank job (of_register r) n lent)
-      ∙ table_same job job' a.lengths (part_two ∷ []) (blank_parts (of_register r)) n lent after
-      ∙ ap (λ x. table_by job' lent (in_turn (part_two ∷ []) job' (of_register x) n)) alike.like
-      ∙ ap (λ k. table_by job' lent (in_turn (part_two ∷ []) job' (blank_parts (of_register r')) k)) ends
-      ∙ table_blank job' (of_register r') (end job' p' o') lent
+      ∙ sym (table_blank job (before 3 (order r)) (blind_before 3 (order r) (blind r)) (of_register r) n lent)
+      ∙ table_same job job' a.lengths (before 3 (order r)) (blank_parts (of_register r)) n lent after
+      ∙ ap (λ x. table_by job' lent (in_turn (before 3 (order x)) job' (of_register x) n)) alike.like
+      ∙ ap (λ k. table_by job' lent (in_turn (before 3 (order r')) job' (blank_parts (of_register r')) k)) ends
+      ∙ table_blank job' (before 3 (order r')) (blind_before 3 (order r') (blind r')) (of_register r') (end job' p' o') lent
       ∙ sym (then_table job' p' o' lent)
 
 open_accepted : (job : List ℕ) (p : Parts) → Bytes job → outcome job ≡ accepts p → Opened job p

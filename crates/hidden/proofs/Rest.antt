@@ -4,7 +4,7 @@ use Prim.Native.Nat.{ℕ, ◌+◌}
 use mathlib.Core.Path.{◌≡◌, refl, sym, ap, ◌∙◌}
 use mathlib.Core.Bool.{Bool, true, false, cond}
 use mathlib.Core.List.{List, [], ◌∷◌}
-use lib.Dec.{ltb}
+use lib.Dec.{ltb, eqb}
 use lib.IntN.{ℤ}
 use lib.ListN.{length, drop}
 use lib.Seq.{drop-drop}
@@ -14,7 +14,7 @@ use Rattle.wire.specs.Part.{Reading, refused, accepted}
 use Rattle.wire.specs.Rows.{Progress}
 use Rattle.wire.specs.Outcome.{Outcome, refuses, accepts, next, and_then, answer_by, starting_at, added_by}
 use Rattle.register.specs.declared.Register.{Register}
-use Rattle.register.specs.Register.{coefficient}
+use Rattle.register.specs.Register.{has_range}
 use Rattle.scheme.specs.declared.Scheme.{Scheme}
 use Rattle.scheme.specs.Function.{g}
 use Rattle.scheme.specs.Format.{scheme_in_job}
@@ -22,11 +22,12 @@ use Rattle.certificate.specs.Certificate.{Certificate}
 use Rattle.certificate.specs.Rules.{rule_of}
 use Rattle.certificate.specs.Format.{commands_in_job}
 use Rattle.residual.specs.Residual.{null_part, subtracted_part, null_forms, subtracted_forms, reformulated, shifted, R}
-use Rattle.bound.specs.Bound.{carries}
-use Rattle.bound.specs.Format.{dominance_checked, certificate_in_job}
+use Rattle.bound.specs.Format.{certificate_in_job}
 use Rattle.bound.specs.Check.{with_residual}
+use Rattle.bound.proofs.Same.{certificate_alike, residual_alike}
 use Rattle.plan.specs.Format.{plan_in_job}
-use Rattle.job.specs.Outcome.{Parts, with_scheme, with_certificate, with_plan, JobPart, part_two, order, in_turn, ended, table_from_certificate, table_by}
+use Rattle.plan.specs.Chosen.{chosen}
+use Rattle.job.specs.Outcome.{Parts, with_scheme, with_certificate, with_plan, coefficients, JobPart, part_two, part_three, part_four, order, before, in_turn, ended, table_from_certificate, table_by}
 use Rattle.hidden.specs.Alike.{blank}
 
 abbrev pub blank_parts : Parts → Parts
@@ -63,21 +64,12 @@ commands_same : (r : Register) (sch : Scheme) (t : List ℕ) → commands_in_job
 unfolding commands_in_job rule_of
 commands_same r sch t = refl
 
-residual_same : (r : Register) (sch : Scheme) (cert : Certificate) → R (coefficient (blank r)) (blank r) sch cert ≡ R (coefficient r) r sch cert
+residual_same : (r : Register) (plan : ℕ) (sch : Scheme) (cert : Certificate) → R (chosen (blank r) plan) (blank r) sch cert ≡ R (chosen r plan) r sch cert
 unfolding R shifted reformulated null_forms subtracted_forms null_part subtracted_part rule_of g
-residual_same r sch cert = refl
+residual_same r plan sch cert = refl
 
-carries_same : (r : Register) (sch : Scheme) (cert : Certificate) → carries (coefficient (blank r)) (blank r) sch cert ≡ carries (coefficient r) r sch cert
-unfolding carries
-carries_same r sch cert = rw (residual_same r sch cert)
-
-certificate_same : (r : Register) (sch : Scheme) (t : List ℕ) → certificate_in_job (coefficient (blank r)) (blank r) sch t ≡ certificate_in_job (coefficient r) r sch t
-unfolding certificate_in_job dominance_checked
-certificate_same r sch t = rw (commands_same r sch t) (go (commands_in_job r sch t))
-  where
-    go : (x : Reading (Progress Certificate)) → dominance_checked (coefficient (blank r)) (blank r) sch x ≡ dominance_checked (coefficient r) r sch x
-    go (refused number at) = refl
-    go (accepted p end) = rw (carries_same r sch p.parsed)
+certificate_same : (r : Register) (plan : ℕ) (sch : Scheme) (t : List ℕ) → certificate_in_job (chosen (blank r) plan) (blank r) sch t ≡ certificate_in_job (chosen r plan) r sch t
+certificate_same r plan sch = certificate_alike (chosen (blank r) plan) (chosen r plan) r (blank r) sch refl (commands_same r sch) (residual_same r plan sch)
 
 plan_same : (r : Register) (t : List ℕ) → plan_in_job (blank r) t ≡ plan_in_job r t
 unfolding plan_in_job
@@ -86,12 +78,29 @@ plan_same r t = refl
 blind_two : Blind part_two
 blind_two p t = added (with_scheme p) (with_scheme (blank_parts p)) (λ a. refl) (scheme_in_job p.register t) _ (scheme_same p.register t)
 
-blind : (r : Register) → All Blind (order r)
-blind r =
-    blind_two
-    ▹ (λ p t. added (with_certificate p) (with_certificate (blank_parts p)) (λ a. refl) (certificate_in_job (coefficient p.register) p.register p.scheme t) _ (certificate_same p.register p.scheme t))
-    ▹ (λ p t. added (with_plan p) (with_plan (blank_parts p)) (λ a. refl) (plan_in_job p.register t) _ (plan_same p.register t))
-    ▹ tt
+blind_three : Blind part_three
+blind_three p t =
+    added (with_certificate p) (with_certificate (blank_parts p)) (λ a. refl) (certificate_in_job (coefficients p) p.register p.scheme t) _ (certificate_same p.register p.plan p.scheme t)
+
+blind_four : Blind part_four
+blind_four p t = added (with_plan p) (with_plan (blank_parts p)) (λ a. refl) (plan_in_job p.register t) _ (plan_same p.register t)
+
+-- in either order
+pub blind : (r : Register) → All Blind (order r)
+blind r = by (has_range r)
+  where
+    by : (b : Bool) → All Blind (cond b (part_two ∷ part_four ∷ part_three ∷ []) (part_two ∷ part_three ∷ part_four ∷ []))
+    by true = blind_two ▹ blind_four ▹ blind_three ▹ tt
+    by false = blind_two ▹ blind_three ▹ blind_four ▹ tt
+
+-- and those before one with a number
+pub blind_before : (n : ℕ) (ks : List JobPart) → All Blind ks → All Blind (before n ks)
+blind_before n [] h = tt
+blind_before n (k ∷ ks) h = by (eqb k.number n) (blind_before n ks h.1)
+  where
+    by : (b : Bool) → All Blind (before n ks) → All Blind (cond b [] (k ∷ before n ks))
+    by true later = tt
+    by false later = (h.0, later)
 
 module _ (s : List ℕ) where
   turn_blank : (ks : List JobPart) → All Blind ks → (p : Parts) (from : ℕ) → in_turn ks s (blank_parts p) from ≡ blank_turn (in_turn ks s p from)
@@ -116,19 +125,16 @@ module _ (s : List ℕ) where
       go (refuses number part at) = refl
       go (accepts (p, end)) = close (ltb end (length s)) p end
 
-  table_certificate : (r : Register) (sch : Scheme) (from : ℕ) (lent : List ℤ) → table_from_certificate s (blank r) sch from lent ≡ table_from_certificate s r sch from lent
-  table_certificate r sch from lent = rw (commands_same r sch (drop from s)) (go (commands_in_job r sch (drop from s)))
-    where
-      go : (x : Reading (Progress Certificate)) → with_residual (blank r) sch x lent ≡ with_residual r sch x lent
-      go (refused number at) = refl
-      go (accepted p end) = rw (residual_same r sch p.parsed)
+  table_certificate : (p : Parts) (from : ℕ) (lent : List ℤ) → table_from_certificate s (blank_parts p) from lent ≡ table_from_certificate s p from lent
+  table_certificate p from lent =
+      residual_alike (coefficients (blank_parts p)) (coefficients p) p.register (blank p.register) p.scheme refl (commands_same p.register p.scheme) (residual_same p.register p.plan p.scheme) (drop from s) lent
 
-  pub table_blank : (p : Parts) (from : ℕ) (lent : List ℤ) → table_by s lent (in_turn (part_two ∷ []) s (blank_parts p) from) ≡ table_by s lent (in_turn (part_two ∷ []) s p from)
-  table_blank p from lent = rw (turn_blank (part_two ∷ []) (blind_two ▹ tt) p from) (go (in_turn (part_two ∷ []) s p from))
+  pub table_blank : (ks : List JobPart) → All Blind ks → (p : Parts) (from : ℕ) (lent : List ℤ) → table_by s lent (in_turn ks s (blank_parts p) from) ≡ table_by s lent (in_turn ks s p from)
+  table_blank ks h p from lent = rw (turn_blank ks h p from) (go (in_turn ks s p from))
     where
       go : (x : Outcome (Parts × ℕ)) → table_by s lent (blank_turn x) ≡ table_by s lent x
       go (refuses number part at) = refl
-      go (accepts (p, end)) = table_certificate p.register p.scheme end lent
+      go (accepts (p, end)) = table_certificate p end lent
 
 -- ---- the bytes after the register, and the job's length, are all that is read
 
@@ -156,4 +162,4 @@ module _ (s s' : List ℕ) (l : length s ≡ length s') where
       then_is (accepts a) f = refl
 
   pub table_same : (ks : List JobPart) (p : Parts) (from : ℕ) (lent : List ℤ) → drop from s ≡ drop from s' → table_by s lent (in_turn ks s p from) ≡ table_by s' lent (in_turn ks s' p from)
-  table_same ks p from lent = turn_same (λ number part at. lent) _ _ (λ p end d. ap (λ t. with_residual p.register p.scheme (commands_in_job p.register p.scheme t) lent) d) ks p from
+  table_same ks p from lent = turn_same (λ number part at. lent) _ _ (λ p end d. ap (λ t. with_residual (coefficients p) p.register p.scheme (commands_in_job p.register p.scheme t) lent) d) ks p from

@@ -1,188 +1,163 @@
 -- What acceptance of a job means, over all runs of bytes: its four parts are valid, and the job is encodings of them after each other.
 use Prim.Native.Nat.{ℕ, ◌+◌, ◌≤◌, ◌<◌}
-use mathlib.Core.Path.{◌≡◌, refl, sym, ◌∙◌, ap, subst}
+use mathlib.Core.Path.{◌≡◌, refl, sym, ◌∙◌, ap}
 use mathlib.Core.Logic.{◌↔◌}
-use mathlib.Core.Bool.{Bool, true, false, cond}
-use mathlib.Core.List.{List, [], ◌∷◌, ◌++◌, append-nil}
+use mathlib.Core.Bool.{cond}
+use mathlib.Core.List.{List, [], ◌++◌, append-nil}
 use native.Mathlib.Nat.{zero-add}
 use native.Mathlib.Omega.{arith}
-use lib.Dec.{ltb}
 use lib.IntN.{ℤ}
-use lib.ListN.{length, take, drop, length-drop, take-append-drop}
+use lib.ListN.{length, take, drop, length-append, length-drop, take-append-drop}
 use lib.Seq.{take_all, drop-drop}
-use borrow.Author.Tests.{ltb-false, le-ltb}
+use Rattle.integers.proofs.Lists.{flag}
 use Rattle.wire.specs.Number.{Bytes}
-use Rattle.wire.specs.Rows.{Progress}
 use Rattle.wire.specs.Outcome.{Outcome, refuses, accepts}
 use Rattle.wire.proofs.Number.{bytes_take, bytes_drop}
-use Rattle.wire.proofs.Outcome.{next_by, not_both, accepts_one}
+use Rattle.wire.proofs.Encoding.{after_first}
+use Rattle.wire.proofs.Fronts.{front_whole}
 use Rattle.forms.specs.Table.{table_numbers}
-use Rattle.register.specs.declared.Register.{Register}
-use Rattle.register.specs.Register.{coefficient}
+use Rattle.register.specs.Register.{has_range}
 use Rattle.register.specs.Format.{register_in_job}
-use Rattle.register.specs.Valid as R
-use Rattle.register.proofs.Accept as Ra
-use Rattle.scheme.specs.declared.Scheme.{Scheme}
+use Rattle.register.proofs.Accept as RA
 use Rattle.scheme.specs.Format.{scheme_in_job}
-use Rattle.scheme.specs.Encoding as SE
 use Rattle.scheme.proofs.Accept as SA
-use Rattle.certificate.specs.Certificate.{Certificate}
-use Rattle.certificate.specs.Certificate as CF
 use Rattle.certificate.specs.Format.{certificate_part, commands_in_job}
-use Rattle.bound.specs.Format.{certificate_in_job}
 use Rattle.certificate.specs.Encoding as CE
 use Rattle.certificate.proofs.Accept.{encodes_accepted}
+use Rattle.bound.specs.Format.{certificate_in_job}
 use Rattle.bound.proofs.Accept as CA
-use Rattle.plan.specs.Format.{plan_in_job}
 use Rattle.plan.specs.Encoding as PE
+use Rattle.plan.specs.Format.{plan_in_job}
 use Rattle.plan.proofs.Accept as PA
-use Rattle.job.specs.Outcome.{Parts, part_three, part_four, outcome}
-use Rattle.job.specs.Rest.{from_plan, from_certificate, from_scheme}
 use Rattle.job.specs.declared.Tally.{Tally}
 use Rattle.job.specs.declared.JobAnswer.{JobAnswer}
+use Rattle.job.specs.Outcome.{Parts, coefficients, outcome}
 use Rattle.job.specs.Tally.{suppliers, with_accepted, moved}
 use Rattle.job.specs.Answer.{accepted_answer, after_job, job_answer}
 use Rattle.job.specs.Valid.{Valid, Encodes}
-use Rattle.job.proofs.Sound.{Sound, outcome_sound, accepts_at, accepted_valid}
+use Rattle.job.proofs.EachRead.{Reads, AllRead, all_read, read_all}
+use Rattle.job.proofs.Sound.{Sound, outcome_sound, read_valid}
 use Rattle.job.proofs.Suppliers.{table_enough, of_three}
-use Rattle.wire.proofs.Encoding.{after_first}
-use Rattle.wire.proofs.Fronts.{front_whole}
 
 -- ---- from the outcome to the parts
 
-abbrev parts : Register → Scheme → Certificate → ℕ → Parts
-parts reg sch cert plan = record { register = reg; scheme = sch; certificate = cert; plan = plan }
+-- the bytes from a position on, split
+split : (s : List ℕ) (from n : ℕ) → drop from s ≡ take n (drop from s) ++ drop (from + n) s
+split s from n = sym (take-append-drop n (drop from s)) ∙ ap (λ x. take n (drop from s) ++ x) (drop-drop n from s)
 
--- the rest of a job from the plan on
-record PlanFrom (s : List ℕ) (reg : Register) (sch : Scheme) (cert : Certificate) (from : ℕ) (p : Parts) : Type 0 where
-  plan : ℕ
-  encodes : PE.Encodes reg plan (drop from s)
-  parts_are : parts reg sch cert plan ≡ p
+-- those of the last part are all that is left
+last_whole : (s : List ℕ) (from n : ℕ) → length s ≤ from + n → drop from s ≡ take n (drop from s)
+last_whole s from n l = sym (take_all n (drop from s) (omega (arith, length-drop from s)))
 
-module _ (s : List ℕ) (b : Bytes s) (p : Parts) (reg : Register) (v : R.Valid reg) where
-  plan_from : (sch : Scheme) (cert : Certificate) (from : ℕ) → from_plan s reg sch cert from ≡ accepts p → PlanFrom s reg sch cert from p
-  plan_from sch cert from e =
-      accepts_at s 4 from (parts reg sch cert) (plan_in_job reg (drop from s)) [] p e λ read end q g.
-      by read end (PA.bytes_accepted reg v.within.choices.few (drop from s) read end q (bytes_drop from s b)).0 (ltb (from + end) (length s)) refl g
-    where
-      by : (read : Progress ℕ) (end : ℕ) → PE.Encodes reg read.parsed (take end (drop from s)) →
-          (t : Bool) → ltb (from + end) (length s) ≡ t → cond t (refuses 12 4 (from + end)) (accepts (parts reg sch cert read.parsed)) ≡ accepts p → PlanFrom s reg sch cert from p
-      by read end x true u q = absurd (not_both q)
-      by read end x false u q = record {
-        plan = read.parsed;
-        encodes = rw (take_all end (drop from s) (omega (arith, length-drop from s, ltb-false (from + end) (length s) u))) at x;
-        parts_are = accepts_one q;
-      }
+module _ (s : List ℕ) (b : Bytes s) (p : Parts) (a : AllRead s p) where
+  abbrev second : List ℕ
+  second = drop a.one s
 
-  -- the certificate and the plan
-  record CertificateFrom (sch : Scheme) (from : ℕ) : Type 0 where
-    cert : Certificate
-    plan : ℕ
-    third : List ℕ
-    fourth : List ℕ
-    encodes : CE.Encodes cert third
-    encodes_plan : PE.Encodes reg plan fourth
-    bytes : drop from s ≡ third ++ fourth
-    parts_are : parts reg sch cert plan ≡ p
+  abbrev third : List ℕ
+  third = drop (cond (has_range p.register) (a.one + a.two + a.four) (a.one + a.two)) s
 
-  certificate_from : (sch : Scheme) (from : ℕ) → from_certificate s reg sch from ≡ accepts p → CertificateFrom sch from
+  abbrev fourth : List ℕ
+  fourth = drop (cond (has_range p.register) (a.one + a.two) (a.one + a.two + a.three)) s
+
+  valid : Valid p
+  valid = read_valid s p a
+
+  certificate_encodes : CE.Encodes p.certificate (take a.three third)
   unfolding commands_in_job
-  certificate_from sch from e =
-      let t = drop from s in
-      let bt = bytes_drop from s b in
-      accepts_at s 3 from (λ cert. parts reg sch cert 0) (certificate_in_job (coefficient reg) reg sch t) (part_four ∷ []) p e λ read end reads goes.
-      let (q, _) = CA.commands_accepted reg sch (coefficient reg) t read end reads in
-      let (w, l) = front_whole (certificate_part reg sch) t read end bt q in
-      let r = plan_from sch read.parsed (from + end) goes in
-      record {
-        cert = read.parsed;
-        plan = r.plan;
-        third = take end t;
-        fourth = drop (from + end) s;
-        encodes = encodes_accepted reg sch (take end t) read end w (bytes_take end t bt) (sym l);
-        encodes_plan = r.encodes;
-        bytes = sym (take-append-drop end t) ∙ ap (λ x. take end t ++ x) (drop-drop end from s);
-        parts_are = r.parts_are;
-      }
+  certificate_encodes =
+      let bt = bytes_drop (cond (has_range p.register) (a.one + a.two + a.four) (a.one + a.two)) s b in
+      let (q, _) = CA.commands_accepted p.register p.scheme (coefficients p) third _ _ a.certificate.is in
+      let (w, l) = front_whole (certificate_part p.register p.scheme) third _ a.three bt q in
+      encodes_accepted p.register p.scheme (take a.three third) _ a.three w (bytes_take a.three third bt) (sym l)
 
-  -- the scheme, and the rest
-  record SchemeFrom (from : ℕ) : Type 0 where
-    sch : Scheme
-    second : List ℕ
-    later : ℕ
-    encodes : SE.Encodes reg sch second
-    bytes : drop from s ≡ second ++ drop later s
-    rest : CertificateFrom sch later
+  plan_encodes : PE.Encodes p.register p.plan (take a.four fourth)
+  plan_encodes =
+      (PA.bytes_accepted p.register valid.register.within.choices.few fourth _ a.four a.plan.is (bytes_drop (cond (has_range p.register) (a.one + a.two) (a.one + a.two + a.three)) s b)).0
 
-  scheme_from : (from : ℕ) → from_scheme s reg from ≡ accepts p → SchemeFrom from
-  scheme_from from e =
-      let t = drop from s in
-      accepts_at s 2 from (λ sch. parts reg sch CF.fresh 0) (scheme_in_job reg t) (part_three ∷ part_four ∷ []) p e λ read end reads goes.
-      record {
-        sch = read.parsed;
-        second = take end t;
-        later = from + end;
-        encodes = (SA.bytes_accepted reg v t read end reads).0;
-        bytes = sym (take-append-drop end t) ∙ ap (λ x. take end t ++ x) (drop-drop end from s);
-        rest = certificate_from read.parsed (from + end) goes;
-      }
+  last_two : drop (a.one + a.two) s ≡ cond (has_range p.register) (take a.four fourth ++ take a.three third) (take a.three third ++ take a.four fourth)
+  last_two =
+      let n = a.one + a.two in
+      flag (has_range p.register)
+      (λ t. rw t (split s n a.four ∙ ap (λ x. take a.four (drop n s) ++ x) (last_whole s (n + a.four) a.three (omega (arith, a.ends)))))
+      (λ t. rw t (split s n a.three ∙ ap (λ x. take a.three (drop n s) ++ x) (last_whole s (n + a.three) a.four (omega (arith, a.ends)))))
+
+  job_encodes : Encodes p s
+  job_encodes = record {
+    first = take a.one s;
+    second = take a.two second;
+    third = take a.three third;
+    fourth = take a.four fourth;
+    register = (RA.bytes_accepted s _ a.one a.register.is b).0;
+    scheme = (SA.bytes_accepted p.register valid.register second _ a.two a.scheme.is).0;
+    certificate = certificate_encodes;
+    plan = plan_encodes;
+    bytes = sym (take-append-drop a.one s) ∙ ap (λ x. take a.one s ++ x) (split s a.one a.two ∙ ap (λ x. take a.two second ++ x) last_two);
+  }
 
 job_from : (s : List ℕ) (p : Parts) → Bytes s → outcome s ≡ accepts p → Valid p × Encodes p s
-unfolding outcome
-job_from s p b e = (accepted_valid s p e, encodes e)
-  where
-    encodes : outcome s ≡ accepts p → Encodes p s
-    encodes =
-        next_by (λ o. o ≡ accepts p → Encodes p s) 1 (register_in_job s) (λ one end. from_scheme s one.parsed end) (λ n at x q. absurd (not_both q)) λ read end x q.
-        let r = scheme_from s b p read.parsed (Ra.valid_accepted s read end x).0 end q in
-        let k = r.rest in
-        subst (λ p. Encodes p s) k.parts_are (record {
-          first = take end s;
-          second = r.second;
-          third = k.third;
-          fourth = k.fourth;
-          register = (Ra.bytes_accepted s read end x b).0;
-          scheme = r.encodes;
-          certificate = k.encodes;
-          plan = k.encodes_plan;
-          bytes = sym (take-append-drop end s) ∙ ap (λ x. take end s ++ x) (r.bytes ∙ ap (λ x. r.second ++ x) k.bytes);
-        })
+job_from s p b e = let a = all_read s p e in (read_valid s p a, job_encodes s b p a)
 
 -- ---- from the parts to the outcome
 
-module _ (p : Parts) (v : Valid p) where
-  abbrev reg : Register
-  reg = p.register
+module _ (p : Parts) (v : Valid p) (s : List ℕ) (k : Encodes p s) where
+  abbrev l₁ : ℕ
+  l₁ = length k.first
 
-  abbrev sch : Scheme
-  sch = p.scheme
+  abbrev l₂ : ℕ
+  l₂ = length k.second
 
-  abbrev cert : Certificate
-  cert = p.certificate
+  abbrev l₃ : ℕ
+  l₃ = length k.third
 
-  to_plan : (s : List ℕ) (from : ℕ) → PE.Encodes reg p.plan (drop from s) → from_plan s reg sch cert from ≡ accepts p
-  to_plan s from k =
-      let q = ap (plan_in_job reg) (sym (append-nil (drop from s))) ∙ PA.front_accepted reg v.register.within.choices.few p.plan (drop from s) [] v.plan k in
-      rw (q, le-ltb (from + length (drop from s)) (length s) (omega (arith, length-drop from s)))
+  abbrev l₄ : ℕ
+  l₄ = length k.fourth
 
-  module _ (s : List ℕ) (k : Encodes p s) where
-    to_certificate : (from : ℕ) → drop from s ≡ k.third ++ k.fourth → from_certificate s reg sch from ≡ accepts p
-    to_certificate from e =
-        let q = CA.encoding_front reg v.register sch v.scheme (coefficient reg) cert k.third k.fourth v.certificate k.certificate in
-        rw (e, q) (to_plan s (from + length k.third) (rw (after_first s from (length k.third) k.third k.fourth refl e) k.plan))
+  after_one : drop l₁ s ≡ k.second ++ cond (has_range p.register) (k.fourth ++ k.third) (k.third ++ k.fourth)
+  after_one = rw (← (zero-add l₁)) (after_first s 0 l₁ k.first _ refl k.bytes)
 
-    to_scheme : (from : ℕ) → drop from s ≡ k.second ++ (k.third ++ k.fourth) → from_scheme s reg from ≡ accepts p
-    to_scheme from e =
-        let q = SA.scheme_accepted reg v.register sch k.second (k.third ++ k.fourth) v.scheme k.scheme in
-        rw (e, q) (to_certificate (from + length k.second) (after_first s from (length k.second) k.second (k.third ++ k.fourth) refl e))
+  after_two : drop (l₁ + l₂) s ≡ cond (has_range p.register) (k.fourth ++ k.third) (k.third ++ k.fourth)
+  after_two = after_first s l₁ l₂ k.second _ refl after_one
 
-    to_job : outcome s ≡ accepts p
-    unfolding outcome
-    to_job =
-        let after = k.second ++ (k.third ++ k.fourth) in
-        let d : drop (length k.first) s ≡ after = rw (← (zero-add (length k.first))) (after_first s 0 (length k.first) k.first after refl k.bytes) in
-        let q = ap register_in_job k.bytes ∙ Ra.register_accepted reg k.first after v.register k.register in
-        rw q (to_scheme (length k.first) d)
+  certificate_read : (x rest : List ℕ) → x ≡ k.third ++ rest → Reads (certificate_in_job (coefficients p) p.register p.scheme x) p.certificate l₃
+  certificate_read x rest e = record {
+    previous = 0x3F;
+    is = ap (certificate_in_job (coefficients p) p.register p.scheme) e ∙ CA.encoding_front p.register v.register p.scheme v.scheme (coefficients p) p.certificate k.third rest v.certificate k.certificate;
+  }
+
+  plan_read : (x rest : List ℕ) → x ≡ k.fourth ++ rest → Reads (plan_in_job p.register x) p.plan l₄
+  plan_read x rest e = record {
+    previous = 0x40;
+    is = ap (plan_in_job p.register) e ∙ PA.front_accepted p.register v.register.within.choices.few p.plan k.fourth rest v.plan k.plan;
+  }
+
+  -- the last part, with nothing after it
+  alone : {x : List ℕ} (y : List ℕ) → x ≡ y → x ≡ y ++ []
+  alone y e = e ∙ sym (append-nil y)
+
+  size : length s ≡ l₁ + l₂ + l₃ + l₄
+  size = rw k.bytes (flag (has_range p.register)
+      (λ t. rw t (omega (arith, length-append k.first (k.second ++ (k.fourth ++ k.third)), length-append k.second (k.fourth ++ k.third), length-append k.fourth k.third)))
+      (λ t. rw t (omega (arith, length-append k.first (k.second ++ (k.third ++ k.fourth)), length-append k.second (k.third ++ k.fourth), length-append k.third k.fourth))))
+
+  pub encoded_read : AllRead s p
+  encoded_read = record {
+    one = l₁;
+    two = l₂;
+    three = l₃;
+    four = l₄;
+    register = record { previous = 0x1F; is = ap register_in_job k.bytes ∙ RA.register_accepted p.register k.first _ v.register k.register };
+    scheme = record { previous = 0x2F; is = ap (scheme_in_job p.register) after_one ∙ SA.scheme_accepted p.register v.register p.scheme k.second _ v.scheme k.scheme };
+    certificate = flag (has_range p.register)
+        (λ t. rw t (certificate_read _ [] (alone k.third (after_first s (l₁ + l₂) l₄ k.fourth k.third refl (rw t at after_two)))))
+        (λ t. rw t (certificate_read _ k.fourth (rw t at after_two)));
+    plan = flag (has_range p.register)
+        (λ t. rw t (plan_read _ k.third (rw t at after_two)))
+        (λ t. rw t (plan_read _ [] (alone k.fourth (after_first s (l₁ + l₂) l₃ k.third k.fourth refl (rw t at after_two)))));
+    ends = omega (arith, size);
+  }
+
+  to_job : outcome s ≡ accepts p
+  to_job = read_all s p encoded_read
 
 -- a job is accepted with just the parts that are valid and whose bytes, after each other, it is
 pub accepted_iff : (s : List ℕ) (p : Parts) → Bytes s → (outcome s ≡ accepts p) ↔ (Valid p × Encodes p s)

@@ -1,38 +1,41 @@
--- What reading a job comes to, part by part, from what the readers of its parts answer.
+-- What a job comes to by what reading its parts leads to: a part at a position that is refused, that gives a value and an end, and the
+-- bytes past the last one.
 use Prim.Native.Nat.{ℕ, ◌+◌, ◌-◌, ◌≤◌, ◌<◌}
 use mathlib.Core.Path.{◌≡◌, refl, sym, ◌∙◌, ap}
-use mathlib.Core.List.{List}
+use mathlib.Core.Bool.{Bool, true, false, cond}
+use mathlib.Core.List.{List, ◌∷◌}
 use native.Mathlib.Omega.{arith}
+use lib.Dec.{ltb}
 use lib.IntN.{ℤ, nat_abs}
 use lib.ListN.{length, take, drop, length-drop}
 use lib.Seq.{take-length}
-use borrow.Author.Tests.{lt-ltb, le-ltb}
 use Rattle.std.proofs.Common.{Result, Ok, Err}
 use Rattle.wire.specs.declared.refusals.Refused.{Refused}
 use Rattle.wire.specs.declared.refusals.Read.{Read}
 use Rattle.wire.specs.Part.{Reading, refused, accepted}
 use Rattle.wire.specs.Rows.{Progress}
-use Rattle.wire.specs.Outcome.{Outcome, refuses, accepts, next, starting_at, added_by}
+use Rattle.wire.specs.Outcome.{Outcome, refuses, accepts, next, and_then, starting_at, added_by}
 use Rattle.wire.specs.Results.{reading_of}
 use Rattle.wire.proofs.Outcome.{position_of, not_both}
 use Rattle.register.specs.declared.Register.{Register}
-use Rattle.register.specs.Register.{coefficient}
-use Rattle.register.specs.Format.{register_part, register_in_job}
-use Rattle.register.specs.Valid as R
-use Rattle.register.proofs.Accept as RegisterAccept
+use Rattle.register.specs.Register.{coefficient, has_range}
+use Rattle.register.specs.Valid.{Within}
 use Rattle.scheme.specs.declared.Scheme.{Scheme}
-use Rattle.scheme.specs.Format.{scheme_part, scheme_in_job}
-use Rattle.scheme.specs.Valid as S
-use Rattle.scheme.proofs.Accept as SchemeAccept
 use Rattle.certificate.specs.Limits.{max_target}
 use Rattle.certificate.specs.Certificate.{Certificate}
+use Rattle.certificate.specs.Format.{commands_in_job}
 use Rattle.bound.specs.Bound.{bound}
+use Rattle.bound.specs.Check.{with_residual}
 use Rattle.bound.specs.Format.{certificate_in_job}
-use Rattle.bound.proofs.Accept as CertificateAccept
+use Rattle.bound.proofs.Accept.{valid_accepted}
 use Rattle.bound.proofs.Bound.{bound_small}
-use Rattle.plan.specs.Format.{plan_in_job}
-use Rattle.job.specs.Outcome.{ended, outcome, table_after, table_from_certificate}
-use Rattle.job.specs.Rest.{from_plan, from_certificate, from_scheme, table_from_scheme, end_of}
+use Rattle.bound.proofs.Same.{certificate_same, residual_same, certificate_under, residual_under}
+use Rattle.plan.specs.Chosen.{chosen, under}
+use Rattle.plan.specs.Format.{plan_part, plan_in_job}
+use Rattle.plan.proofs.Coefficients.{chosen_known}
+use Rattle.job.specs.declared.JobRead.{JobRead}
+use Rattle.job.specs.Outcome.{Parts, coefficients, with_certificate, with_plan, JobPart, part_three, part_four, in_turn, ended, bound_of}
+use Rattle.job.specs.Rest.{certificate_at, plan_at, end_of}
 use Rattle.job.specs.Answer.{accepted_read, job_read}
 use Rattle.job.proofs.Positions.{part_within, certificate_within}
 
@@ -40,9 +43,8 @@ use Rattle.job.proofs.Positions.{part_within, certificate_within}
 pub of_rest : {A : Type 0} (s : List ℕ) (from : ℕ) (f : List ℕ → A) {a : A} → a ≡ f (take (length s - from) (drop from s)) → a ≡ f (drop from s)
 of_rest s from f e = e ∙ ap f (rw (← length-drop from s) (take-length (drop from s)))
 
--- ---- a part of a job, from what its reader answers
+-- ---- where a part ends, or where it is refused
 
--- where it ends, or where it is refused
 pub end_is_position : {A B : Type 0} (f : A → B) (x : Reading (Progress A)) (read : Result (Read B) Refused) → reading_of read ≡ added_by f x → end_of read ≡ position_of x
 end_is_position f (refused n at) (Ok read) e = cc
 end_is_position f (refused n at) (Err fault) e = cc
@@ -53,125 +55,140 @@ end_is_position f (accepted p end) (Err fault) e = cc
 pub ends_within : (s : List ℕ) (from position : ℕ) → from ≤ length s → position ≤ length (drop from s) → from + position ≤ length s
 ends_within s from position l h = omega (arith, length-drop from s)
 
-module _ {A B : Type 0} (f : A → B) (part from : ℕ) (x : Reading (Progress A)) where
-  -- it is accepted: a value, and the position past it, from the job's start
-  pub record Gives (value : B) (end : ℕ) : Type 0 where
+-- so said of what its reader answers
+pub reader_within : {A B : Type 0} (f : A → B) (s : List ℕ) (from : ℕ) (x : Reading (Progress A)) (read : Result (Read B) Refused) → reading_of read ≡ added_by f x → from ≤ length s → position_of x ≤ length (drop from s) →
+    from + end_of read ≤ length s
+reader_within f s from x read e l h = ends_within s from (end_of read) l (rw (end_is_position f x read e) h)
+
+-- ---- a part at a position of a job, by what reading it there leads to
+
+module _ {A B : Type 0} (f : A → B) (part from : ℕ) where
+  abbrev pub at_position : Reading (Progress A) → Outcome (Read B)
+  at_position x = next part (starting_at from (added_by f x)) λ value end. accepts (record { value = value; end = end })
+
+  -- a value, and the position past it, from the job's start
+  pub record Gives (x : Reading (Progress A)) (value : B) (end : ℕ) : Type 0 where
     pub progress : Progress A
     pub taken : ℕ
     pub reads : x ≡ accepted progress taken
     pub value_is : f progress.parsed ≡ value
     pub end_is : from + taken ≡ end
 
-  -- it is refused: a number, this part, and the position from the job's start
-  pub record Refuses (n k at : ℕ) : Type 0 where
-    pub inside : ℕ
-    pub reads : x ≡ refused n inside
-    pub part_is : part ≡ k
-    pub at_is : from + inside ≡ at
+  pub gives : (x : Reading (Progress A)) (r : Read B) → accepts r ≡ at_position x → Gives x r.value r.end
+  gives (refused n at) r q = absurd (not_both (sym q))
+  gives (accepted p end) r q = record { progress = p; taken = end; reads = refl; value_is = cc; end_is = cc }
 
--- by what the reader answers
-module _ {A B : Type 0} (f : A → B) (part from : ℕ) (x : Reading (Progress A)) (read : Result (Read B) Refused) (e : reading_of read ≡ added_by f x) where
-  abbrev in_turn_from : Reading B → Outcome (Read B)
-  in_turn_from y = next part (starting_at from y) λ value end. accepts (record { value = value; end = end })
+  -- it ends within the job
+  pub given_within : (s : List ℕ) (x : Reading (Progress A)) {value : B} {end : ℕ} → Gives x value end → from ≤ length s → position_of x ≤ length (drop from s) → end ≤ length s
+  given_within s x g l h = rw (← g.end_is) (ends_within s from g.taken l (rw g.reads at h))
 
-  pub gives : (r : Read B) → accepts r ≡ in_turn_from (reading_of read) → Gives f part from x r.value r.end
-  gives r q = by x (q ∙ ap in_turn_from e)
+  -- with other parts after it
+
+  pub refused_first : {n k at : ℕ} (x : Reading (Progress A)) → refuses n k at ≡ at_position x → {C D : Type 0} (add : A → C) (later : C → ℕ → Outcome D) →
+      refuses n k at ≡ next part (starting_at from (added_by add x)) later
+  refused_first (refused n at) q add later = cc
+  refused_first (accepted p end) q add later = absurd (not_both q)
+
+  pub given_first : (x : Reading (Progress A)) {value : B} {end : ℕ} (g : Gives x value end) → {C D : Type 0} (add : A → C) (later : C → ℕ → Outcome D) →
+      later (add g.progress.parsed) end ≡ next part (starting_at from (added_by add x)) later
+  given_first x g add later = rw g.reads (ap (later (add g.progress.parsed)) (sym g.end_is))
+
+-- ---- parts 3 and 4, wherever they stand
+
+module _ (s : List ℕ) (p : Parts) (from : ℕ) where
+  -- what stands there, read as part 3 with the parts before it
+  abbrev pub third : Reading (Progress Certificate)
+  third = certificate_in_job (coefficients p) p.register p.scheme (drop from s)
+
+  abbrev pub fourth : Reading (Progress ℕ)
+  fourth = plan_in_job p.register (drop from s)
+
+  pub certificate_refused : {n k at : ℕ} → refuses n k at ≡ certificate_at s p.register p.scheme (coefficients p) from → (ks : List JobPart) → refuses n k at ≡ in_turn (part_three ∷ ks) s p from
+  certificate_refused q ks = refused_first bound 3 from third q (with_certificate p) (in_turn ks s)
+
+  pub plan_refused : {n k at : ℕ} → refuses n k at ≡ plan_at s p.register from → (ks : List JobPart) → refuses n k at ≡ in_turn (part_four ∷ ks) s p from
+  plan_refused q ks = refused_first (λ plan. plan) 4 from fourth q (with_plan p) (in_turn ks s)
+
+  -- a certificate with its bound and its end
+  pub record CertificateRead (b : ℤ) (end : ℕ) : Type 0 where
+    pub certificate : Certificate
+    pub bound_is : bound certificate ≡ b
+    pub small : nat_abs b ≤ max_target
+    pub inside : end ≤ length s
+    pub leads : (ks : List JobPart) → in_turn ks s (with_certificate p certificate) end ≡ in_turn (part_three ∷ ks) s p from
+
+  pub certificate_read : from ≤ length s → (r : Read ℤ) → accepts r ≡ certificate_at s p.register p.scheme (coefficients p) from → CertificateRead r.value r.end
+  certificate_read l r q =
+      let g = gives bound 3 from third r q in
+      let v = (valid_accepted p.register p.scheme (coefficients p) (drop from s) _ _ g.reads).0.within in
+      record {
+        certificate = g.progress.parsed;
+        bound_is = g.value_is;
+        small = rw (← g.value_is) (bound_small g.progress.parsed v.scale_above v.target_within);
+        inside = given_within bound 3 from s third g l (certificate_within (coefficients p) p.register p.scheme (drop from s));
+        leads = λ ks. given_first bound 3 from third g (with_certificate p) (in_turn ks s);
+      }
+
+  -- a plan with its end
+  pub record PlanRead (plan end : ℕ) : Type 0 where
+    pub inside : end ≤ length s
+    pub leads : (ks : List JobPart) → in_turn ks s (with_plan p plan) end ≡ in_turn (part_four ∷ ks) s p from
+
+  pub plan_read : from ≤ length s → (r : Read ℕ) → accepts r ≡ plan_at s p.register from → PlanRead r.value r.end
+  unfolding plan_in_job
+  plan_read l r q =
+      let g = gives (λ plan. plan) 4 from fourth r q in
+      record {
+        inside = given_within (λ plan. plan) 4 from s fourth g l (part_within (plan_part p.register) (drop from s));
+        leads = λ ks. rw (← g.value_is) (given_first (λ plan. plan) 4 from fourth g (with_plan p) (in_turn ks s));
+      }
+
+-- ---- the job's end, after the last part
+
+-- what parts in turn lead to, and then the end
+abbrev pub read_by : List ℕ → ℕ → Outcome (Parts × ℕ) → Outcome JobRead
+read_by s last x = job_read (and_then x (ended last s))
+
+module _ (s : List ℕ) (last end : ℕ) where
+  abbrev pub end_at : Outcome ℕ
+  end_at = cond (ltb end (length s)) (refuses 12 last end) (accepts end)
+
+  pub past_end : {n k at : ℕ} → refuses n k at ≡ end_at → (p : Parts) → refuses n k at ≡ read_by s last (accepts (p, end))
+  past_end {n} {k} {at} q p = by (ltb end (length s)) q
     where
-      by : (x : Reading (Progress A)) → accepts r ≡ in_turn_from (added_by f x) → Gives f part from x r.value r.end
-      by (refused n at) q = absurd (not_both (sym q))
-      by (accepted p end) q = record { progress = p; taken = end; reads = refl; value_is = cc; end_is = cc }
+      by : (b : Bool) → refuses n k at ≡ cond b (refuses 12 last end) (accepts end) → refuses n k at ≡ job_read (cond b (refuses 12 last end) (accepts p))
+      by true q = cc
+      by false q = absurd (not_both q)
 
-  pub refuses_here : {n k at : ℕ} → refuses n k at ≡ in_turn_from (reading_of read) → Refuses f part from x n k at
-  refuses_here {n} {k} {at} q = by x (q ∙ ap in_turn_from e)
+  pub at_end : {at : ℕ} → accepts at ≡ end_at → (p : Parts) → accepts (accepted_read p.register p.plan (bound_of p)) ≡ read_by s last (accepts (p, end))
+  at_end {at} q p = by (ltb end (length s)) q
     where
-      by : (x : Reading (Progress A)) → refuses n k at ≡ in_turn_from (added_by f x) → Refuses f part from x n k at
-      by (refused n at) q = record { inside = at; reads = cc; part_is = cc; at_is = cc }
-      by (accepted p end) q = absurd (not_both q)
+      by : (b : Bool) → accepts at ≡ cond b (refuses 12 last end) (accepts end) → accepts (accepted_read p.register p.plan (bound_of p)) ≡ job_read (cond b (refuses 12 last end) (accepts p))
+      by true q = absurd (not_both (sym q))
+      by false q = refl
 
--- ---- the parts of a job in turn
+-- ---- part 3 with the coefficients that the code has: those of its parts
 
-module _ (s : List ℕ) where
-  -- part 1
+module _ (s : List ℕ) (reg : Register) (w : Within reg) (sch : Scheme) (from : ℕ) where
+  -- the table after it, by its coefficients
+  abbrev pub table_at : (c : ℕ → ℤ) → List ℤ → List ℤ
+  table_at c lent = with_residual c reg sch (commands_in_job reg sch (drop from s)) lent
 
-  pub register_refused : {n k at : ℕ} → Refuses (λ r. r) 1 0 (register_in_job s) n k at → (refuses n k at ≡ job_read (outcome s)) × ((lent : List ℤ) → lent ≡ table_after s lent)
-  unfolding outcome table_after
-  register_refused {n} {k} {at} r =
-      let e : r.inside ≡ at = omega (arith, r.at_is) in
-      (rw (r.reads, ← r.part_is, ← e), λ lent. rw r.reads)
+  -- without a range they are the register's own
+  module _ (none : has_range reg ≡ false) (plan : ℕ) where
+    own : (t : ℕ) → t < reg.terms → coefficient reg t ≡ chosen reg plan t
+    own t l = sym (chosen_known reg w plan none t)
 
-  module _ {reg : Register} {end₁ : ℕ} (one : Gives (λ r. r) 1 0 (register_in_job s) reg end₁) where
-    one_reads : register_in_job s ≡ accepted (record { previous = one.progress.previous; parsed = reg }) end₁
-    one_reads = let e : one.taken ≡ end₁ = omega (arith, one.end_is) in rw (← one.value_is, ← e) one.reads
+    pub certificate_own : certificate_at s reg sch (coefficient reg) from ≡ certificate_at s reg sch (chosen reg plan) from
+    certificate_own = ap (at_position bound 3 from) (certificate_same (coefficient reg) (chosen reg plan) reg sch own (drop from s))
 
-    pub register_valid : R.Valid reg
-    register_valid = (RegisterAccept.valid_accepted s _ _ one_reads).0
+    pub table_own : (lent : List ℤ) → table_at (coefficient reg) lent ≡ table_at (chosen reg plan) lent
+    table_own lent = residual_same (coefficient reg) (chosen reg plan) reg sch own (commands_in_job reg sch (drop from s)) lent
 
-    pub register_end : end₁ ≤ length s
-    unfolding register_in_job
-    register_end = rw one_reads at (part_within register_part s)
+  -- those of the quadratization that the code makes for a plan are the ones that the plan chooses
+  module _ (plan : ℕ) (r : Register) (x : Scheme) (e : r ≡ under reg plan) (f : x ≡ sch) where
+    pub certificate_chosen : certificate_at s r x (coefficient r) from ≡ certificate_at s reg sch (chosen reg plan) from
+    certificate_chosen = rw (e, f) (ap (at_position bound 3 from) (certificate_under reg w sch plan (drop from s)))
 
-    pub then_scheme : from_scheme s reg end₁ ≡ outcome s
-    unfolding outcome
-    then_scheme = rw one_reads
-
-    pub then_table : (lent : List ℤ) → table_from_scheme s reg end₁ lent ≡ table_after s lent
-    unfolding table_after
-    then_table lent = rw one_reads
-
-    -- part 2
-
-    pub scheme_refused : {n k at : ℕ} → Refuses (λ sch. sch) 2 end₁ (scheme_in_job reg (drop end₁ s)) n k at →
-        (refuses n k at ≡ job_read (outcome s)) × ((lent : List ℤ) → lent ≡ table_after s lent)
-    scheme_refused r = (rw (← then_scheme, r.reads, ← r.part_is, ← r.at_is), λ lent. rw (← then_table lent, r.reads))
-
-    module _ {sch : Scheme} {end₂ : ℕ} (two : Gives (λ sch. sch) 2 end₁ (scheme_in_job reg (drop end₁ s)) sch end₂) where
-      two_reads : scheme_in_job reg (drop end₁ s) ≡ accepted (record { previous = two.progress.previous; parsed = sch }) two.taken
-      two_reads = rw (← two.value_is) two.reads
-
-      pub scheme_valid : S.Valid reg sch
-      scheme_valid = (SchemeAccept.valid_accepted reg register_valid (drop end₁ s) _ _ two_reads).0
-
-      pub scheme_end : end₂ ≤ length s
-      unfolding scheme_in_job
-      scheme_end = rw (← two.end_is) (ends_within s end₁ two.taken register_end (rw two_reads at (part_within (scheme_part reg) (drop end₁ s))))
-
-      pub then_certificate : from_certificate s reg sch end₂ ≡ outcome s
-      then_certificate = ap (λ end. from_certificate s reg sch end) (sym two.end_is) ∙ (rw two_reads at then_scheme)
-
-      pub then_residual : (lent : List ℤ) → table_from_certificate s reg sch end₂ lent ≡ table_after s lent
-      then_residual lent = ap (λ end. table_from_certificate s reg sch end lent) (sym two.end_is) ∙ (rw two_reads at (then_table lent))
-
-      -- part 3
-
-      pub certificate_refused : {n k at : ℕ} → Refuses bound 3 end₂ (certificate_in_job (coefficient reg) reg sch (drop end₂ s)) n k at → refuses n k at ≡ job_read (outcome s)
-      certificate_refused r = rw (← then_certificate, r.reads, ← r.part_is, ← r.at_is)
-
-      module _ {b : ℤ} {end₃ : ℕ} (three : Gives bound 3 end₂ (certificate_in_job (coefficient reg) reg sch (drop end₂ s)) b end₃) where
-        abbrev cert : Certificate
-        cert = three.progress.parsed
-
-        pub bound_within : nat_abs b ≤ max_target
-        bound_within =
-            let (v, _) = CertificateAccept.valid_accepted reg sch (coefficient reg) (drop end₂ s) _ _ three.reads in
-            rw (← three.value_is) (bound_small cert v.within.scale_above v.within.target_within)
-
-        pub certificate_end : end₃ ≤ length s
-        certificate_end = rw (← three.end_is) (ends_within s end₂ three.taken scheme_end (rw three.reads at (certificate_within (coefficient reg) reg sch (drop end₂ s))))
-
-        pub then_plan : from_plan s reg sch cert end₃ ≡ outcome s
-        then_plan = ap (λ end. from_plan s reg sch cert end) (sym three.end_is) ∙ (rw three.reads at then_certificate)
-
-        -- part 4, and the job's end
-
-        pub plan_refused : {n k at : ℕ} → Refuses (λ plan. plan) 4 end₃ (plan_in_job reg (drop end₃ s)) n k at → refuses n k at ≡ job_read (outcome s)
-        plan_refused r = rw (← then_plan, r.reads, ← r.part_is, ← r.at_is)
-
-        module _ {plan end₄ : ℕ} (four : Gives (λ plan. plan) 4 end₃ (plan_in_job reg (drop end₃ s)) plan end₄) where
-          then_end : ended 4 s (record { register = reg; scheme = sch; certificate = cert; plan = plan }, end₄) ≡ outcome s
-          then_end = rw (← four.value_is) (ap (λ end. ended 4 s (record { register = reg; scheme = sch; certificate = cert; plan = four.progress.parsed }, end)) (sym four.end_is) ∙ (rw four.reads at then_plan))
-
-          pub past_the_plan : end₄ < length s → refuses 12 4 end₄ ≡ job_read (outcome s)
-          past_the_plan l = rw (← then_end, lt-ltb end₄ (length s) l)
-
-          pub at_the_end : length s ≤ end₄ → accepts (accepted_read reg plan b) ≡ job_read (outcome s)
-          at_the_end l = rw (← then_end, le-ltb end₄ (length s) l, three.value_is)
+    pub table_chosen : (lent : List ℤ) → with_residual (coefficient r) r x (commands_in_job r x (drop from s)) lent ≡ table_at (chosen reg plan) lent
+    table_chosen lent = rw (e, f) (residual_under reg w sch plan (drop from s) lent)

@@ -1,6 +1,9 @@
 -- What the job's call answers; which jobs are accepted; how long a job can be.
 pub mod Positions
+pub mod Turn
+pub mod EachRead
 pub mod Answers
+pub mod FirstTwo
 pub mod Sound
 pub mod Prefix
 pub mod Ranges

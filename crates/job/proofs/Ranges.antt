@@ -5,6 +5,7 @@ use mathlib.Core.Path.{subst}
 use mathlib.Core.Bool.{Bool, true, false, cond, ◌&&◌}
 use mathlib.Core.List.{List, [], ◌∷◌}
 use lib.Dec.{T, eqb, ltb, leb, leb→le}
+use lib.IntN.{ℤ}
 use lib.ListN.{length, get_or, take, drop, length-drop}
 use lib.Seq.{take_all, length-take-le}
 use borrow.Author.Tests.{leb-true, leb-false}
@@ -17,9 +18,8 @@ use Rattle.wire.specs.Outcome.{Outcome, refuses, accepts, next, and_then, starti
 use Rattle.wire.proofs.Part.{by_ways}
 use Rattle.wire.proofs.Outcome.{number_of, position_of}
 use Rattle.register.specs.declared.Register.{Register}
-use Rattle.register.specs.Register.{coefficient}
 use Rattle.register.specs.Register as R
-use Rattle.register.specs.Format.{base_checks, choice_checks, term_checks, window_checks, row_checks, length_checks, register_rows, register_part, register_in_job}
+use Rattle.register.specs.Format.{base_checks, choice_checks, term_checks, window_checks, row_checks, range_checks, length_checks, register_rows, register_part, register_in_job}
 use Rattle.register.specs.Format as RF
 use Rattle.scheme.specs.declared.Scheme.{Scheme}
 use Rattle.scheme.specs.Scheme as S
@@ -30,10 +30,10 @@ use Rattle.bound.specs.Bound.{carries}
 use Rattle.certificate.specs.Format.{scale_checks, multiplier_checks, square_checks, certificate_rows, commands_in_job}
 use Rattle.bound.specs.Format.{dominance_checked, certificate_in_job}
 use Rattle.plan.specs.Format.{plan_checks, plan_row, plan_part, plan_in_job}
-use Rattle.job.specs.Outcome.{Parts, of_register, JobPart, part_two, part_three, part_four, in_turn, ended, outcome}
-use Rattle.job.specs.Rest.{rest, from_scheme}
+use Rattle.job.specs.Outcome.{Parts, coefficients, of_register, JobPart, order, in_turn, last_of, ended, outcome}
 use Rattle.job.proofs.Positions.{part_within, certificate_within}
 use Rattle.job.proofs.Prefix.{job_reach, outcome_prefix}
+use Rattle.job.proofs.Turn.{of_order, follow}
 
 -- the highest number of a refusal
 abbrev highest : ℕ
@@ -74,16 +74,16 @@ module _ {A : Type 0} where
   }) P.start 0
 
 register_small : (s : List ℕ) → number_of (register_in_job s) ≤ highest
-unfolding register_in_job base_checks choice_checks term_checks window_checks row_checks length_checks RF.end_checks
-register_small s = part_small R.fresh register_rows ((λ r xs. tt) ▹ (λ r xs. tt) ▹ (λ r xs. tt) ▹ (λ r xs. tt) ▹ (λ r xs. tt) ▹ (λ r xs. tt) ▹ (λ r xs. tt) ▹ tt) s
+unfolding register_in_job base_checks choice_checks term_checks window_checks row_checks range_checks length_checks RF.end_checks
+register_small s = part_small R.fresh register_rows ((λ r xs. tt) ▹ (λ r xs. tt) ▹ (λ r xs. tt) ▹ (λ r xs. tt) ▹ (λ r xs. tt) ▹ (λ r xs. tt) ▹ (λ r xs. tt) ▹ (λ r xs. tt) ▹ tt) s
 
 scheme_small : (reg : Register) (s : List ℕ) → number_of (scheme_in_job reg s) ≤ highest
 unfolding scheme_in_job product_checks split_checks SF.end_checks
 scheme_small reg s = part_small S.fresh (product_row reg ∷ split_row reg ∷ SF.end_row reg ∷ []) ((λ r xs. tt) ▹ (λ r xs. tt) ▹ (λ r xs. tt) ▹ tt) s
 
-certificate_small : (reg : Register) (sch : Scheme) (s : List ℕ) → number_of (certificate_in_job (coefficient reg) reg sch s) ≤ highest
+certificate_small : (c : ℕ → ℤ) (reg : Register) (sch : Scheme) (s : List ℕ) → number_of (certificate_in_job c reg sch s) ≤ highest
 unfolding certificate_in_job commands_in_job dominance_checked scale_checks multiplier_checks square_checks
-certificate_small reg sch s = go (commands_in_job reg sch s) (part_small C.fresh (certificate_rows reg sch) each s)
+certificate_small c reg sch s = go (commands_in_job reg sch s) (part_small C.fresh (certificate_rows reg sch) each s)
   where
     each : All Small (certificate_rows reg sch)
     each =
@@ -93,9 +93,9 @@ certificate_small reg sch s = go (commands_in_job reg sch s) (part_small C.fresh
     by p end true = omega arith
     by p end false = omega arith
 
-    go : (x : Reading (Progress C.Certificate)) → number_of x ≤ highest → number_of (dominance_checked (coefficient reg) reg sch x) ≤ highest
+    go : (x : Reading (Progress C.Certificate)) → number_of x ≤ highest → number_of (dominance_checked c reg sch x) ≤ highest
     go (refused number at) l = l
-    go (accepted p end) l = by p end (carries (coefficient reg) reg sch p.parsed)
+    go (accepted p end) l = by p end (carries c reg sch p.parsed)
 
 plan_small : (reg : Register) (s : List ℕ) → number_of (plan_in_job reg s) ≤ highest
 unfolding plan_in_job plan_checks
@@ -116,28 +116,27 @@ added : {A B : Type 0} (add : A → B) (x : Reading (Progress A)) (n m : ℕ) �
 added add (refused number at) n m l h = (l, h)
 added add (accepted p end) n m l h = (l, h)
 
-each : All InRange (part_two ∷ part_three ∷ part_four ∷ [])
+each : (reg : Register) → All InRange (order reg)
 unfolding scheme_in_job plan_in_job
-each =
+each = of_order InRange
     (λ p s. added _ (scheme_in_job p.register s) highest (length s) (scheme_small p.register s) (part_within (scheme_part p.register) s))
-    ▹ (λ p s. added _ (certificate_in_job (coefficient p.register) p.register p.scheme s) highest (length s) (certificate_small p.register p.scheme s) (certificate_within (coefficient p.register) p.register p.scheme s))
-    ▹ (λ p s. added _ (plan_in_job p.register s) highest (length s) (plan_small p.register s) (part_within (plan_part p.register) s))
-    ▹ tt
+    (λ p s. added _ (certificate_in_job (coefficients p) p.register p.scheme s) highest (length s) (certificate_small (coefficients p) p.register p.scheme s) (certificate_within (coefficients p) p.register p.scheme s))
+    (λ p s. added _ (plan_in_job p.register s) highest (length s) (plan_small p.register s) (part_within (plan_part p.register) s))
 
 module _ (s : List ℕ) where
-  last : (p : Parts) (end : ℕ) → end ≤ length s → Ranged (length s) (ended 4 s (p, end))
-  last p end h = by (ltb end (length s))
+  end_ranged : (last : ℕ) (p : Parts) (end : ℕ) → end ≤ length s → Ranged (length s) (ended last s (p, end))
+  end_ranged last p end h = by (ltb end (length s))
     where
-      by : (b : Bool) → Ranged {A = Parts} (length s) (cond b (refuses 12 4 end) (accepts p))
+      by : (b : Bool) → Ranged {A = Parts} (length s) (cond b (refuses 12 last end) (accepts p))
       by true = (omega arith, h)
       by false = tt
 
-  in_turn_lem : (ks : List JobPart) → All InRange ks → (p : Parts) (from : ℕ) → from ≤ length s → Ranged (length s) (rest s ks p from)
-  in_turn_lem [] h p from l = last p from l
-  in_turn_lem (k ∷ ks) h p from l = go (k.reads p (drop from s)) (h.0 p (drop from s)) (in_turn_lem ks h.1)
+  in_turn_lem : (last : ℕ) (ks : List JobPart) → All InRange ks → (p : Parts) (from : ℕ) → from ≤ length s → Ranged (length s) (follow s last ks p from)
+  in_turn_lem last [] h p from l = end_ranged last p from l
+  in_turn_lem last (k ∷ ks) h p from l = go (k.reads p (drop from s)) (h.0 p (drop from s)) (in_turn_lem last ks h.1)
     where
-      go : (x : Reading Parts) → (number_of x ≤ highest) × (position_of x ≤ length (drop from s)) → ((q : Parts) (end : ℕ) → end ≤ length s → Ranged (length s) (rest s ks q end)) →
-          Ranged (length s) (and_then (next k.number (starting_at from x) (in_turn ks s)) (ended 4 s))
+      go : (x : Reading Parts) → (number_of x ≤ highest) × (position_of x ≤ length (drop from s)) → ((q : Parts) (end : ℕ) → end ≤ length s → Ranged (length s) (follow s last ks q end)) →
+          Ranged (length s) (and_then (next k.number (starting_at from x) (in_turn ks s)) (ended last s))
       go (refused number at) r more = (r.0, omega (arith, r.1, length-drop from s))
       go (accepted q end) r more = more q (from + end) (omega (arith, r.1, length-drop from s))
 
@@ -145,9 +144,9 @@ module _ (s : List ℕ) where
   unfolding outcome register_in_job
   within_bytes = go (register_in_job s) (register_small s) (part_within register_part s)
     where
-      go : (x : Reading (Progress Register)) → number_of x ≤ highest → position_of x ≤ length s → Ranged (length s) (next 1 x (λ one end. from_scheme s one.parsed end))
+      go : (x : Reading (Progress Register)) → number_of x ≤ highest → position_of x ≤ length s → Ranged (length s) (next 1 x (λ one end. let reg = one.parsed in follow s (last_of 1 (order reg)) (order reg) (of_register reg) end))
       go (refused number at) n l = (n, l)
-      go (accepted one end) n l = in_turn_lem (part_two ∷ part_three ∷ part_four ∷ []) each (of_register one.parsed) end l
+      go (accepted one end) n l = let reg = one.parsed in in_turn_lem (last_of 1 (order reg)) (order reg) (each reg) (of_register reg) end l
 
 -- no byte past them matters
 pub outcome_ranged : (s : List ℕ) → Ranged job_reach (outcome s)

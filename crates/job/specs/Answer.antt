@@ -3,8 +3,8 @@ use Rattle.std.specs.Prelude.{ℕ, cond, List, ltb, ℤ, pos, ◌-ℤ◌, length
 use Rattle.wire.specs.Outcome.{Outcome, refuses, accepts, and_then, answer_by}
 use Rattle.forms.specs.Table.{table_numbers}
 use Rattle.register.specs.declared.Register.{Register}
-use Rattle.register.specs.Register.{coefficient}
 use Rattle.plan.specs.Plan.{cost}
+use Rattle.plan.specs.Chosen.{chosen}
 use Rattle.job.specs.declared.Counters.{Counters}
 use Rattle.job.specs.declared.Tally.{Tally}
 use Rattle.job.specs.declared.JobRead.{JobRead}
@@ -16,7 +16,7 @@ use Rattle.job.specs.Tally.{suppliers, with_accepted, with_refused, moved}
 
 abbrev pub accepted_read : Register → ℕ → ℤ → JobRead
 accepted_read reg plan bound =
-    let z = cost (coefficient reg) reg plan in
+    let z = cost (chosen reg plan) reg plan in
     record { register = reg; plan = plan; bound = bound; cost = z; gap = z -ℤ bound }
 
 abbrev pub job_read : Outcome Parts → Outcome JobRead

@@ -3,7 +3,7 @@ use Rattle.std.specs.Prelude.{ℕ, cond, List, [], ◌∷◌, ltb, eqb, ℤ, ◌
 use Rattle.wire.specs.Part.{Reading}
 use Rattle.wire.specs.Outcome.{Outcome, refuses, accepts, next, and_then, answer_by, starting_at, added_by}
 use Rattle.register.specs.declared.Register.{Register}
-use Rattle.register.specs.Register.{coefficient}
+use Rattle.register.specs.Register.{has_range}
 use Rattle.register.specs.Format.{register_in_job}
 use Rattle.scheme.specs.declared.Scheme.{Scheme}
 use Rattle.scheme.specs.Scheme as S
@@ -15,6 +15,7 @@ use Rattle.certificate.specs.Format.{commands_in_job}
 use Rattle.bound.specs.Format.{certificate_in_job}
 use Rattle.bound.specs.Check.{with_residual}
 use Rattle.plan.specs.Plan.{cost}
+use Rattle.plan.specs.Chosen.{chosen}
 use Rattle.plan.specs.Format.{plan_in_job}
 
 -- the parts of a job; a part that is not read yet is empty
@@ -36,6 +37,10 @@ with_certificate p cert = record p { certificate = cert }
 abbrev pub with_plan : Parts → ℕ → Parts
 with_plan p plan = record p { plan = plan }
 
+-- the coefficient of each term: those that the plan chooses. Where no term has a range nothing is chosen, and the plan need not be read
+abbrev pub coefficients : Parts → ℕ → ℤ
+coefficients p = chosen p.register p.plan
+
 -- ---- the parts after the register
 
 -- a part: its number, and how it is read at the front of a run of bytes, with the parts before it
@@ -47,14 +52,14 @@ abbrev pub part_two : JobPart
 part_two = record { number = 2; reads = λ p s. added_by (with_scheme p) (scheme_in_job p.register s) }
 
 abbrev pub part_three : JobPart
-part_three = record { number = 3; reads = λ p s. added_by (with_certificate p) (certificate_in_job (coefficient p.register) p.register p.scheme s) }
+part_three = record { number = 3; reads = λ p s. added_by (with_certificate p) (certificate_in_job (coefficients p) p.register p.scheme s) }
 
 abbrev pub part_four : JobPart
 part_four = record { number = 4; reads = λ p s. added_by (with_plan p) (plan_in_job p.register s) }
 
--- their order, the same for every register
+-- their order: where a term has a range, the certificate is of the coefficients that the plan chooses, so the plan comes before it
 abbrev pub order : Register → List JobPart
-order reg = part_two ∷ part_three ∷ part_four ∷ []
+order reg = cond (has_range reg) (part_two ∷ part_four ∷ part_three ∷ []) (part_two ∷ part_three ∷ part_four ∷ [])
 
 -- ---- a job
 
@@ -85,7 +90,7 @@ abbrev pub bound_of : Parts → ℤ
 bound_of p = bound p.certificate
 
 abbrev pub cost_of : Parts → ℤ
-cost_of p = cost (coefficient p.register) p.register p.plan
+cost_of p = cost (coefficients p) p.register p.plan
 
 -- the gap (the paper's own term), how far the cost is above the bound: cost − bound
 abbrev pub gap_of : Parts → ℤ
@@ -98,13 +103,13 @@ abbrev pub before : ℕ → List JobPart → List JobPart
 before n [] = []
 before n (k ∷ ks) = cond (eqb k.number n) [] (k ∷ before n ks)
 
--- once parts 1 and 2 are read, and part 3 starts at a position
-abbrev pub table_from_certificate : List ℕ → Register → Scheme → ℕ → List ℤ → List ℤ
-table_from_certificate s reg sch from lent = with_residual reg sch (commands_in_job reg sch (drop from s)) lent
+-- once the parts before it are read, and part 3 starts at a position
+abbrev pub table_from_certificate : List ℕ → Parts → ℕ → List ℤ → List ℤ
+table_from_certificate s p from lent = with_residual (coefficients p) p.register p.scheme (commands_in_job p.register p.scheme (drop from s)) lent
 
 -- by what the parts before part 3 lead to
 abbrev pub table_by : List ℕ → List ℤ → Outcome (Parts × ℕ) → List ℤ
-table_by s lent x = answer_by (λ number part at. lent) (λ (p, from). table_from_certificate s p.register p.scheme from lent) x
+table_by s lent x = answer_by (λ number part at. lent) (λ (p, from). table_from_certificate s p from lent) x
 
 unfoldable pub table_after : List ℕ → List ℤ → List ℤ
 table_after s lent = table_by s lent (next 1 (register_in_job s) λ one end. let reg = one.parsed in in_turn (before 3 (order reg)) s (of_register reg) end)

@@ -2,18 +2,22 @@
 
 #![tactic(auto)]
 
-ghost use Rattle.std.specs.Prelude.{◌≡◌, ◌+◌, ◌≤◌, ◌<◌, ◌^◌, nat_abs, length};
-ghost use Rattle.wire.specs.Outcome.{accepts, next, starting_at};
+ghost use Rattle.std.specs.Prelude.{◌≡◌, false, cond, ◌+◌, ◌≤◌, ◌<◌, ◌^◌, ltb, nat_abs, length, drop};
+ghost use Rattle.wire.specs.Outcome.{refuses, accepts, next, starting_at};
 ghost use Rattle.wire.specs.Results.{number_of, reading_of, outcome_of};
 ghost use Rattle.forms.specs.Table.{table_numbers};
+ghost use Rattle.register.specs.Register.{coefficient, has_range};
 ghost use Rattle.register.specs.Valid.{Within};
+ghost use Rattle.certificate.specs.Format.{commands_in_job};
+ghost use Rattle.bound.specs.Check.{with_residual};
 ghost use Rattle.certificate.specs.Limits.{max_target};
 ghost use Rattle.job.specs.Tally.{suppliers, raised as one_more, with_accepted, with_refused, fresh as fresh_tally, with_pair};
 ghost use Rattle.job.specs.Outcome.{outcome, table_after};
-ghost use Rattle.job.specs.Rest.{end_of};
+ghost use Rattle.job.specs.Rest.{rest, table_of_rest, first_two, plan_last, plan_first, certificate_at, plan_at, end_of};
 ghost use Rattle.job.specs.Answer.{accepted_read, job_read, outcome_with, table_with, refused_answer, job_answer, job_table};
 
 use bound::check::check_certificate;
+use bound::chosen::quadratization_under;
 use forms::WorkingTable;
 use plan::{cost_of, read_plan};
 use register::{Register, read_register};
@@ -164,6 +168,88 @@ fn in_job<T: Copy>(part: u8, from: usize, read: Result<Read<T>, Refused>) -> Res
     }
 }
 
+// Part 3 at a position of the job: its bound, and where it ends. The table holds R where `3F` is reached.
+fn certificate_at(
+    job: &[u8],
+    from: usize,
+    quadratization: &Quadratization,
+    table: &mut [i64],
+) -> Result<Read<i64>, Fault>
+    requires numbers { table_numbers ≤ length table.old }
+    requires inside { from ≤ length job.now }
+    ensures value { let q = quadratization.now in outcome_of result ≡ certificate_at job.now q.register q.scheme (coefficient q.register) from }
+    ensures table_after { let q = quadratization.now in table.new ≡ with_residual (coefficient q.register) q.register q.scheme (commands_in_job q.register q.scheme (drop from job.now)) table.old }
+{
+    in_job(
+        3,
+        from,
+        check_certificate(&job[from..], quadratization, table),
+    )
+}
+
+// Part 4 at a position of the job: the plan, and where it ends.
+fn plan_at(job: &[u8], from: usize, register: Register) -> Result<Read<u32>, Fault>
+    requires within { Within register }
+    requires inside { from ≤ length job.now }
+    ensures { outcome_of result ≡ plan_at job.now register from }
+{
+    in_job(4, from, read_plan(&job[from..], register))
+}
+
+// Nothing stands behind the part that ends a job; `by_itself` is for a part that also starts it.
+fn ends_job(job: &[u8], part: u8, end: usize) -> Result<usize, Fault>
+    ensures { outcome_of result ≡ cond (ltb end (length job.now)) (refuses 12 part end) (accepts end) }
+{
+    if end < job.len() {
+        return Err(Fault {
+            refusal: Refusal::PastEnd,
+            part,
+            position: end,
+        });
+    }
+    Ok(end)
+}
+
+// Parts 3 and 4 of a job whose register has no range, from a position on.
+fn read_plan_last(
+    job: &[u8],
+    from: usize,
+    quadratization: &Quadratization,
+    table: &mut [i64],
+) -> Result<JobRead, Fault>
+    requires numbers { table_numbers ≤ length table.old }
+    requires inside { from ≤ length job.now }
+    requires no_range { has_range quadratization.now.register ≡ false }
+    ensures value { outcome_of result ≡ job_read (rest job.now plan_last (first_two quadratization.now.register quadratization.now.scheme) from) }
+    ensures table_after { table.new ≡ table_of_rest job.now plan_last (first_two quadratization.now.register quadratization.now.scheme) from table.old }
+{
+    let register = quadratization.register;
+    let Read { value: bound, end } = certificate_at(job, from, quadratization, table)?;
+    let Read { value: plan, end } = plan_at(job, end, register)?;
+    ends_job(job, 4, end)?;
+    Ok(JobRead::accepted(register, plan, bound))
+}
+
+// Parts 4 and 3 of a job whose register has a range, from a position on: the plan chooses the coefficients.
+fn read_plan_first(
+    job: &[u8],
+    from: usize,
+    quadratization: &Quadratization,
+    table: &mut [i64],
+) -> Result<JobRead, Fault>
+    requires numbers { table_numbers ≤ length table.old }
+    requires inside { from ≤ length job.now }
+    ensures value { outcome_of result ≡ job_read (rest job.now plan_first (first_two quadratization.now.register quadratization.now.scheme) from) }
+    ensures table_after { table.new ≡ table_of_rest job.now plan_first (first_two quadratization.now.register quadratization.now.scheme) from table.old }
+{
+    let register = quadratization.register;
+    let Read { value: plan, end } = plan_at(job, from, register)?;
+    let chosen = quadratization_under(quadratization, plan);
+    let Read { value: bound, end } = certificate_at(job, end, &chosen, table)?;
+    ends_job(job, 3, end)?;
+    Ok(JobRead::accepted(register, plan, bound))
+}
+
 // The four parts after each other. The table holds R where `3F` is reached.
 pub fn read_job(job: &[u8], table: &mut [i64]) -> Result<JobRead, Fault>
     requires { table_numbers ≤ length table.old }
@@ -176,21 +262,11 @@ pub fn read_job(job: &[u8], table: &mut [i64]) -> Result<JobRead, Fault>
     } = in_job(1, 0, read_register(job))?;
     let Read { value: scheme, end } = in_job(2, end, read_scheme(&job[end..], &register))?;
     let quadratization = Quadratization { register, scheme };
-    let Read { value: bound, end } = in_job(
-        3,
-        end,
-        check_certificate(&job[end..], &quadratization, table),
-    )?;
-    let Read { value: plan, end } = in_job(4, end, read_plan(&job[end..], register))?;
-    // The last part ends the job; `by_itself` is for a part that also starts it.
-    if end < job.len() {
-        return Err(Fault {
-            refusal: Refusal::PastEnd,
-            part: 4,
-            position: end,
-        });
+    if register.has_range() {
+        read_plan_first(job, end, &quadratization, table)
+    } else {
+        read_plan_last(job, end, &quadratization, table)
     }
-    Ok(JobRead::accepted(register, plan, bound))
 }
 
 // The same with a table that may be too short, which is found before the job is read.

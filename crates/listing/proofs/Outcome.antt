@@ -7,7 +7,7 @@ use lib.ListN.{length}
 use Rattle.integers.proofs.Order.{nat_abs_sub}
 use Rattle.wire.specs.Outcome.{Outcome, refuses, accepts}
 use Rattle.register.specs.Valid.{Within}
-use Rattle.plan.proofs.Bounds.{cost_small}
+use Rattle.plan.proofs.Bounds.{chosen_small}
 use Rattle.bound.proofs.Bound.{bound_small}
 use Rattle.job.specs.declared.JobRead.{JobRead}
 use Rattle.job.specs.Outcome.{Parts, outcome, bound_of, cost_of, gap_of}
@@ -71,7 +71,7 @@ listing_longest reader s = by (outcome s) (outcome_sound s) (outcome_ranged s)
     by (refuses number part at) h k = refusal_short number at (omega (arith, k.0)) (omega (arith, k.1, reach_is))
     by (accepts p) h k =
         let w = h.register.within in
-        let c = cost_small p.register p.plan w in
+        let c = chosen_small p.register p.plan w in
         let b = bound_small p.certificate h.certificate.within.scale_above h.certificate.within.target_within in
         accepted_short reader p.register p.plan (bound_of p) (cost_of p) (gap_of p) w (omega (arith, b)) (omega (arith, c)) (omega (arith, nat_abs_sub (cost_of p) (bound_of p), b, c))
 

@@ -1,4 +1,5 @@
-// Reads a register and the scheme that follows it from standard input and writes the certificate of our own for them.
+// Reads a register, the scheme that follows it and, where the register has a range, the plan behind these from standard input, and writes the
+// certificate of our own for them.
 
 #![tactic(auto)]
 

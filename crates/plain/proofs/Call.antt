@@ -8,76 +8,72 @@ use lib.ListN.{length, take, drop}
 use Rattle.wire.specs.Part.{accepted}
 use Rattle.wire.specs.Outcome.{Outcome, refuses, accepts, answer_by}
 use Rattle.wire.specs.Writer.{refused_answer, bytes_answer, with_front}
+use Rattle.wire.proofs.Outcome.{Numbered}
 use Rattle.wire.proofs.Writer.{HandedBack, bytes_keep}
 use Rattle.wire.proofs.Accepting.{reached}
 use Rattle.forms.specs.Table.{table_numbers}
 use Rattle.register.specs.declared.Register.{Register}
-use Rattle.register.specs.Register.{coefficient}
-use Rattle.register.specs.Format.{register_by_itself}
-use Rattle.register.specs.Answer.{register_answer}
+use Rattle.plan.specs.Chosen.{chosen}
 use Rattle.scheme.specs.declared.Scheme.{Scheme}
-use Rattle.scheme.specs.Answer as S
-use Rattle.scheme.specs.Answer.{open_parts, scheme_answer}
-use Rattle.scheme.proofs.Opened.{Opened, answer_opened}
+use Rattle.bound.specs.Opening.{open_chosen}
 use Rattle.bound.specs.Format.{certificate_by_itself}
 use Rattle.bound.specs.Check.{check_answer}
+use Rattle.bound.proofs.Opening.{Chosen, chosen_opened, chosen_numbered}
 use Rattle.plain.specs.Plain.{plain}
 use Rattle.plain.specs.Answer.{own_bytes, own_room, plain_answer, plain_buffer}
-use Rattle.plain.proofs.ReadBack.{plain_reads, handed_back, own_accepted}
+use Rattle.plain.proofs.ReadBack.{own_reads, handed_back, own_accepted}
 use Rattle.plain.proofs.ReadBack as B
 
-module _ (t s lent : List ℕ) where
-  abbrev register : Register
-  register = (register_answer (register_by_itself t)).register
-
-  abbrev scheme : Scheme
-  scheme = (scheme_answer t s).scheme
-
+module _ (t s q lent : List ℕ) where
   -- the bytes handed back
   abbrev back : List ℕ
-  back = take (plain_answer t s lent).count (plain_buffer t s lent)
+  back = take (plain_answer t s q lent).count (plain_buffer t s q lent)
 
-  -- both parts were accepted, and our own certificate for them reads back from the bytes handed back, and is accepted
+  -- the parts were accepted, and our own certificate for them, with the coefficients that the plan chooses, reads back from the bytes
+  -- handed back, and is accepted beside the plan
   pub record Wrote : Type 0 where
-    pub opens : Opened t s register scheme
-    pub hands_back : HandedBack (own_bytes register scheme) lent (plain_answer t s lent) (plain_buffer t s lent)
-    pub reads : certificate_by_itself (coefficient register) register scheme back ≡ accepted (reached 0x3F (plain (coefficient register) register scheme)) (length back)
+    pub reg : Register
+    pub sch : Scheme
+    pub plan : ℕ
+    pub opens : Chosen t s q reg sch plan
+    pub hands_back : HandedBack (own_bytes reg sch plan) lent (plain_answer t s q lent) (plain_buffer t s q lent)
+    pub reads : certificate_by_itself (chosen reg plan) reg sch back ≡ accepted (reached 0x3F (plain (chosen reg plan) reg sch)) (length back)
     pub accepts : (table : List ℤ) → table_numbers ≤ length table →
-        check_answer t s back table ≡ record { number = 0; part = 0; position = 0; bound = (plain (coefficient register) register scheme).target }
+        check_answer t s back q table ≡ record { number = 0; part = 0; position = 0; bound = (plain (chosen reg plan) reg sch).target }
 
-  opens : (scheme_answer t s).number ≡ 0 → Opened t s register scheme
-  opens = answer_opened t s
-
-  -- where the call answers 0
-  pub call_reads : (plain_answer t s lent).number ≡ 0 → Wrote
-  unfolding plain_answer
-  call_reads z = record {
+  wrote : (reg : Register) (sch : Scheme) (plan : ℕ) → Chosen t s q reg sch plan → (plain_answer t s q lent).number ≡ 0 → Wrote
+  wrote reg sch plan o z = record {
+    reg = reg;
+    sch = sch;
+    plan = plan;
     opens = o;
     hands_back = h;
-    reads = rw h.front (plain_reads register scheme o.register_valid o.scheme_valid);
-    accepts = λ table l. ap (λ x. check_answer t s x table) h.front ∙ own_accepted t s _ _ o table l;
+    reads = rw h.front (own_reads t s q reg sch plan o);
+    accepts = λ table l. ap (λ x. check_answer t s x q table) h.front ∙ own_accepted t s q reg sch plan o table l;
   }
     where
-      of_parts : (x : Outcome (Register × Scheme)) → (answer_by refused_answer (λ (reg, sch). bytes_answer (own_bytes reg sch) lent) x).number ≡ 0 → (answer_by S.refused_answer S.accepted_answer x).number ≡ 0
-      of_parts (refuses n part at) z = z
-      of_parts (accepts a) z = refl
+      h : HandedBack (own_bytes reg sch plan) lent (plain_answer t s q lent) (plain_buffer t s q lent)
+      h = handed_back t s q reg sch plan o lent z
 
-      o : Opened t s register scheme
-      o = opens (of_parts (open_parts t s) z)
+  -- where the call answers 0
+  pub call_reads : (plain_answer t s q lent).number ≡ 0 → Wrote
+  unfolding plain_answer
+  call_reads z = go (open_chosen t s q) refl (chosen_numbered t s q) z
+    where
+      go : (x : Outcome (Register × Scheme × ℕ)) → open_chosen t s q ≡ x → Numbered x → (answer_by refused_answer (λ (reg, sch, p). bytes_answer (own_bytes reg sch p) lent) x).number ≡ 0 → Wrote
+      go (refuses n part at) e d a = absurd (d a)
+      go (accepts (reg, sch, plan)) e d a = wrote reg sch plan (chosen_opened t s q reg sch plan e) z
 
-      h : HandedBack (own_bytes register scheme) lent (plain_answer t s lent) (plain_buffer t s lent)
-      h = handed_back t s register scheme o lent z
-
-  -- it does where both parts are accepted and there is room for the longest
-  pub enough : (scheme_answer t s).number ≡ 0 → own_room ≤ length lent → (plain_answer t s lent).number ≡ 0
-  enough z = B.enough t s register scheme (opens z) lent
+  -- it does where the parts are accepted and there is room for the longest
+  pub enough : (reg : Register) (sch : Scheme) (plan : ℕ) → open_chosen t s q ≡ accepts (reg, sch, plan) → own_room ≤ length lent → (plain_answer t s q lent).number ≡ 0
+  enough reg sch plan e = B.enough t s q reg sch plan (chosen_opened t s q reg sch plan e) lent
 
   -- bytes past the count are as they were: all of them where the call is refused
-  pub call_keeps : drop (plain_answer t s lent).count (plain_buffer t s lent) ≡ drop (plain_answer t s lent).count lent
+  pub call_keeps : drop (plain_answer t s q lent).count (plain_buffer t s q lent) ≡ drop (plain_answer t s q lent).count lent
   unfolding plain_answer plain_buffer
-  call_keeps = go (open_parts t s)
+  call_keeps = go (open_chosen t s q)
     where
-      go : (x : Outcome (Register × Scheme)) → let n = (answer_by refused_answer (λ (reg, sch). bytes_answer (own_bytes reg sch) lent) x).count in
-          drop n (answer_by (λ number part at. lent) (λ (reg, sch). with_front (own_bytes reg sch) lent) x) ≡ drop n lent
+      go : (x : Outcome (Register × Scheme × ℕ)) → let n = (answer_by refused_answer (λ (reg, sch, p). bytes_answer (own_bytes reg sch p) lent) x).count in
+          drop n (answer_by (λ number part at. lent) (λ (reg, sch, p). with_front (own_bytes reg sch p) lent) x) ≡ drop n lent
       go (refuses n part at) = refl
-      go (accepts (reg, sch)) = bytes_keep (own_bytes reg sch) lent
+      go (accepts (reg, sch, p)) = bytes_keep (own_bytes reg sch p) lent

@@ -14,7 +14,6 @@ use Rattle.wire.specs.Number.{bytes_of}
 use Rattle.wire.specs.Part.{total}
 use Rattle.wire.proofs.Number.{length-bytes_of}
 use Rattle.register.specs.declared.Register.{Register}
-use Rattle.register.specs.Register.{coefficient}
 use Rattle.register.specs.Valid as R
 use Rattle.scheme.specs.declared.Scheme.{Scheme}
 use Rattle.scheme.specs.Scheme.{variables}
@@ -27,7 +26,7 @@ use Rattle.certificate.specs.Encoding.{encode_scale, encode_multiplier}
 use Rattle.certificate.specs.Format.{command_size}
 use Rattle.certificate.specs.Rules.{arity, by_key}
 use Rattle.plain.specs.Encoding.{encode_multipliers, encode_with, encode_plain}
-use Rattle.plain.specs.Answer.{own_bytes, own_room}
+use Rattle.plain.specs.Answer.{own_room}
 use Rattle.plain.proofs.Commands.{plain_count}
 
 -- ---- commands of ten bytes
@@ -107,5 +106,6 @@ room_is = refl
 pub room_small : own_room < 2 ^ 32
 room_small = omega (arith, room_is)
 
-pub plain_bytes : (r : Register) (s : Scheme) → R.Valid r → Valid r s → length (own_bytes r s) ≤ own_room
-plain_bytes r s register scheme = omega (arith, room_is, length-plain (coefficient r) r s, plain_count (coefficient r) r s, variables_within r register s scheme)
+-- it is enough, whatever the coefficients
+pub plain_bytes : (c : ℕ → ℤ) (r : Register) (s : Scheme) → R.Valid r → Valid r s → length (encode_plain c r s) ≤ own_room
+plain_bytes c r s register scheme = omega (arith, room_is, length-plain c r s, plain_count c r s, variables_within r register s scheme)

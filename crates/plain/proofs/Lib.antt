@@ -1,5 +1,7 @@
--- The worked row; the table of our own B; its rows; its commands and numbers; that it is valid; its bytes and the call's answer.
+-- The coefficients that it is made of; the worked row; the table of our own B; its rows; its commands and numbers; that it is valid; its
+-- bytes and the call's answer.
 pub mod Coefficients
+pub mod Same
 pub mod Changes
 pub mod Worked
 pub mod Entries

@@ -1,15 +1,17 @@
--- Our own certificate is valid, for every valid register and scheme, and its bound is its target.
-use Prim.Native.Nat.{ℕ, suc, ◌+◌, ◌/◌, ◌≤◌}
+-- Our own certificate is valid, for every valid register and scheme and for coefficients within their limits, and its bound is its target.
+use Prim.Native.Nat.{ℕ, suc, ◌+◌, ◌/◌, ◌≤◌, ◌<◌}
 use mathlib.Core.Path.{◌≡◌, ap}
 use native.Mathlib.Omega.{arith}
-use lib.IntN.{ℤ, pos, negsuc, neg_ℤ, ◌-ℤ◌}
+use lib.IntN.{ℤ, pos, negsuc, nat_abs, neg_ℤ, ◌-ℤ◌}
 use Rattle.integers.specs.Lists.{join_below}
 use Rattle.integers.specs.CeilDiv.{ceil_div}
 use Rattle.integers.proofs.Lists.{All-append, All-join}
 use Rattle.integers.proofs.Order.{nat_abs_sub}
 use Rattle.register.specs.declared.Register.{Register}
-use Rattle.register.specs.Register.{coefficient}
+use Rattle.register.specs.Limits.{max_coefficient}
 use Rattle.register.specs.Valid as Reg
+use Rattle.plan.specs.Chosen.{chosen}
+use Rattle.plan.proofs.Coefficients.{chosen_low}
 use Rattle.scheme.specs.declared.Scheme.{Scheme}
 use Rattle.scheme.specs.Scheme.{max_variables, variables}
 use Rattle.scheme.specs.Valid as S
@@ -57,7 +59,16 @@ module _ (c : ℕ → ℤ) (r : Register) (s : Scheme) (low : Small c r) (few : 
   pub plain_valid_small : Valid c r s (plain c r s)
   plain_valid_small = record { within = plain_within; carried = plain-carries c r s }
 
+-- the coefficients c are within their limits
+abbrev pub Low : (ℕ → ℤ) → Register → Type 0
+Low c r = (t : ℕ) → t < r.terms → nat_abs (c t) ≤ max_coefficient
+
+-- those that a plan chooses are
+pub low_chosen : (r : Register) → Reg.Valid r → (plan : ℕ) → Low (chosen r plan) r
+low_chosen r register plan = chosen_low r register.within plan
+
 -- the certificate of our own is valid
-pub plain_valid : (r : Register) (s : Scheme) → Reg.Valid r → S.Valid r s → Valid (coefficient r) r s (plain (coefficient r) r s)
-plain_valid r s register scheme =
-    plain_valid_small (coefficient r) r s (small r register.within) (omega (arith, register.within.choices.few, scheme.within.products_within))
+pub plain_valid : (c : ℕ → ℤ) (r : Register) (s : Scheme) → Low c r → Reg.Valid r → S.Valid r s → Valid c r s (plain c r s)
+plain_valid c r s low register scheme =
+    let k = small r register.within in
+    plain_valid_small c r s (record { base = k.base; terms = k.terms; coefficients = low; rows = k.rows }) (omega (arith, register.within.choices.few, scheme.within.products_within))

@@ -1,15 +1,17 @@
 -- Row W7 of the paper's worked set: our own certificate on the example's register and the scheme of W3.
 use Prim.Native.Nat.{ℕ}
-use mathlib.Core.Path.{◌≡◌, refl}
-use mathlib.Core.Bool.{true, false}
+use mathlib.Core.Path.{◌≡◌, refl, ◌∙◌}
+use mathlib.Core.Bool.{Bool, true, false, cond}
 use mathlib.Core.List.{List, [], ◌∷◌, flat_map, map}
-use lib.IntN.{negsuc}
+use lib.IntN.{ℤ, negsuc}
 use Rattle.integers.specs.Integer.{abs}
 use Rattle.integers.specs.Lists.{all_below, join_below}
 use Rattle.integers.specs.Sum.{sum_below, sum_over, except}
 use Rattle.integers.specs.Quadratic.{off_diagonal}
 use Rattle.forms.specs.Form.{coefficient_of, times, entry}
-use Rattle.register.specs.Register.{coefficient}
+use Rattle.sets.specs.Sets.{is_subset}
+use Rattle.register.specs.Register.{mask, coefficient}
+use Rattle.plan.specs.Chosen.{chosen}
 use Rattle.scheme.specs.Function.{term, g}
 use Rattle.certificate.specs.Certificate.{Certificate}
 use Rattle.certificate.specs.Rules.{by_key, rule_of}
@@ -23,6 +25,7 @@ use Rattle.certificate.specs.Encoding.{encode_scale, encode_multiplier}
 use Rattle.plain.specs.Encoding.{encode_with, encode_plain}
 use Rattle.plain.specs.Answer.{own_bytes}
 use Rattle.plain.specs.Plain.{half_row_sum, linear_left, unless_zero, cancelling, subtracted_constant, plain}
+use Rattle.plain.proofs.Same.{encode_plain_same}
 
 -- the certificate with T = −6 and both `31` at m
 abbrev pub with31 : ℕ → Certificate
@@ -55,7 +58,15 @@ w7_bytes m =
     ∷ 0x39 ∷ 3 ∷ 3 ∷ 0 ∷ 0 ∷ 0 ∷ 0 ∷ 0 ∷ 0 ∷ 0
     ∷ 0x3F ∷ []
 
--- those of ours
-pub w7_bytes_lem : own_bytes example_register built_scheme ≡ w7_bytes 3
+written : encode_plain (coefficient example_register) example_register built_scheme ≡ w7_bytes 3
 unfolding encode_plain encode_with encode_scale encode_multiplier flat_map bytes_of
-w7_bytes_lem = rw w7
+written = rw w7
+
+-- those of ours: whatever the plan, since no term has a range
+pub w7_bytes_lem : (plan : ℕ) → own_bytes example_register built_scheme plan ≡ w7_bytes 3
+w7_bytes_lem plan =
+    encode_plain_same (chosen example_register plan) (coefficient example_register) example_register built_scheme (λ t l. one (is_subset (mask example_register t) plan) (coefficient example_register t)) ∙ written
+  where
+    one : (b : Bool) (x : ℤ) → cond b x x ≡ x
+    one true x = refl
+    one false x = refl

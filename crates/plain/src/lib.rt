@@ -17,12 +17,13 @@ ghost use Rattle.integers.specs.Lists.{join_below};
 ghost use Rattle.certificate.specs.Certificate.{Multiplier};
 ghost use Rattle.certificate.specs.Encoding.{encode_scale};
 ghost use Rattle.plain.specs.Plain.{unless_zero};
-ghost use Rattle.plain.specs.Encoding.{encode_multipliers};
+ghost use Rattle.plain.specs.Encoding.{encode_multipliers, encode_plain};
 ghost use Rattle.plain.specs.InTable.{Small, entry_in, products_in, half_in, left_in, subtracted_in, diagonal_in, linear_in, commands_in, encode_in};
-ghost use Rattle.plain.specs.Answer.{own_bytes, answer_of, plain_answer, plain_buffer};
+ghost use Rattle.plain.specs.Answer.{answer_of, plain_answer, plain_buffer};
 
+use bound::chosen::open_chosen;
 use forms::{SquareTable, WorkingTable};
-use scheme::{Quadratization, open_parts};
+use scheme::Quadratization;
 use wire::{Fault, Refusal, ToBytes, WriterAnswer};
 
 // The sum of the first n terms.
@@ -227,8 +228,8 @@ fn function_table(quadratization: &Quadratization) -> [i64; WorkingTable::NUMBER
 
 // Writes our own certificate of a quadratization, if the buffer is long enough. Returns how many bytes it has.
 fn plain_certificate(quadratization: &Quadratization, out: &mut [u8]) -> Result<usize, Fault>
-    ensures value { answer_of result ≡ bytes_answer (own_bytes quadratization.now.register quadratization.now.scheme) out.old }
-    ensures out_after { out.new ≡ with_front (own_bytes quadratization.now.register quadratization.now.scheme) out.old }
+    ensures value { answer_of result ≡ bytes_answer (encode_plain (coefficient quadratization.now.register) quadratization.now.register quadratization.now.scheme) out.old }
+    ensures out_after { out.new ≡ with_front (encode_plain (coefficient quadratization.now.register) quadratization.now.register quadratization.now.scheme) out.old }
 {
     let numbers = function_table(quadratization);
     let table = FunctionTable {
@@ -243,22 +244,27 @@ fn plain_certificate(quadratization: &Quadratization, out: &mut [u8]) -> Result<
     Ok(count)
 }
 
-// Writes our own certificate of two parts, each by itself.
-fn put_plain(register: &[u8], scheme: &[u8], out: &mut [u8]) -> Result<usize, Fault>
-    ensures value { answer_of result ≡ plain_answer register.now scheme.now out.old }
-    ensures out_after { out.new ≡ plain_buffer register.now scheme.now out.old }
+// Writes our own certificate of two parts, and of a plan where a term has a range, each by itself.
+fn put_plain(register: &[u8], scheme: &[u8], plan: &[u8], out: &mut [u8]) -> Result<usize, Fault>
+    ensures value { answer_of result ≡ plain_answer register.now scheme.now plan.now out.old }
+    ensures out_after { out.new ≡ plain_buffer register.now scheme.now plan.now out.old }
 {
-    let quadratization = open_parts(register, scheme)?;
+    let quadratization = open_chosen(register, scheme, plan)?;
     plain_certificate(&quadratization, out)
 }
 
-// The certificate of our own for a register and a scheme, each as a run of bytes by itself.
+// The certificate of our own for a register and a scheme, and for a plan where a term has a range, each as a run of bytes by itself.
 #[unsafe(no_mangle)]
-pub extern "C" fn feedcheck_plain(register: &[u8], scheme: &[u8], out: &mut [u8]) -> WriterAnswer
-    ensures value { result ≡ plain_answer register.now scheme.now out.old }
-    ensures out_after { out.new ≡ plain_buffer register.now scheme.now out.old }
+pub extern "C" fn feedcheck_plain(
+    register: &[u8],
+    scheme: &[u8],
+    plan: &[u8],
+    out: &mut [u8],
+) -> WriterAnswer
+    ensures value { result ≡ plain_answer register.now scheme.now plan.now out.old }
+    ensures out_after { out.new ≡ plain_buffer register.now scheme.now plan.now out.old }
 {
-    match put_plain(register, scheme, out) {
+    match put_plain(register, scheme, plan, out) {
         Ok(count) => WriterAnswer::written(count),
         Err(fault) => WriterAnswer::from_fault(fault),
     }

@@ -23,7 +23,8 @@ use Rattle.wire.specs.Results.{number_of}
 use Rattle.wire.specs.Writer.{refused_answer, written_answer}
 use Rattle.wire.proofs.Writer.{bytes_short, bytes_fit}
 use Rattle.plain.specs.InTable.{Small, commands_in, encode_in}
-use Rattle.plain.specs.Answer.{own_bytes, own_room}
+use Rattle.plain.specs.Encoding.{encode_plain}
+use Rattle.plain.specs.Answer.{own_room}
 use Rattle.plain.proofs.InTable.{table_small, commands_are, encode_is}
 use Rattle.plain.proofs.Encoded.{length-plain, plain_bytes, room_small}
 use Rattle.plain.proofs.plain_certificate.Goals as goal
@@ -33,6 +34,10 @@ module _ (r : Register) (s : Scheme) (register : R.Valid r) (scheme : Valid r s)
   abbrev N : ℕ
   N = variables r.choices s
 
+  -- those that are written
+  abbrev bytes : List ℕ
+  bytes = encode_plain (coefficient r) r s
+
   fits : side r.choices s * side r.choices s ≤ length (replicate table_numbers (pos 0))
   fits = rw length-replicate (side_square r s register.within scheme)
 
@@ -40,16 +45,16 @@ module _ (r : Register) (s : Scheme) (register : R.Valid r) (scheme : Valid r s)
   small = table_small (coefficient r) r s t _ e register scheme refl fits
 
   -- the count of bytes
-  counted : 14 + 10 * length (commands_in N t) ≡ length (own_bytes r s)
+  counted : 14 + 10 * length (commands_in N t) ≡ length bytes
   counted = ap (λ l. 14 + 10 * length l) (commands_are (coefficient r) r s t _ e) ∙ sym (length-plain (coefficient r) r s)
 
   -- x is how many commands there are
   module _ (x : ℕ) (f : x ≡ length (commands_in N t)) where
-    bytes_total : 14 + 10 * x ≡ length (own_bytes r s)
+    bytes_total : 14 + 10 * x ≡ length bytes
     bytes_total = ap (λ y. 14 + 10 * y) f ∙ counted
 
     total_few : 14 + 10 * x ≤ own_room
-    total_few = rw bytes_total (plain_bytes r s register scheme)
+    total_few = rw bytes_total (plain_bytes (coefficient r) r s register scheme)
 
   -- the base cost as the code passes it
   base_fits : SFits w64 (to_z w32 (of_z w32 r.base))
@@ -58,7 +63,7 @@ module _ (r : Register) (s : Scheme) (register : R.Valid r) (scheme : Valid r s)
   base_same : to_z w64 (of_z w64 (to_z w32 (of_z w32 r.base))) ≡ r.base
   base_same = cast_read w32 w64 r.base (omega arith) (fits_signed w32 r.base (omega (arith, register.within.base)))
 
-  encoded : (b : ℤ) → b ≡ r.base → encode_in N b t ≡ own_bytes r s
+  encoded : (b : ℤ) → b ≡ r.base → encode_in N b t ≡ bytes
   encoded b d = ap (λ x. encode_in N x t) d ∙ encode_is (coefficient r) r s t _ e
 
 pub invariant_of-table : goal.invariant_of-table
@@ -80,7 +85,7 @@ pub returns-then-out-count : goal.returns-then-out-count
 returns-then-out-count c =
     let q = c.args.quadratization.now in
     let e = bytes_total q.register q.scheme (valid_register q.register_valid) q.scheme_valid _ c.function_table-numbers.ensures _ c.command_count.ensures in
-    let y = bytes_short (own_bytes q.register q.scheme) c.args.out.now (rw (← e) c.if-out-count.true) in
+    let y = bytes_short (encode_plain (coefficient q.register) q.register q.scheme) c.args.out.now (rw (← e) c.if-out-count.true) in
     record { value = ap (λ f. refused_answer (number_of f.refusal) f.part f.position) c.nowhere.ensures ∙ y.0; out_after = y.1 }
 
 pub put_certificate-requires : goal.put_certificate-requires
@@ -101,7 +106,7 @@ returns c =
     let f = c.function_table-numbers.ensures in
     let same = ap (λ z. to_z w64 (of_z w64 z)) c.from.ensures ∙ base_same q.register q.scheme v q.scheme_valid _ f in
     let e = bytes_total q.register q.scheme v q.scheme_valid _ f _ c.command_count.ensures in
-    let y = bytes_fit (own_bytes q.register q.scheme) c.args.out.now (rw (← e) c.if-out-count.false) in
+    let y = bytes_fit (encode_plain (coefficient q.register) q.register q.scheme) c.args.out.now (rw (← e) c.if-out-count.false) in
     record {
       value = ap written_answer e ∙ y.0;
       out_after = c.put_certificate.ensures ∙ ap (written c.args.out.now 0) (encoded q.register q.scheme v q.scheme_valid _ f _ same) ∙ y.1;

@@ -84,7 +84,7 @@ module _ (c : After-put_residual) where
   in_range : (nat_abs read.value.target ≤ max_target) × ((1 ≤ read.value.scale) × (read.value.scale ≤ max_scale))
   in_range = let w = within reg sch s whole.0 read.end reads in rw (← whole.1.1) (w.target_within, (w.scale_above, w.scale_within))
 
-  after : c.put_residual.new.table ≡ with_residual reg sch (commands_in_job reg sch s) c.args.table.now
+  after : c.put_residual.new.table ≡ with_residual (coefficient reg) reg sch (commands_in_job reg sch s) c.args.table.now
   after = table_after reg sch s whole.0 read.end reads reg_within c.args.quadratization.now.scheme_valid c.args.table.now c.put_residual.new.table c.requires.table_numbers_in_bounds filled
 
   bounded : Bounded (side reg.choices sch) max_r c.put_residual.new.table

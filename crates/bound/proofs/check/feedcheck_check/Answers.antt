@@ -14,10 +14,10 @@ returns-in-Ok-clause-value c =
     let fits : SFits w64 c.in-Ok.bound = search rules in
     ap answered (to_z-of_z fits)
     ∙ ap (answer_by refused_answer answered) c.in-Ok.ensures.value
-    ∙ answer_is c.args.register.now c.args.scheme.now c.args.certificate.now c.args.table.now
+    ∙ answer_is c.args.register.now c.args.scheme.now c.args.certificate.now c.args.plan.now c.args.table.now
 
 pub returns-in-Err-clause-value : goal.returns-in-Err-clause-value
 returns-in-Err-clause-value c =
     ap (λ n. refused_answer n c.in-Err.fault.part c.in-Err.fault.position) c.number.ensures
     ∙ ap (answer_by refused_answer answered) c.in-Err.ensures.value
-    ∙ answer_is c.args.register.now c.args.scheme.now c.args.certificate.now c.args.table.now
+    ∙ answer_is c.args.register.now c.args.scheme.now c.args.certificate.now c.args.plan.now c.args.table.now

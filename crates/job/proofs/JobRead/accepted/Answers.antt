@@ -8,18 +8,18 @@ use mir.Val.{SFits, to_z, of_z, hbits}
 use Rattle.integers.proofs.Machine.{fits_signed, read_signed}
 use Rattle.integers.proofs.Order.{nat_abs_sub}
 use Rattle.register.specs.declared.Register.{Register}
-use Rattle.register.specs.Register.{coefficient}
 use Rattle.register.specs.Valid.{Within}
 use Rattle.certificate.specs.Limits.{max_target}
 use Rattle.plan.specs.Plan.{cost}
-use Rattle.plan.proofs.Bounds.{cost_small}
+use Rattle.plan.specs.Chosen.{chosen}
+use Rattle.plan.proofs.Bounds.{chosen_small}
 use Rattle.job.specs.declared.JobRead.{JobRead}
 use Rattle.job.specs.Answer.{accepted_read}
 use Rattle.job.proofs.JobRead.accepted.Goals as goal
 
-module _ (reg : Register) (plan : ℕ) (bound z : ℤ) (w : Within reg) (l : nat_abs bound ≤ max_target) (e : z ≡ cost (coefficient reg) reg plan) where
+module _ (reg : Register) (plan : ℕ) (bound z : ℤ) (w : Within reg) (l : nat_abs bound ≤ max_target) (e : z ≡ cost (chosen reg plan) reg plan) where
   small : nat_abs z ≤ 1_256_000_000
-  small = rw e (omega (arith, cost_small reg plan w))
+  small = rw e (omega (arith, chosen_small reg plan w))
 
   cost_read : to_z w64 (of_z w64 z) ≡ z
   cost_read = read_signed w64 z (omega (arith, small))
