@@ -1,31 +1,28 @@
 -- Acceptance, of our calls.
 use Prim.Native.Nat.{ℕ, zero, suc, ◌+◌, ◌^◌, ◌≤◌, ◌<◌}
-use native.Mathlib.Nat.{zero-add}
 use native.Mathlib.Omega.{arith}
 use mathlib.Core.Path.{◌≡◌, refl, sym, ◌∙◌, ap, ap₂, subst}
 use mathlib.Core.Bool.{Bool, true, false, true≢false, cond}
-use mathlib.Core.List.{List, ◌++◌}
+use mathlib.Core.List.{List}
 use lib.Dec.{ltb}
 use lib.IntN.{ℤ}
 use lib.Pow.{pow_pos}
-use lib.ListN.{length, drop}
+use lib.ListN.{length}
 use Rattle.integers.proofs.Lists.{flag}
 use Rattle.wire.specs.Number.{Bytes}
 use Rattle.wire.specs.Part.{accepted}
 use Rattle.wire.specs.Outcome.{Outcome, refuses, accepts, answer_by}
 use Rattle.wire.proofs.Outcome.{Numbered}
-use Rattle.wire.proofs.Encoding.{after_first}
 use Rattle.wire.proofs.Accepting.{reached}
 use Rattle.forms.specs.Table.{table_numbers}
 use Rattle.register.specs.declared.Register.{Register}
-use Rattle.register.specs.Register.{coefficient}
-use Rattle.register.specs.Format.{register_in_job, register_by_itself}
+use Rattle.register.specs.Register.{coefficient, has_range}
+use Rattle.register.specs.Format.{register_by_itself}
 use Rattle.register.specs.Answer.{register_answer}
 use Rattle.register.proofs.Accept as Ra
 use Rattle.register.proofs.Opened as RO
 use Rattle.scheme.specs.declared.Scheme.{Scheme}
 use Rattle.scheme.specs.Answer.{open_parts, scheme_answer}
-use Rattle.scheme.proofs.Accept as SA
 use Rattle.scheme.proofs.Whole.{answered, answer_iff}
 use Rattle.scheme.proofs.Opened.{Opened, opens, opened_encodings, opening_numbered, register_bytes, scheme_bytes, answer_opened}
 use Rattle.penalty.specs.declared.PenaltyAnswer.{PenaltyAnswer}
@@ -33,18 +30,24 @@ use Rattle.penalty.specs.Answer.{penalty_answer}
 use Rattle.penalty.specs.Answer as Penalty
 use Rattle.penalty.proofs.Answers as PenaltyCall
 use Rattle.penalty.proofs.Demand.{zeros_made}
+use Rattle.plan.specs.Chosen.{chosen}
 use Rattle.plan.specs.Fits.{Fits, fits}
 use Rattle.plan.proofs.Fits.{register_fits}
 use Rattle.plan.proofs.Answers.{costed, cost_encodings, costed_register, costed_valid, costed_plan}
-use Rattle.bound.specs.Format.{certificate_by_itself}
+use Rattle.certificate.specs.Format.{commands_in_job}
+use Rattle.bound.specs.Format.{certificate_in_job, certificate_by_itself}
 use Rattle.bound.specs.Check.{with_residual, check_answer, check_table}
-use Rattle.bound.proofs.Accept.{commands_accepted, whole_accepted, whole_valid, whole_encodes, encoding_accepted, encoding_front}
+use Rattle.bound.proofs.Accept.{commands_accepted, whole_accepted, whole_valid, whole_encodes, encoding_accepted}
+use Rattle.bound.proofs.Same.{residual_same}
+use Rattle.bound.proofs.Opening.{Chosen}
 use Rattle.bound.proofs.Answers.{after_certificate, parts_accepted, checked}
 use Rattle.job.specs.declared.Tally.{Tally}
-use Rattle.job.specs.Outcome.{Parts, table_after}
+use Rattle.job.specs.Outcome.{Parts, coefficients, table_after}
 use Rattle.job.specs.Tally.{suppliers}
 use Rattle.job.specs.Answer.{job_answer}
-use Rattle.job.specs.Valid.{Valid, Encodes}
+use Rattle.job.specs.Valid.{Valid}
+use Rattle.job.proofs.Turn.{same_chosen}
+use Rattle.job.proofs.EachRead.{Reads, AllRead}
 use Rattle.job.proofs.Accept as JA
 use Rattle.job.proofs.Suppliers as JS
 use Rattle.search.specs.Walk.{Best, is_left, start, visited, walk}
@@ -54,8 +57,9 @@ use Rattle.search.proofs.Walks.{walk_left, walk_full, walk_unfit, walk_on, unmet
 use Rattle.search.proofs.Cheapest.{found_least, found_met}
 use Rattle.search.proofs.Searched.{searched, within_limit}
 use Rattle.soundness.specs.Calls.{register_call, scheme_call, cost_call, penalty_call, check_call, job_call, search_call}
-use Rattle.soundness.specs.Parts.{Part1, Part2, with_r}
+use Rattle.soundness.specs.Parts.{with_r}
 use Rattle.soundness.specs.Acceptance.{OfCheck, OfJob, check_accepted, job_accepted, RegisterAcceptance, SchemeAcceptance, CostAcceptance, PenaltyAcceptance, CheckAcceptance, JobAcceptance, SearchAcceptance, Acceptance}
+use Rattle.soundness.proofs.Choosing.{opened_parts, choosing_of, chosen_parts}
 
 -- ---- part 1
 
@@ -70,9 +74,6 @@ of_register = record {
 
 opened_answer : (t s : List ℕ) (reg : Register) (sch : Scheme) → Opened t s reg sch → scheme_answer t s ≡ answered sch
 opened_answer t s reg sch o = rw (opens o)
-
-opened_parts : (t s : List ℕ) (reg : Register) (sch : Scheme) → Part1 t reg → Part2 reg s sch → Opened t s reg sch
-opened_parts t s reg sch p q = opened_encodings t s reg sch p.conditions p.bytes q.conditions q.bytes
 
 of_scheme : SchemeAcceptance scheme_call
 of_scheme = record {
@@ -101,34 +102,41 @@ of_cost = record {
   number_0 = λ t plan z. rw (costed t plan z).answers;
 }
 
--- ---- parts 1 to 3, and the table
+-- ---- the check, and the table
 
-module _ (t s k : List ℕ) (lent : List ℤ) (b : ℤ) (l : table_numbers ≤ length lent) (p : OfCheck t s k b) where
-  read_parts : Opened t s p.reg p.sch
-  read_parts = opened_parts t s p.reg p.sch p.part_1 p.part_2
+module _ (t s k q : List ℕ) (lent : List ℤ) (b : ℤ) (l : table_numbers ≤ length lent) (p : OfCheck t s k q b) where
+  abbrev c : ℕ → ℤ
+  c = chosen p.reg p.fed
 
-  read_third : certificate_by_itself (coefficient p.reg) p.reg p.sch k ≡ accepted (reached 0x3F p.cert) (length k)
-  read_third = encoding_accepted p.reg p.part_1.conditions p.sch p.part_2.conditions _ p.cert k p.part_3.conditions p.part_3.bytes
+  read_parts : Chosen t s q p.reg p.sch p.fed
+  read_parts = chosen_parts p.part_1 p.part_2 p.choosing
 
-  check_all : check_answer t s k lent ≡ check_accepted b
-  check_all = sym (parts_accepted t s k lent l p.reg p.sch read_parts).answers ∙ ap after_certificate read_third ∙ ap check_accepted (sym p.bound_is)
+  read_third : certificate_by_itself c p.reg p.sch k ≡ accepted (reached 0x3F p.cert) (length k)
+  read_third = encoding_accepted p.reg p.part_1.conditions p.sch p.part_2.conditions c p.cert k p.part_3.conditions p.part_3.bytes
 
-  check_table_lem : check_table t s k lent ≡ with_r p.reg p.sch p.cert lent
+  check_all : check_answer t s k q lent ≡ check_accepted b
+  check_all = sym (parts_accepted t s k q lent l p.reg p.sch p.fed read_parts).answers ∙ ap after_certificate read_third ∙ ap check_accepted (sym p.bound_is)
+
+  check_table_lem : check_table t s k q lent ≡ with_r c p.reg p.sch p.cert lent
   check_table_lem =
-      let (in_job, _) = whole_accepted p.reg p.sch _ k _ _ read_third in
-      let (commands, _) = commands_accepted p.reg p.sch _ k _ _ in_job in
-      sym (parts_accepted t s k lent l p.reg p.sch read_parts).holds ∙ ap (λ x. with_residual p.reg p.sch x lent) commands
+      let (in_job, _) = whole_accepted p.reg p.sch c k _ _ read_third in
+      let (commands, _) = commands_accepted p.reg p.sch c k _ _ in_job in
+      sym (parts_accepted t s k q lent l p.reg p.sch p.fed read_parts).holds ∙ ap (λ x. with_residual c p.reg p.sch x lent) commands
 
-check_only : (t s k : List ℕ) (lent : List ℤ) (b : ℤ) → Bytes t → Bytes s → Bytes k → check_answer t s k lent ≡ check_accepted b → OfCheck t s k b
-check_only t s k lent b b₁ b₂ b₃ e =
-    let c = checked t s k lent (ap (λ a. a.number) e) in
+check_only : (t s k q : List ℕ) (lent : List ℤ) (b : ℤ) → Bytes t → Bytes s → Bytes k → Bytes q → check_answer t s k q lent ≡ check_accepted b → OfCheck t s k q b
+check_only t s k q lent b b₁ b₂ b₃ b₄ e =
+    let c = checked t s k q lent (ap (λ a. a.number) e) in
+    let o = c.opens.parts in
+    let d = chosen c.reg c.plan in
     record {
       reg = c.reg;
       sch = c.sch;
+      fed = c.plan;
       cert = c.read.parsed;
-      part_1 = record { conditions = c.parts.register_valid; bytes = register_bytes t s c.reg c.sch c.parts b₁ };
-      part_2 = record { conditions = c.parts.scheme_valid; bytes = scheme_bytes t s c.reg c.sch c.parts };
-      part_3 = record { conditions = whole_valid c.reg c.sch _ k c.read c.end c.reads; bytes = whole_encodes c.reg c.sch _ k c.read c.end c.reads b₃ };
+      part_1 = record { conditions = o.register_valid; bytes = register_bytes t s c.reg c.sch o b₁ };
+      part_2 = record { conditions = o.scheme_valid; bytes = scheme_bytes t s c.reg c.sch o };
+      choosing = choosing_of c.opens b₄;
+      part_3 = record { conditions = whole_valid c.reg c.sch d k c.read c.end c.reads; bytes = whole_encodes c.reg c.sch d k c.read c.end c.reads b₃ };
       bound_is = ap (λ a. a.bound) (sym e ∙ c.answers);
     }
 
@@ -137,8 +145,8 @@ of_check = record {
   all = check_all;
   table_back = check_table_lem;
   only = check_only;
-  number_0 = λ t s k lent z. rw (checked t s k lent z).answers;
-  short = λ t s k lent l z. absurd (omega (arith, (checked t s k lent z).long));
+  number_0 = λ t s k q lent z. rw (checked t s k q lent z).answers;
+  short = λ t s k q lent l z. absurd (omega (arith, (checked t s k q lent z).long));
 }
 
 -- ---- a job, and the table
@@ -147,22 +155,27 @@ job_all : (job : List ℕ) (lent : List ℤ) (supplier : ℕ) (tally : Tally) (b
 job_all job lent supplier tally b z k l p =
     JA.answer_accepted job lent supplier tally p.parts k l p.conditions p.bytes ∙ ap₂ (λ b z. job_accepted b z supplier tally) (sym p.bound_is) (sym p.cost_is)
 
--- the parts are read one after the other, and of the third only its commands
-job_table_lem : (job : List ℕ) (lent : List ℤ) (p : Parts) → Valid p → Encodes p job → table_after job lent ≡ with_r p.register p.scheme p.certificate lent
-unfolding table_after
-job_table_lem job lent p v k =
-    let reg = p.register in
-    let sch = p.scheme in
-    let one = k.first in
-    let two = k.second in
-    let four = k.fourth in
-    let behind_1 : drop (length one) job ≡ two ++ (k.third ++ four) = ap (λ n. drop n job) (sym (zero-add (length one))) ∙ after_first job 0 (length one) one _ refl k.bytes in
-    let behind_2 = after_first job (length one) (length two) two (k.third ++ four) refl behind_1 in
-    let first = ap register_in_job k.bytes ∙ Ra.register_accepted reg one (two ++ (k.third ++ four)) v.register k.register in
-    let second = SA.scheme_accepted reg v.register sch two (k.third ++ four) v.scheme k.scheme in
-    let third = encoding_front reg v.register sch v.scheme (coefficient reg) p.certificate k.third four v.certificate k.certificate in
-    let (commands, _) = commands_accepted reg sch (coefficient reg) (k.third ++ four) _ _ third in
-    rw (first, behind_1, second, behind_2, commands)
+-- the parts before the certificate are read in their order, and of the certificate only its commands
+module _ (s : List ℕ) (lent : List ℤ) (p : Parts) (v : Valid p) (a : AllRead s p) where
+  held : (x : List ℕ) → Reads (certificate_in_job (coefficients p) p.register p.scheme x) p.certificate a.three →
+      with_residual (coefficients p) p.register p.scheme (commands_in_job p.register p.scheme x) lent ≡ with_r (coefficients p) p.register p.scheme p.certificate lent
+  held x r =
+      let (commands, _) = commands_accepted p.register p.scheme (coefficients p) x _ _ r.is in
+      ap (λ y. with_residual (coefficients p) p.register p.scheme y lent) commands
+
+  -- where the register has no range, the plan has not been read, but makes no difference
+  job_table_lem : table_after s lent ≡ with_r (coefficients p) p.register p.scheme p.certificate lent
+  unfolding table_after
+  job_table_lem =
+      rw a.register.is (flag (has_range p.register)
+      (λ t.
+      let plan = rw t at a.plan.is in
+      let certificate = rw t at a.certificate in
+      rw (t, a.scheme.is, plan) (held _ certificate))
+      (λ t.
+      let certificate = rw t at a.certificate in
+      let same = same_chosen p.register v.register.within t 0 p.plan in
+      rw (t, a.scheme.is) (residual_same (chosen p.register 0) (coefficients p) p.register p.scheme (λ i l. same i) _ lent ∙ held _ certificate)))
 
 job_only : (job : List ℕ) (lent : List ℤ) (supplier : ℕ) (tally : Tally) (b z : ℤ) → Bytes job → job_answer job lent supplier tally ≡ job_accepted b z supplier tally → OfJob job b z
 job_only job lent supplier tally b z bytes e =
@@ -172,7 +185,7 @@ job_only job lent supplier tally b z bytes e =
 of_job : JobAcceptance job_call
 of_job = record {
   all = job_all;
-  table_back = λ job lent supplier tally b z k l p. (JS.table_enough job lent supplier tally k l).1 ∙ job_table_lem job lent p.parts p.conditions p.bytes;
+  table_back = λ job lent supplier tally b z k l p. (JS.table_enough job lent supplier tally k l).1 ∙ job_table_lem job lent p.parts p.conditions (JA.encoded_read p.parts p.conditions job p.bytes);
   only = job_only;
   number_0 = λ job lent supplier tally z. rw (JA.answered job lent supplier tally z).answers;
   short = λ job lent supplier tally l z. absurd (omega (arith, (JA.answered job lent supplier tally z).long));

@@ -12,7 +12,6 @@ use Rattle.integers.specs.Quadratic.{DiagonallyDominant}
 use Rattle.integers.proofs.Lists.{All-map}
 use Rattle.forms.specs.Form.{Form, mono, times, entry}
 use Rattle.register.specs.declared.Register.{Register}
-use Rattle.register.specs.Register.{coefficient}
 use Rattle.scheme.specs.declared.Scheme.{Scheme}
 use Rattle.scheme.specs.Scheme.{side}
 use Rattle.scheme.specs.Function.{g}
@@ -80,8 +79,8 @@ same_r c reg sch cert d = ap (λ (b : ℕ → ℕ → ℤ). λ i j. b i j -ℤ s
 
 -- ---- part 3
 
-module _ (reg : Register) (sch : Scheme) (certificate : List ℕ) (cert : Certificate) where
-  pub to_before : (Part3 reg sch certificate cert × NoRowMultiplier cert) → Part3BeforeRows reg sch certificate cert
+module _ (c : ℕ → ℤ) (reg : Register) (sch : Scheme) (certificate : List ℕ) (cert : Certificate) where
+  pub to_before : (Part3 c reg sch certificate cert × NoRowMultiplier cert) → Part3BeforeRows c reg sch certificate cert
   to_before (p, d) = let w = p.conditions.within in record {
     within = record {
       scale_above = w.scale_above;
@@ -92,14 +91,14 @@ module _ (reg : Register) (sch : Scheme) (certificate : List ℕ) (cert : Certif
       squares_within = w.squares_within;
       squares = w.squares;
     };
-    carried = subst (DiagonallyDominant (side reg.choices sch)) (same_r (coefficient reg) reg sch cert d) p.conditions.carried;
+    carried = subst (DiagonallyDominant (side reg.choices sch)) (same_r c reg sch cert d) p.conditions.carried;
     bytes = p.bytes;
   }
 
-  none_said : Part3BeforeRows reg sch certificate cert → NoRowMultiplier cert
+  none_said : Part3BeforeRows c reg sch certificate cert → NoRowMultiplier cert
   none_said p = All-map (AllowedBeforeRows reg sch) NoRow (none_before reg sch) cert.multipliers p.within.multipliers
 
-  pub from_before : Part3BeforeRows reg sch certificate cert → Part3 reg sch certificate cert × NoRowMultiplier cert
+  pub from_before : Part3BeforeRows c reg sch certificate cert → Part3 c reg sch certificate cert × NoRowMultiplier cert
   from_before p = let w = p.within in let d = none_said p in (
     record {
       conditions = record {
@@ -112,7 +111,7 @@ module _ (reg : Register) (sch : Scheme) (certificate : List ℕ) (cert : Certif
           squares_within = w.squares_within;
           squares = w.squares;
         };
-        carried = subst (DiagonallyDominant (side reg.choices sch)) (sym (same_r (coefficient reg) reg sch cert d)) p.carried;
+        carried = subst (DiagonallyDominant (side reg.choices sch)) (sym (same_r c reg sch cert d)) p.carried;
       };
       bytes = p.bytes;
     },
@@ -121,7 +120,7 @@ module _ (reg : Register) (sch : Scheme) (certificate : List ℕ) (cert : Certif
 
 pub as_before_row_multipliers : AsBeforeRowMultipliers
 as_before_row_multipliers = record {
-  part_3 = λ reg sch certificate cert. (to_before reg sch certificate cert, from_before reg sch certificate cert);
+  part_3 = λ c reg sch certificate cert. (to_before c reg sch certificate cert, from_before c reg sch certificate cert);
   table_b = same_b;
   table_r = same_r;
 }

@@ -15,11 +15,13 @@ use Rattle.wire.specs.Refused.{RefusedByItself}
 use Rattle.register.specs.declared.Register.{Register}
 use Rattle.register.specs.Register.{fresh, coefficient}
 use Rattle.register.specs.Format.{register_rows, register_part, register_by_itself}
-use Rattle.register.specs.Encoding.{SaysRow}
+use Rattle.register.specs.Encoding.{SaysRow, SaysRange}
 use Rattle.register.specs.Answer.{register_answer}
 use Rattle.register.specs.BeforeRows.{by_itself_before_rows}
 use Rattle.register.proofs.Accept.{encoding_accepted}
-use Rattle.register.proofs.BeforeRows.{as_before_rows, no_rows}
+use Rattle.register.proofs.SaysRow.{no_rows}
+use Rattle.register.proofs.BeforeRows.{as_before_rows}
+use Rattle.register.proofs.BeforeRanges.{as_before_ranges}
 use Rattle.plan.specs.Fits.{fits}
 use Rattle.plan.specs.Plan.{cost}
 use Rattle.plan.specs.Format.{plan_by_itself}
@@ -38,6 +40,7 @@ use Rattle.soundness.specs.Acceptance.{OfSearch}
 use Rattle.soundness.specs.Demand3.{register_of}
 use Rattle.soundness.specs.Refusals.{InRegister, PastLimit, NoneFits}
 use Rattle.soundness.specs.BeforeRows.{walk_before_rows, search_before_rows, within_limit_before_rows, search_answer_before_rows, OfSearchBeforeRows, SearchAsBeforeRows, cost_answer_before_rows, CostAsBeforeRows}
+use Rattle.soundness.proofs.BeforeRanges.{cost_before}
 use Rattle.soundness.proofs.Acceptance.{acceptance}
 use Rattle.soundness.proofs.Refusals.{search_refusals}
 use Rattle.soundness.proofs.Misfit.{never, register_never, only_misfit}
@@ -84,9 +87,9 @@ module _ (t : List ℕ) (limit : ℕ) (none : SaysRow t → ⊥) where
   of_reading (refused n at) e = refl
   of_reading (accepted p end) e = ap (answer_by refused_search accepted_search) (limited p.parsed (ap (λ w. w.0) (no_rows t none e)) limit)
 
-  answers : search_answer t limit ≡ search_answer_before_rows t limit
+  answers : (SaysRange t → ⊥) → search_answer t limit ≡ search_answer_before_rows t limit
   unfolding search_answer search_answer_before_rows
-  answers = let e = as_before_rows t none in rw e (of_reading (by_itself_before_rows t) e)
+  answers no_range = let e = as_before_rows t none no_range in rw e (of_reading (by_itself_before_rows t) e)
 
 -- the register that is right is the one answered
 right_is : (t : List ℕ) (r : Register) → Part1 t r → register_of t ≡ r
@@ -161,9 +164,12 @@ module _ (t plan : List ℕ) (none : SaysRow t → ⊥) where
       ap (λ x. answer_by refused_cost accepted_cost (and_then (given 4 x) λ q. accepts (cost (coefficient p.parsed) p.parsed q)))
       (plan_as_before_rows p.parsed (ap (λ w. w.0) (no_rows t none e)) plan)
 
-  cost_answers : cost_answer t plan ≡ cost_answer_before_rows t plan
-  unfolding cost_answer cost_answer_before_rows
-  cost_answers = let e = as_before_rows t none in rw e (cost_of_reading (by_itself_before_rows t) e)
+  -- without ranges too, each plan having the register's own coefficients
+  cost_answers : (SaysRange t → ⊥) → cost_answer t plan ≡ cost_answer_before_rows t plan
+  unfolding cost_answer_before_rows
+  cost_answers no_range =
+      let e = as_before_rows t none no_range in
+      cost_before t plan no_range ∙ rw (← as_before_ranges t no_range, e) (cost_of_reading (by_itself_before_rows t) e)
 
 never_15 : (t plan : List ℕ) → Bytes t → Bytes plan → (register_of t).rows ≡ 0 → (cost_call t plan).number ≡ 15 → ⊥
 never_15 t plan b b' none e =

@@ -8,16 +8,17 @@ use mathlib.Core.List.{List, [], ◌∷◌, ◌++◌, append-nil}
 use lib.Dec.{ltb}
 use lib.IntN.{ℤ, pos, nat_abs}
 use lib.ListN.{length, drop}
-use Rattle.integers.specs.Lists.{join_below}
+use Rattle.integers.specs.Lists.{All, join_below}
+use Rattle.integers.proofs.Lists.{flag}
 use Rattle.integers.proofs.Entries.{table_each}
 use Rattle.wire.specs.Part.{Reading, refused, accepted}
 use Rattle.wire.specs.Rows.{Progress}
 use Rattle.wire.specs.Outcome.{Outcome, refuses, accepts, next, and_then, starting_at, added_by}
 use Rattle.wire.proofs.Encoding.{by_itself_accepted}
-use Rattle.wire.proofs.Outcome.{next_by, next_at, itself_refused, refused_itself}
+use Rattle.wire.proofs.Outcome.{next_by, itself_refused, refused_itself}
 use Rattle.register.specs.declared.Register.{Register}
 use Rattle.register.specs.Limits.{max_base, max_tank, usual_day, long_day}
-use Rattle.register.specs.Register.{tank, minute, coefficient, fresh, set_length, with_base, with_length, with_choice}
+use Rattle.register.specs.Register.{tank, minute, has_range, fresh, set_length, with_base, with_length, with_choice}
 use Rattle.register.specs.Valid.{DayLength, Within, Valid}
 use Rattle.register.specs.Encoding.{encode_base, encode_length, encode_choice, encode_with_length, encode_without_length, encode_register, SaysLength, length_in}
 use Rattle.register.specs.Ranges.{OutOfRange}
@@ -36,15 +37,17 @@ use Rattle.scheme.specs.Format.{scheme_in_job}
 use Rattle.bound.specs.Format.{certificate_in_job}
 use Rattle.plan.specs.Format.{plan_in_job}
 use Rattle.job.specs.declared.Tally.{Tally}
-use Rattle.job.specs.Outcome.{Parts, of_register, with_scheme, with_certificate, with_plan, JobPart, part_three, part_four, in_turn, ended, outcome}
-use Rattle.job.specs.Rest.{rest, from_scheme}
+use Rattle.job.specs.Outcome.{Parts, coefficients, of_register, with_scheme, with_certificate, with_plan, JobPart, order, last_of, in_turn, ended, outcome}
 use Rattle.job.specs.Answer.{after_job, job_answer}
+use Rattle.job.proofs.Turn.{of_order, follow}
 use Rattle.job.proofs.Suppliers.{of_three}
 use Rattle.soundness.specs.Calls.{register_call, cost_call, job_call, listing_call}
 use Rattle.soundness.specs.Jobs.{Accepted}
 use Rattle.soundness.specs.DayLengths.{OfDay, KeepsLength, FeedsOfDay, JobOfDay, UsualDay, ValidBeforeLengths, bytes_before_lengths, LengthsKept, AsBeforeLengths}
+use Rattle.soundness.specs.BeforeRanges.{without_ranges}
 use Rattle.soundness.specs.Windows.{without_rows}
 use Rattle.soundness.proofs.Written.{unsaid, says_length_iff}
+use Rattle.soundness.proofs.BeforeRanges.{terms_before, encoded_before}
 use Rattle.soundness.proofs.Jobs.{accepted_job, accepted_leads}
 use Rattle.soundness.proofs.Windows.{register_valid, accepted_valid, fed_lines_lem, windows_kept}
 
@@ -101,14 +104,14 @@ longest_valid reg v = other_valid reg v long_day (inr (inr refl)) (of_longest re
 own_valid : (reg : Register) → Valid (set_length reg long_day) → DayLength reg.day_length → OfDay reg.day_length reg → Valid reg
 own_valid reg v d o = other_valid (set_length reg long_day) v reg.day_length d (record { minutes = o.minutes; froms = o.froms; tos = o.tos })
 
--- without rows, by the conditions that were
-before_lengths : (reg : Register) → Valid (without_rows reg) → reg.day_length ≡ usual_day → ValidBeforeLengths reg
+-- without rows and ranges, by the conditions that were
+before_lengths : (reg : Register) → Valid (without_rows (without_ranges reg)) → reg.day_length ≡ usual_day → ValidBeforeLengths reg
 before_lengths reg v day = record {
   base = v.within.base;
   tanks = v.within.choices.tanks;
   minutes = v.within.choices.minutes;
   choices = table_each (λ i l c. record { tank_above = c.tank_above; tank_within = c.tank_within; minute_within = omega (arith, c.minute_below) }) v.within.choices.table;
-  terms = v.within.terms;
+  terms = (terms_before reg.choices reg.terms reg.masks reg.coefficients).0 v.within.terms;
   window_tanks = v.within.windows.tanks;
   window_froms = v.within.windows.froms;
   window_tos = v.within.windows.tos;
@@ -118,7 +121,7 @@ before_lengths reg v day = record {
 }
 
 -- and by those that are now
-now_valid : (reg : Register) → ValidBeforeLengths reg → reg.day_length ≡ usual_day → Valid (without_rows reg)
+now_valid : (reg : Register) → ValidBeforeLengths reg → reg.day_length ≡ usual_day → Valid (without_rows (without_ranges reg))
 now_valid reg b day = record {
   within = record {
     base = b.base;
@@ -128,7 +131,7 @@ now_valid reg b day = record {
       minutes = b.minutes;
       table = table_each (λ i l c. record { tank_above = c.tank_above; tank_within = c.tank_within; minute_below = omega (arith, c.minute_within) }) b.choices;
     };
-    terms = b.terms;
+    terms = (terms_before reg.choices reg.terms reg.masks reg.coefficients).1 b.terms;
     windows = record {
       tanks = b.window_tanks;
       froms = b.window_froms;
@@ -142,9 +145,9 @@ now_valid reg b day = record {
   some_choice = b.some_choice;
 }
 
-bytes_before : (reg : Register) → encode_without_length (without_rows reg) ≡ bytes_before_lengths reg
+bytes_before : (reg : Register) → encode_without_length (without_rows (without_ranges reg)) ≡ bytes_before_lengths reg
 unfolding join_below
-bytes_before reg = simp append-nil
+bytes_before reg = rw (encoded_before reg) (simp append-nil)
 
 -- ---- an accepted register
 
@@ -156,32 +159,53 @@ register_keeps s z =
 
 -- ---- part 1 at the front of a job
 
+-- a part behind it, whatever reading it leads to, keeps the register
+
+abbrev Kept : Register → Reading Parts → Type 0
+Kept reg (refused n at) = Unit {0}
+Kept reg (accepted p end) = p.register ≡ reg
+
+abbrev Later : JobPart → Type 0
+Later k = (1 < k.number) × ((p : Parts) (x : List ℕ) → Kept p.register (k.reads p x))
+
+added : {A : Type 0} (reg : Register) (add : A → Parts) → ((a : A) → (add a).register ≡ reg) → (x : Reading (Progress A)) → Kept reg (added_by add x)
+added reg add h (refused n at) = tt
+added reg add h (accepted p end) = h p.parsed
+
+each_later : (reg : Register) → All Later (order reg)
+each_later = of_order Later
+    (omega arith, λ p x. added p.register (with_scheme p) (λ a. refl) (scheme_in_job p.register x))
+    (omega arith, λ p x. added p.register (with_certificate p) (λ a. refl) (certificate_in_job (coefficients p) p.register p.scheme x))
+    (omega arith, λ p x. added p.register (with_plan p) (λ a. refl) (plan_in_job p.register x))
+
+last_later : (reg : Register) → 1 < last_of 1 (order reg)
+last_later reg = flag (has_range reg) (λ t. rw t (omega arith)) (λ t. rw t (omega arith))
+
 module _ (s : List ℕ) (Q : Register → Type 0) where
   -- a refusal of part 1 is that of its reading, and the register of an accepted job has Q
   abbrev pub First : Outcome Parts → Type 0
   First (refuses n part at) = part ≡ 1 → register_in_job s ≡ refused n at
   First (accepts p) = Q p.register
 
-  follows : {A : Type 0} (part from : ℕ) (add : A → Parts) (x : Reading (Progress A)) (ks : List JobPart) → 1 < part →
-      ((read : Progress A) (end : ℕ) → First (rest s ks (add read.parsed) (from + end))) → First (and_then (next part (starting_at from (added_by add x)) (in_turn ks s)) (ended 4 s))
-  follows part from add x ks l h = next_at (λ o. First (and_then o (ended 4 s))) part from add x (in_turn ks s) (λ n at e z. absurd (omega arith)) (λ read end e. h read end)
-
-  from_scheme_lem : (reg : Register) (from : ℕ) → Q reg → First (from_scheme s reg from)
-  from_scheme_lem reg from said =
-      follows 2 from (with_scheme (of_register reg)) (scheme_in_job reg (drop from s)) (part_three ∷ part_four ∷ []) (omega arith) λ two end.
-      let sch = two.parsed in
-      follows 3 (from + end) (with_certificate (with_scheme (of_register reg) sch)) (certificate_in_job (coefficient reg) reg sch (drop (from + end) s)) (part_four ∷ []) (omega arith) λ three later.
-      follows 4 (from + end + later) (with_plan (with_certificate (with_scheme (of_register reg) sch) three.parsed)) (plan_in_job reg (drop (from + end + later) s)) [] (omega arith) λ four last.
-      past (ltb (from + end + later + last) (length s)) (from + end + later + last) _ said
+  -- the parts behind it keep the register
+  turned : (last : ℕ) → 1 < last → (ks : List JobPart) → All Later ks → (p : Parts) (from : ℕ) → Q p.register → First (follow s last ks p from)
+  turned last l [] h p from q = past (ltb from (length s))
     where
-      past : (t : Bool) (at : ℕ) (p : Parts) → Q p.register → First (cond t (refuses 12 4 at) (accepts p))
-      past true at p e = λ z. absurd (omega arith)
-      past false at p e = e
+      past : (t : Bool) → First (cond t (refuses 12 last from) (accepts p))
+      past true = λ z. absurd (omega arith)
+      past false = q
+  turned last l (k ∷ ks) h p from q = go (k.reads p (drop from s)) (h.0.1 p (drop from s)) (turned last l ks h.1)
+    where
+      go : (x : Reading Parts) → Kept p.register x → ((q : Parts) (from : ℕ) → Q q.register → First (follow s last ks q from)) → First (and_then (next k.number (starting_at from x) (in_turn ks s)) (ended last s))
+      go (refused n at) e more = λ z. absurd (omega (arith, h.0.0))
+      go (accepted next end) e more = more next (from + end) (subst Q (sym e) q)
 
   -- where each register that is read at its front does
   pub first : ((p : Progress Register) (end : ℕ) → register_in_job s ≡ accepted p end → Q p.parsed) → First (outcome s)
   unfolding outcome
-  first h = next_by First 1 (register_in_job s) (λ one end. from_scheme s one.parsed end) (λ n at x _. x) (λ one end x. from_scheme_lem one.parsed end (h one end x))
+  first h =
+      next_by First 1 (register_in_job s) (λ one end. let reg = one.parsed in follow s (last_of 1 (order reg)) (order reg) (of_register reg) end) (λ n at x _. x)
+      (λ one end x. let reg = one.parsed in turned (last_of 1 (order reg)) (last_later reg) (order reg) (each_later reg) (of_register reg) end (h one end x))
 
 -- it has the length that the job says
 abbrev SaidBy : List ℕ → Register → Type 0
@@ -293,7 +317,7 @@ lengths_kept = record {
       let not_said = accepted_valid (encode_without_length reg) reg (encodes_without reg day) in
       ((λ e. not_said.1 (said.0 e)), λ e. said.1 (not_said.0 e));
   usual = usual;
-  read_as_before = λ register none no_row_lem. ap register_answer (as_before_lengths register none no_row_lem);
+  read_as_before = λ register none no_row_lem no_range. ap register_answer (as_before_lengths register none no_row_lem no_range);
 }
 
 pub kept_before_lengths : AsBeforeLengths
@@ -303,7 +327,7 @@ kept_before_lengths = record {
   in_job = as_before_lengths_in_job;
   by_itself = as_before_lengths;
   part_1 = λ register reg none.
-      let one = unsaid (without_rows reg) register none in (
+      let one = unsaid (without_rows (without_ranges reg)) register none in (
         (λ p. let (day, e) = one.0 p.bytes in (before_lengths reg p.conditions day, day, e ∙ bytes_before reg)),
         (λ (b, day, e). record { conditions = now_valid reg b day; bytes = one.1 (day, e ∙ sym (bytes_before reg)) }),
       );

@@ -10,6 +10,7 @@ use Rattle.plan.proofs.Fits.{every_fits}
 use Rattle.soundness.specs.Calls.{PenaltyCall, CheckCall, PlainCall, penalty_call, check_call, plain_call}
 use Rattle.soundness.specs.Demand3.{register_of, Plan, FitsPlan, FitsFilling, Demand3, Demand3Every}
 use Rattle.soundness.proofs.Ours.{demand3}
+use Rattle.soundness.proofs.Known.{with_low}
 
 -- where P holds of all, least where P holds is least
 
@@ -32,7 +33,8 @@ without_rows penalty check plain demand = record {
         demand = d;
         least = record { least = e.least; of_first = wider e.of_first fillings; of_second = wider e.of_second plans };
         minimisers = λ m h z. d.minimisers m (narrower h fillings) z (fillings z);
-        bounds = λ certificate n plan. d.bounds certificate n plan (plans plan);
+        bounds = λ q fed k certificate n other p. (d.with_plan q fed k).bounds certificate n other (plans other);
+        bounds_known = λ none q certificate n other p. (with_low penalty check plain t s table d none q).bounds certificate n other (plans other);
       };
   all_accepted = demand.all_accepted;
 }

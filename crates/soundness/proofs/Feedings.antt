@@ -11,22 +11,18 @@ use lib.IntN.{ℤ, pos, ◌+ℤ◌, +ℤ_idr}
 use lib.ListN.{length, get_or, length-append, get_or-append}
 use lib.Seq.{get_or_at}
 use borrow.Author.Tests.{eqb-true, eqb-false, eq-eqb}
-use Rattle.integers.proofs.Lists.{◌▹◌, flag, and_both}
+use Rattle.integers.proofs.Lists.{flag, and_both}
 use Rattle.integers.proofs.Entries.{below_or_last}
 use Rattle.sets.specs.Sets.{is_member}
-use Rattle.wire.specs.Part.{Reading, refused, accepted, after_at, read_part}
-use Rattle.wire.specs.Rows.{Progress, row_of}
-use Rattle.wire.proofs.Part.{Ways, by_ways}
-use Rattle.wire.proofs.Rest.{no_row_lem, by_bytes}
+use Rattle.wire.specs.Part.{accepted}
+use Rattle.wire.specs.Rows.{Progress}
 use Rattle.register.specs.declared.Register.{Register}
 use Rattle.register.specs.Register.{tank, minute, row_total, row_entry}
 use Rattle.register.specs.Register.{fresh}
 use Rattle.register.specs.Valid.{Valid}
 use Rattle.register.specs.Format.{register_in_job}
 use Rattle.register.specs.Encoding.{SaysRow}
-use Rattle.register.specs.BeforeRows.{rows_before_rows, part_before_rows, in_job_before_rows}
-use Rattle.register.proofs.SaysRow.{said_in_job}
-use Rattle.register.proofs.BeforeRows.{as_before_rows_in_job}
+use Rattle.register.proofs.SaysRow.{said_in_job, no_rows_in_job}
 use Rattle.plan.specs.Fits.{fed_sum}
 use Rattle.plan.proofs.Fits.{fed_sum-zero, fed_sum-suc}
 use Rattle.job.specs.declared.Tally.{Tally}
@@ -148,34 +144,9 @@ module _ (job : List ℕ) (table : List ℤ) (supplier : ℕ) (tally : Tally) (j
 
 -- ---- a job that says no row
 
--- before there were rows no command gave one
-
-module _ (s : List ℕ) where
-  abbrev Kept : Reading (Progress Register) → Type 0
-  Kept (refused n at) = Unit {0}
-  Kept (accepted p end) = p.parsed.rows ≡ 0
-
-  keeps : (p : Progress Register) (at : ℕ) → (after_at part_before_rows s p at).parsed.rows ≡ p.parsed.rows
-  unfolding after_at row_of
-  keeps p at =
-      let Q : ℕ → Type 0 = λ b. (xs : List ℕ) → ((row_of rows_before_rows b).after p.parsed xs).rows ≡ p.parsed.rows in
-      by_bytes Q rows_before_rows (get_or s at 0) (λ n xs. ap (λ row. (row.after p.parsed xs).rows) (no_row_lem rows_before_rows (get_or s at 0) n))
-      ((λ xs. refl) ▹ (λ xs. refl) ▹ (λ xs. refl) ▹ (λ xs. refl) ▹ (λ xs. refl) ▹ (λ xs. refl) ▹ tt) _
-
-  none_before : Kept (in_job_before_rows s)
-  unfolding in_job_before_rows read_part fresh
-  none_before = by_ways part_before_rows s (λ p at x. p.parsed.rows ≡ 0 → Kept x) ways part_before_rows.start 0 refl
-    where
-      ways : Ways part_before_rows s (λ p at x. p.parsed.rows ≡ 0 → Kept x)
-      ways = record {
-        missing = λ p at l e. tt;
-        refuses = λ p at n l e d k. tt;
-        goes = λ p at x h l rest e. rest (keeps p at ∙ e);
-        ends = λ p at h l e. keeps p at ∙ e;
-      }
-
-  none_read : (SaysRow s → ⊥) → (p : Progress Register) (end : ℕ) → register_in_job s ≡ accepted p end → p.parsed.rows ≡ 0
-  none_read none p end e = let k : Kept (accepted p end) = rw (sym (as_before_rows_in_job s none) ∙ e) at none_before in k
+none_read : (s : List ℕ) → (SaysRow s → ⊥) → (p : Progress Register) (end : ℕ) → register_in_job s ≡ accepted p end → p.parsed.rows ≡ 0
+unfolding fresh
+none_read s none p end e = ap (λ w. w.0) (no_rows_in_job s none e)
 
 pub job_fits : (job : List ℕ) (table : List ℤ) (supplier : ℕ) (tally : Tally) → Accepted job_call listing_call job table supplier tally → JobFits job_call listing_call job table supplier tally
 job_fits job table supplier tally z =

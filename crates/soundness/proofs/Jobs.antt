@@ -1,7 +1,7 @@
 -- What our job call and our listing call say of a job.
 use Prim.Native.Nat.{ℕ, ◌≤◌, ◌<◌}
 use native.Mathlib.Omega.{arith}
-use mathlib.Core.Path.{◌≡◌, refl, sym, ◌∙◌, ap}
+use mathlib.Core.Path.{◌≡◌, refl, sym, ◌∙◌, ap, subst}
 use mathlib.Core.List.{List, [], ◌∷◌, ◌++◌}
 use lib.IntN.{ℤ, pos, ◌-ℤ◌}
 use lib.ListN.{length}
@@ -10,14 +10,13 @@ use borrow.Author.Tests.{eq-eqb, ne_eqb}
 use Rattle.integers.specs.Lists.{All}
 use Rattle.integers.proofs.Diff.{diff₂, diffs}
 use Rattle.forms.specs.Table.{table_numbers}
-use Rattle.register.specs.Register.{coefficient}
 use Rattle.bound.proofs.Bound.{plan_bound, every_plan_bound}
 use Rattle.plan.specs.Fits.{Fits}
 use Rattle.text.specs.Text.{line}
 use Rattle.job.specs.declared.Tally.{Tally}
 use Rattle.wire.specs.Outcome.{Outcome, refuses, accepts}
 use Rattle.wire.proofs.Outcome.{accepts_one}
-use Rattle.job.specs.Outcome.{Parts, outcome, bound_of, cost_of, gap_of}
+use Rattle.job.specs.Outcome.{Parts, coefficients, outcome, bound_of, cost_of, gap_of}
 use Rattle.job.specs.Tally.{suppliers}
 use Rattle.job.specs.Answer.{after_job, job_answer}
 use Rattle.job.proofs.Suppliers.{table_enough}
@@ -30,7 +29,8 @@ use Rattle.listing.proofs.Outcome.{listing_short}
 use Rattle.listing.proofs.Answers.{enough, handed_back}
 use Rattle.listing.proofs.Lines.{lines_without, same_plan, same_lines}
 use Rattle.soundness.specs.Calls.{job_call, listing_call}
-use Rattle.soundness.specs.Jobs.{before, shown_plan, plan_cost, Listed, AcceptedJob, JobsSound}
+use Rattle.soundness.specs.Jobs.{before, shown_plan, job_cost, JobCosts, Listed, AcceptedJob, JobsSound}
+use Rattle.soundness.proofs.Choosing.{chosen_low}
 
 -- ---- the bytes before the first that is a given one
 
@@ -52,16 +52,20 @@ accepted_job job table supplier tally z =
     let a = r.answers in
     let e = r.leads in
     let v = accepted_valid job p e in
-    let bounds : (plan : ℕ) → Fits p.register plan → bound_of p ≤ℤ plan_cost p.register plan = plan_bound (coefficient p.register) p.register p.scheme p.certificate v.scheme v.certificate in
+    let bounds : (plan : ℕ) → Fits p.register plan → bound_of p ≤ℤ job_cost p plan = plan_bound (coefficients p) p.register p.scheme p.certificate v.scheme v.certificate in
+    let costs : JobCosts (coefficients p) p (job_answer job table supplier tally) = record {
+      bounds = λ plan f. rw a (bounds plan.fed f);
+      bounds_every = λ none plan. rw a (every_plan_bound (coefficients p) p.register p.scheme p.certificate v.scheme v.certificate none plan.fed);
+      cost_is = rw a;
+    } in
     record {
       parts = p;
       conditions = v;
       bytes = λ b. ((accepted_iff job p b).0 e).1;
       no_other = λ b q w k. accepts_one (sym ((accepted_iff job q b).1 (w, k)) ∙ e);
       fits = v.plan.fits;
-      bounds = λ plan f. rw a (bounds plan.fed f);
-      bounds_every = λ none plan. rw a (every_plan_bound (coefficient p.register) p.register p.scheme p.certificate v.scheme v.certificate none plan.fed);
-      cost_is = rw a;
+      costs = costs;
+      costs_known = λ none. subst (λ c. JobCosts c p (job_answer job table supplier tally)) (chosen_low p.register v.register none p.plan) costs;
       gap_is = rw a;
       gap_not_negative = rw a (not_negative (bound_of p) (cost_of p) (bounds p.plan v.plan.fits));
       lines = λ lent buffer h. (handed_back plan_lines job lent buffer h).front ∙ ap (listed plan_lines) e ∙ rw a;

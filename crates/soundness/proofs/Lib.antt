@@ -1,7 +1,9 @@
 -- The statements hold of our calls; demand 3 fails for a penalty call that hands back the table as it was lent.
+pub mod Choosing
 pub mod Relaxation
 pub mod Multipliers
 pub mod Ours
+pub mod Known
 pub mod Every
 pub mod Lent
 pub mod Jobs
@@ -11,6 +13,7 @@ pub mod Writers
 pub mod Written
 pub mod Order
 pub mod Outside
+pub mod BeforeRanges
 pub mod Windows
 pub mod DayLengths
 pub mod Search
@@ -24,5 +27,6 @@ pub mod BeforeRowMultipliers
 pub mod NullEveryPlan
 pub mod ReadBeforeRowMultipliers
 pub mod EveryPlan
+pub mod PriceRanges
 pub mod Suppliers
 pub mod SupplierListing

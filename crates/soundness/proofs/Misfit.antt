@@ -1,27 +1,28 @@
 -- Plans that do not fit: 15 at the plan's command, and 15 for nothing else.
 use Prim.Native.Nat.{ℕ, ◌+◌, ◌-◌, ◌^◌, ◌≤◌, ◌<◌}
-use native.Mathlib.Nat.{zero-add, add-zero}
+use native.Mathlib.Nat.{add-zero}
 use native.Mathlib.Omega.{arith}
+use native.Mathlib.Decide.{dec_lt}
 use mathlib.Core.Path.{◌≡◌, refl, sym, ◌∙◌, ap, subst}
-use mathlib.Core.Logic.{◌⊎◌, inl, inr}
+use mathlib.Core.Logic.{◌⊎◌, inl, inr, ⊎_elim}
 use mathlib.Core.Bool.{true, true≢false}
 use mathlib.Core.List.{List, [], ◌∷◌, ◌++◌, append_assoc}
-use lib.Pow.{pow_mono}
 use lib.IntN.{ℤ}
 use lib.Dec.{eqb, ltb, leb}
 use lib.ListN.{length, get_or, drop, length-append, take-append-drop}
 use lib.Seq.{drop-cons, drop_at}
-use borrow.Author.Tests.{lt-leb, le-leb, leb-false, le-ltb, ltb-false}
+use borrow.Author.Tests.{leb-false, ltb-false}
 use Rattle.integers.specs.Lists.{All}
 use Rattle.integers.proofs.Lists.{◌▹◌, cond_cases, flag}
-use Rattle.wire.specs.Number.{Bytes, nat_at, bytes_of}
+use Rattle.wire.specs.Number.{Bytes, nat_at}
 use Rattle.wire.specs.Checks.{Check, Fails, refusal, command_checks}
 use Rattle.wire.specs.Part.{Part, Reading, refused, size, checks_at, operands_at, total, read_part}
 use Rattle.wire.specs.Rows.{Progress, Row, row_of, part_of}
 use Rattle.wire.specs.Refused.{Lowest, RefusedAt, RefusedByItself}
 use Rattle.wire.specs.Outcome.{refuses}
-use Rattle.wire.proofs.Number.{bytes_drop, bytes_of-nat_at, nat_at_front}
-use Rattle.wire.proofs.Part.{own_at, Ways, by_ways, read_from_refused}
+use Rattle.wire.specs.declared.WriterAnswer.{WriterAnswer}
+use Rattle.wire.proofs.Number.{bytes_drop, bytes_of-nat_at}
+use Rattle.wire.proofs.Part.{own_at, Ways, by_ways}
 use Rattle.wire.proofs.Rest.{only_last}
 use Rattle.wire.proofs.Lowest.{own_refused}
 use Rattle.wire.proofs.Encoding.{after_first}
@@ -29,120 +30,113 @@ use Rattle.wire.proofs.Outcome.{itself_refused, refused_itself}
 use Rattle.forms.specs.Table.{table_numbers}
 use Rattle.register.specs.declared.Register.{Register}
 use Rattle.register.specs.Register.{coefficient}
-use Rattle.register.specs.Limits.{max_choices}
-use Rattle.register.specs.Format.{base_checks, choice_checks, term_checks, window_checks, row_checks, length_checks, register_rows, register_part, register_in_job}
+use Rattle.register.specs.Format.{base_checks, choice_checks, term_checks, window_checks, row_checks, range_checks, length_checks, register_rows, register_part, register_in_job}
 use Rattle.register.specs.Format as RF
 use Rattle.register.proofs.Accept as Ra
 use Rattle.scheme.specs.declared.Scheme.{Scheme}
-use Rattle.scheme.specs.Format.{product_checks, split_checks, end_checks, scheme_rows}
+use Rattle.scheme.specs.Format.{product_checks, split_checks, end_checks, scheme_rows, scheme_part, scheme_in_job}
 use Rattle.scheme.proofs.Accept as SA
-use Rattle.certificate.specs.Certificate.{Certificate}
 use Rattle.certificate.specs.Format.{scale_checks, multiplier_checks, square_checks, multiplier_row, certificate_rows}
-use Rattle.bound.specs.Refused.{CertificateRefused}
+use Rattle.bound.specs.declared.CheckAnswer.{CheckAnswer}
+use Rattle.bound.specs.Refused.{CertificateRefused, CertificateRefusedByItself}
+use Rattle.bound.proofs.Same.{certificate_same}
 use Rattle.bound.proofs.Accept as CA
+use Rattle.plan.specs.Chosen.{chosen}
 use Rattle.plan.specs.Fits.{Fits, fits}
 use Rattle.plan.specs.Format.{plan_checks, plan_row, plan_part, plan_in_job, plan_by_itself}
 use Rattle.plan.specs.Encoding.{encode_plan}
 use Rattle.plan.specs.declared.CostAnswer.{CostAnswer}
 use Rattle.plan.specs.Answer.{cost_answer}
+use Rattle.plan.proofs.Coefficients.{chosen_known}
 use Rattle.plan.proofs.Fits.{register_fits}
-use Rattle.plan.proofs.Lowest.{plan_refused_by_itself}
+use Rattle.plan.proofs.Lowest.{plan_refused_by_itself, plan_refused as plan_refused_at}
 use Rattle.job.specs.declared.Tally.{Tally}
 use Rattle.job.specs.declared.JobAnswer.{JobAnswer}
 use Rattle.job.specs.Tally.{suppliers}
-use Rattle.job.specs.Outcome.{outcome}
-use Rattle.job.specs.Rest.{from_plan, from_certificate, from_scheme}
+use Rattle.job.specs.Outcome.{JobPart, part_two, order, last_of, outcome}
+use Rattle.job.specs.Rest.{first_two, plan_last, plan_first}
 use Rattle.job.specs.Answer.{job_answer}
+use Rattle.job.proofs.Turn.{follow}
 use Rattle.job.proofs.Suppliers.{table_enough, of_three}
-use Rattle.soundness.specs.Calls.{cost_call, job_call}
-use Rattle.soundness.specs.Parts.{Part1}
-use Rattle.soundness.specs.Refusals.{InRegister, InPlan, FromRegister, FromScheme, FromCertificate, FromPlan}
-use Rattle.soundness.specs.Rows.{Misfit, MisfitJob, plan_refused, job_misfit}
-use Rattle.soundness.proofs.Refusals.{cost_refusals, job_refusals}
+use Rattle.soundness.specs.Calls.{cost_call, check_call, plain_call, job_call}
+use Rattle.soundness.specs.Parts.{Part1, Part2}
+use Rattle.soundness.specs.Refusals.{InRegister, InScheme, InCertificate, InChoosing, InPlan, PlainTooLong, Behind, FromRegister, FromScheme, FromCertificate, FromPlan, FromPlanFirst, FromCertificateLast}
+use Rattle.soundness.specs.PriceRanges.{MisfitChoosing}
+use Rattle.soundness.specs.Rows.{Misfit, MisfitLast, MisfitFirst, MisfitJob, plan_refused, job_misfit}
+use Rattle.soundness.proofs.Choosing.{plan_stands, unnamed_checks, plan_misfit, misfit_read}
+use Rattle.soundness.proofs.Refusals.{cost_refusals, check_refusals, plain_refusals, job_refusals}
 
--- ---- the plan's command at the front
+-- ---- a plan by itself
 
-module _ (reg : Register) (fed : ℕ) (rest : List ℕ) (small : fed < 2 ^ 32) where
-  abbrev bytes : List ℕ
-  bytes = encode_plan fed ++ rest
-
-  -- it is refused by its own checks
-  plan_stands : (n : ℕ) → refusal (plan_checks reg.choices fed (fits reg fed)) ≡ n → (n ≡ 0 → ⊥) → plan_in_job reg bytes ≡ refused n 0
-  unfolding plan_in_job read_part checks_at command_checks refusal row_of operands_at total encode_plan bytes_of
-  plan_stands n e d =
-      read_from_refused (plan_part reg) bytes (plan_part reg).start 0 n (omega arith)
-      (rw (le-ltb (length bytes - 0) 5 (omega arith), nat_at_front 4 bytes 1 fed rest refl small) e) d
-
-  misfit_checks : fed < 2 ^ reg.choices → (Fits reg fed → ⊥) → refusal (plan_checks reg.choices fed (fits reg fed)) ≡ 15
-  unfolding plan_checks refusal
-  misfit_checks l h = rw (lt-leb (2 ^ reg.choices) fed l, flag (fits reg fed) (λ e. absurd (h ((register_fits reg fed).0 e))) (λ e. e))
-
-  unnamed_checks : 2 ^ reg.choices ≤ fed → refusal (plan_checks reg.choices fed (fits reg fed)) ≡ 5
-  unfolding plan_checks refusal
-  unnamed_checks l = rw (le-leb (2 ^ reg.choices) fed l)
-
-plan_misfit : (reg : Register) (fed : ℕ) (rest : List ℕ) → reg.choices ≤ max_choices → fed < 2 ^ reg.choices → (Fits reg fed → ⊥) → plan_in_job reg (encode_plan fed ++ rest) ≡ refused 15 0
-plan_misfit reg fed rest few l h =
-    let small : fed < 2 ^ 32 = omega (arith, l, pow_mono few) in
-    plan_stands reg fed rest small 15 (misfit_checks reg fed rest small l h) (λ e. omega arith)
-
--- so is the cost
-module _ (t rest : List ℕ) (reg : Register) (fed : ℕ) (p : Part1 t reg) where
-  cost_of : (n : ℕ) → plan_in_job reg (encode_plan fed ++ rest) ≡ refused n 0 → cost_call t (encode_plan fed ++ rest) ≡ plan_refused n
+-- refused in a job at its command, it is given no cost
+module _ (t plan : List ℕ) (reg : Register) (p : Part1 t reg) where
+  cost_of : (n : ℕ) → plan_in_job reg plan ≡ refused n 0 → cost_call t plan ≡ plan_refused n
   unfolding cost_answer plan_by_itself
-  cost_of n e = rw (Ra.encoding_accepted t reg p.conditions p.bytes, itself_refused (encode_plan fed ++ rest) e)
+  cost_of n e = rw (Ra.encoding_accepted t reg p.conditions p.bytes, itself_refused plan e)
 
 pub misfit : (register plan : List ℕ) → Misfit register plan → cost_call register plan ≡ plan_refused 15
-misfit register plan m =
-    rw m.bytes (cost_of register m.rest m.reg m.fed m.part_1 15 (plan_misfit m.reg m.fed m.rest m.part_1.conditions.within.choices.few m.inside m.misfit))
+misfit register plan m = cost_of register plan m.reg m.part_1 15 (misfit_read register plan m)
 
 pub names_first : (register rest : List ℕ) (reg : Register) (fed : ℕ) → Part1 register reg → 2 ^ reg.choices ≤ fed → fed < 2 ^ 32 → cost_call register (encode_plan fed ++ rest) ≡ plan_refused 5
 names_first register rest reg fed p l small =
-    cost_of register rest reg fed p 5 (plan_stands reg fed rest small 5 (unnamed_checks reg fed rest small l) (λ e. omega arith))
+    cost_of register (encode_plan fed ++ rest) reg p 5 (plan_stands reg fed rest small 5 (unnamed_checks reg fed rest small l) (λ e. omega arith))
 
--- and in a job
+-- ---- in a job
 
-module _ (job : List ℕ) (position : ℕ) (m : MisfitJob job position) where
-  abbrev reg : Register
-  reg = m.before.reg
+-- parts 1 and 2 at its front, and then the others in their order
+module _ (job t u rest : List ℕ) (reg : Register) (sch : Scheme) (p : Part1 t reg) (q : Part2 reg u sch) (e : job ≡ (t ++ u) ++ rest) where
+  abbrev from : ℕ
+  from = length (t ++ u)
 
-  abbrev sch : Scheme
-  sch = m.before.sch
+  there : drop from job ≡ rest
+  there = ap (drop from) e ∙ drop_at (t ++ u) rest from refl
 
-  abbrev cert : Certificate
-  cert = m.before.cert
-
-  abbrev plan : List ℕ
-  plan = encode_plan m.fed ++ m.rest
-
-  to_plan : (from : ℕ) → drop from job ≡ plan → from_plan job reg sch cert from ≡ refuses 15 4 from
-  to_plan from e = rw (e, plan_misfit reg m.fed m.rest m.before.part_1.conditions.within.choices.few m.inside m.misfit, add-zero)
-
-  to_certificate : (from : ℕ) → drop from job ≡ m.certificate ++ plan → from_certificate job reg sch from ≡ refuses 15 4 (from + length m.certificate)
-  to_certificate from e =
-      let k = m.before in
-      let q = CA.encoding_front reg k.part_1.conditions sch k.part_2.conditions (coefficient reg) cert m.certificate plan k.part_3.conditions k.part_3.bytes in
-      rw (e, q) (to_plan (from + length m.certificate) (after_first job from (length m.certificate) m.certificate plan refl e))
-
-  to_scheme : (from : ℕ) → drop from job ≡ m.scheme ++ (m.certificate ++ plan) → from_scheme job reg from ≡ refuses 15 4 (from + length m.scheme + length m.certificate)
-  to_scheme from e =
-      let k = m.before in
-      let q = SA.scheme_accepted reg k.part_1.conditions sch m.scheme (m.certificate ++ plan) k.part_2.conditions k.part_2.bytes in
-      rw (e, q) (to_certificate (from + length m.scheme) (after_first job from (length m.scheme) m.scheme (m.certificate ++ plan) refl e))
-
-  to_job : outcome job ≡ refuses 15 4 position
+  behind_two : (ks : List JobPart) → order reg ≡ part_two ∷ ks → outcome job ≡ follow job (last_of 2 ks) ks (first_two reg sch) from
   unfolding outcome
-  to_job =
-      let k = m.before in
-      let after = m.scheme ++ (m.certificate ++ plan) in
-      let whole : job ≡ m.register ++ after = m.bytes ∙ append_assoc (m.register ++ m.scheme) m.certificate plan ∙ append_assoc m.register m.scheme (m.certificate ++ plan) in
-      let d : drop (length m.register) job ≡ after = rw (← (zero-add (length m.register))) (after_first job 0 (length m.register) m.register after refl whole) in
-      let q = ap register_in_job whole ∙ Ra.register_accepted reg m.register after k.part_1.conditions k.part_1.bytes in
-      let long : position ≡ length m.register + length m.scheme + length m.certificate = m.position_is ∙ length-append (m.register ++ m.scheme) m.certificate ∙ ap (λ n. n + length m.certificate) (length-append m.register m.scheme) in
-      rw q (to_scheme (length m.register) d) ∙ ap (refuses 15 4) (sym long)
+  behind_two ks o =
+      let whole : job ≡ t ++ (u ++ rest) = e ∙ append_assoc t u rest in
+      let first = ap register_in_job whole ∙ Ra.register_accepted reg t (u ++ rest) p.conditions p.bytes in
+      let d : drop (length t) job ≡ u ++ rest = ap (drop (length t)) whole ∙ drop_at t (u ++ rest) (length t) refl in
+      let second = ap (scheme_in_job reg) d ∙ SA.scheme_accepted reg p.conditions sch u rest q.conditions q.bytes in
+      rw (first, o, second, length-append t u)
+
+-- the plan is the last part, behind the certificate
+module _ (job : List ℕ) (position : ℕ) (m : MisfitLast job position) where
+  last_misfit : outcome job ≡ refuses 15 4 position
+  last_misfit =
+      let h = m.before in
+      let reg = h.reg in
+      let sch = h.sch in
+      let v = h.part_1.conditions in
+      let v' = h.part_2.conditions in
+      let plan = encode_plan m.fed ++ m.rest in
+      let front = m.register ++ m.scheme in
+      let whole : job ≡ front ++ (m.certificate ++ plan) = m.bytes ∙ append_assoc front m.certificate plan in
+      let here = there job m.register m.scheme (m.certificate ++ plan) reg sch h.part_1 h.part_2 whole in
+      let after = after_first job (length front) (length m.certificate) m.certificate plan refl here in
+      let known = chosen_known reg v.within 0 h.no_range in
+      let third =
+      certificate_same (chosen reg 0) (coefficient reg) reg sch (λ i l. known i) (m.certificate ++ plan)
+      ∙ CA.encoding_front reg v sch v' (coefficient reg) h.cert m.certificate plan h.part_3.conditions h.part_3.bytes in
+      let size : position ≡ length front + length m.certificate = m.position_is ∙ length-append front m.certificate in
+      behind_two job m.register m.scheme (m.certificate ++ plan) reg sch h.part_1 h.part_2 whole plan_last (rw h.no_range refl)
+      ∙ rw (here, third, after, plan_misfit reg m.fed m.rest v.within.choices.few m.inside m.misfit, add-zero, size) refl
+
+-- or it comes before the certificate
+module _ (job : List ℕ) (position : ℕ) (m : MisfitFirst job position) where
+  first_misfit : outcome job ≡ refuses 15 4 position
+  first_misfit =
+      let h = m.before in
+      let plan = encode_plan m.fed ++ m.rest in
+      let here = there job m.register m.scheme plan h.reg h.sch h.part_1 h.part_2 m.bytes in
+      behind_two job m.register m.scheme plan h.reg h.sch h.part_1 h.part_2 m.bytes plan_first (rw m.ranged refl)
+      ∙ rw (here, plan_misfit h.reg m.fed m.rest h.part_1.conditions.within.choices.few m.inside m.misfit, add-zero, m.position_is) refl
+
+misfit_outcome : (job : List ℕ) (position : ℕ) → MisfitJob job position → outcome job ≡ refuses 15 4 position
+misfit_outcome job position m = ⊎_elim (last_misfit job position) (first_misfit job position) m
 
 pub misfit_in_job : (job : List ℕ) (table : List ℤ) (supplier : ℕ) (tally : Tally) (position : ℕ) → supplier < suppliers → table_numbers ≤ length table → MisfitJob job position → job_answer job table supplier tally ≡ job_misfit position supplier tally
-misfit_in_job job table supplier tally position k l m = (table_enough job table supplier tally k l).0 ∙ rw (to_job job position m)
+misfit_in_job job table supplier tally position k l m = (table_enough job table supplier tally k l).0 ∙ rw (misfit_outcome job position m)
 
 -- ---- what is refused 15
 
@@ -180,13 +174,14 @@ module _ {R : Type 0} (n : ℕ) where
 
 module _ (n : ℕ) (l : 13 < n) where
   pub register_never : All (Never n) register_rows
-  unfolding base_checks choice_checks term_checks window_checks row_checks length_checks RF.end_checks
+  unfolding base_checks choice_checks term_checks window_checks row_checks range_checks length_checks RF.end_checks
   register_never =
       (λ r xs. (λ k. absurd (omega arith)) ▹ tt)
       ▹ (λ r xs. (λ k. absurd (omega arith)) ▹ (λ k. absurd (omega arith)) ▹ (λ k. absurd (omega arith)) ▹ (λ k. absurd (omega arith)) ▹ tt)
       ▹ (λ r xs. (λ k. absurd (omega arith)) ▹ (λ k. absurd (omega arith)) ▹ (λ k. absurd (omega arith)) ▹ (λ k. absurd (omega arith)) ▹ tt)
       ▹ (λ r xs. (λ k. absurd (omega arith)) ▹ (λ k. absurd (omega arith)) ▹ (λ k. absurd (omega arith)) ▹ (λ k. absurd (omega arith)) ▹ tt)
       ▹ (λ r xs. (λ k. absurd (omega arith)) ▹ (λ k. absurd (omega arith)) ▹ (λ k. absurd (omega arith)) ▹ tt)
+      ▹ (λ r xs. (λ k. absurd (omega arith)) ▹ (λ k. absurd (omega arith)) ▹ (λ k. absurd (omega arith)) ▹ (λ k. absurd (omega arith)) ▹ (λ k. absurd (omega arith)) ▹ tt)
       ▹ (λ r xs. (λ k. absurd (omega arith)) ▹ tt)
       ▹ (λ r xs. (λ k. absurd (omega arith)) ▹ tt)
       ▹ tt
@@ -263,30 +258,65 @@ module _ (reg : Register) (s : List ℕ) (n at : ℕ) (l : 2 < n) where
         ends = λ read k p last q z. let c : ◌≡◌ {A = ℕ} 0 1 = cc in absurd (omega arith);
       }
 
-module _ (reg : Register) (s : List ℕ) (b : Bytes s) (h : Stood reg s 15) where
-  abbrev fed : ℕ
-  fed = nat_at 4 s 1
+-- so a plan stands there, of the register's choices, which does not fit
+record MisfitRead (reg : Register) (s : List ℕ) (at : ℕ) : Type 0 where
+  fed : ℕ
+  rest : List ℕ
+  at_start : at ≡ 0
+  inside : fed < 2 ^ reg.choices
+  misfit : Fits reg fed → ⊥
+  bytes : s ≡ encode_plan fed ++ rest
 
-  there : (fed < 2 ^ reg.choices) × (Fits reg fed → ⊥)
+module _ (reg : Register) (s : List ℕ) (at : ℕ) (b : Bytes s) where
+  abbrev read_here : ℕ
+  read_here = nat_at 4 s 1
+
+  checked_15 : refusal (plan_checks reg.choices read_here (fits reg read_here)) ≡ 15 → (read_here < 2 ^ reg.choices) × (Fits reg read_here → ⊥)
   unfolding plan_checks refusal
-  there =
-      flag (leb (2 ^ reg.choices) fed)
-      (λ t. absurd (omega (arith, rw t at h.own_is)))
-      (λ t. flag (fits reg fed)
-      (λ f. absurd (omega (arith, rw (t, f) at h.own_is)))
-      (λ f. (leb-false _ _ t, λ g. true≢false (sym ((register_fits reg fed).1 g) ∙ f))))
+  checked_15 own =
+      flag (leb (2 ^ reg.choices) read_here)
+      (λ t. absurd (omega (arith, rw t at own)))
+      (λ t. flag (fits reg read_here)
+      (λ f. absurd (omega (arith, rw (t, f) at own)))
+      (λ f. (leb-false _ _ t, λ g. true≢false (sym ((register_fits reg read_here).1 g) ∙ f))))
 
-  bytes_are : s ≡ encode_plan fed ++ drop 4 (drop 1 s)
+  bytes_are : Stood reg s 15 → s ≡ encode_plan read_here ++ drop 4 (drop 1 s)
   unfolding encode_plan
-  bytes_are =
+  bytes_are h =
       drop-cons s 0 0 (omega (arith, h.room))
       ∙ rw (h.byte, bytes_of-nat_at 4 s 1 b (omega (arith, h.room)), take-append-drop 4 (drop 1 s))
 
-plan_15 : (reg : Register) (s : List ℕ) (n at : ℕ) → Bytes s → n ≡ 15 → RefusedByItself (plan_part reg) s n at → (at ≡ 0) × Stood reg s 15
-unfolding plan_by_itself
-plan_15 reg s n at b e r =
-    let q = rw e at ((plan_refused_by_itself reg s b n at).1 r) in
-    stood reg s 15 at (omega arith) (refused_itself s (plan_in_job reg s) (λ z. omega arith) q)
+  misfit_at : plan_in_job reg s ≡ refused 15 at → MisfitRead reg s at
+  misfit_at q =
+      let (z, h) = stood reg s 15 at (omega arith) q in
+      let (l, d) = checked_15 h.own_is in
+      record { fed = read_here; rest = drop 4 (drop 1 s); at_start = z; inside = l; misfit = d; bytes = bytes_are h }
+
+  module _ (n : ℕ) (e : n ≡ 15) where
+    misfit_in : RefusedAt (plan_part reg) s n at → MisfitRead reg s at
+    misfit_in r = misfit_at (rw e at ((plan_refused_at reg s b n at).1 r))
+
+    misfit_whole : RefusedByItself (plan_part reg) s n at → MisfitRead reg s at
+    unfolding plan_by_itself
+    misfit_whole r =
+        let q = rw e at ((plan_refused_by_itself reg s b n at).1 r) in
+        misfit_at (refused_itself s (plan_in_job reg s) (λ z. omega arith) q)
+
+module _ (n : ℕ) (e : n ≡ 15) (part at : ℕ) where
+  -- it is no number of parts 1 and 2 by themselves
+  no_register : (t : List ℕ) → InRegister n part at t → ⊥
+  no_register t f = go f.refused
+    where
+      go : RefusedByItself register_part t n at → ⊥
+      go (inl r) = never n _ register_rows (register_never n (omega arith)) (omega arith) t at r
+      go (inr (z, _)) = omega arith
+
+  no_scheme : (t s : List ℕ) → InScheme n part at t s → ⊥
+  no_scheme t s f = go f.refused
+    where
+      go : RefusedByItself (scheme_part f.before.reg) s n at → ⊥
+      go (inl r) = never n _ (scheme_rows f.before.reg) (scheme_never n (omega arith) f.before.reg) (omega arith) s at r
+      go (inr (z, _)) = omega arith
 
 pub only_misfit : (register plan : List ℕ) → Bytes register → Bytes plan → (cost_call register plan).number ≡ 15 → Misfit register plan
 only_misfit t s b b' e = go (cost_refusals t s b b' (λ z. absurd (omega arith))).1
@@ -295,16 +325,87 @@ only_misfit t s b b' e = go (cost_refusals t s b b' (λ z. absurd (omega arith))
     a = cost_call t s
 
     go : InRegister a.number a.part a.position t ⊎ InPlan a.number a.part a.position t s → Misfit t s
-    go (inl f) = absurd (in_register f.refused)
-      where
-        in_register : RefusedByItself register_part t a.number a.position → ⊥
-        in_register (inl r) = never a.number _ register_rows (register_never a.number (omega arith)) (omega arith) t a.position r
-        in_register (inr (z, _)) = omega arith
+    go (inl f) = absurd (no_register a.number e a.part a.position t f)
     go (inr f) =
-        let reg = f.before.reg in
-        let (_, h) = plan_15 reg s a.number a.position b' e f.refused in
-        let (l, d) = there reg s b' h in
-        record { reg = reg; part_1 = f.before.part_1; fed = nat_at 4 s 1; inside = l; misfit = d; rest = drop 4 (drop 1 s); bytes = bytes_are reg s b' h }
+        let m = misfit_whole f.before.reg s a.position b' a.number e f.refused in
+        record { reg = f.before.reg; part_1 = f.before.part_1; fed = m.fed; inside = m.inside; misfit = m.misfit; rest = m.rest; bytes = m.bytes }
+
+-- what is refused behind some bytes is bytes
+behind_bytes : (front s : List ℕ) (position : ℕ) (Refused : List ℕ → ℕ → Type 0) → Bytes s → (k : Behind front s position Refused) → Bytes k.rest
+behind_bytes front s position Refused b k = subst Bytes (ap (drop (length front)) k.job_is ∙ drop_at front k.rest (length front) refl) (bytes_drop (length front) s b)
+
+-- the plan at the start of them
+module _ (front s : List ℕ) (position : ℕ) (Refused : List ℕ → ℕ → Type 0) (k : Behind front s position Refused) (reg : Register) (m : MisfitRead reg k.rest k.at) where
+  stands_behind : s ≡ front ++ (encode_plan m.fed ++ m.rest)
+  stands_behind = k.job_is ∙ ap (λ x. front ++ x) m.bytes
+
+  at_front : position ≡ length front
+  at_front = k.position_is ∙ rw (m.at_start, add-zero)
+
+module _ (n : ℕ) (l : 12 < n) (c : ℕ → ℤ) (reg : Register) (sch : Scheme) (s : List ℕ) (at : ℕ) where
+  pub no_certificate : CertificateRefused c reg sch s n at → ⊥
+  no_certificate (inl r) = never n _ (certificate_rows reg sch) (certificate_never n l reg sch) (omega arith) s at r
+  no_certificate (inr short) = omega (arith, short.nine)
+
+  pub no_certificate_by_itself : CertificateRefusedByItself c reg sch s n at → ⊥
+  no_certificate_by_itself (inl r) = no_certificate r
+  no_certificate_by_itself (inr past) = omega (arith, past.twelve)
+
+-- ---- part 4 before part 3, of the check and of our own certificate
+
+module _ (n : ℕ) (e : n ≡ 15) (part at : ℕ) where
+  choosing_misfit : (t s q : List ℕ) → Bytes q → InChoosing n part at t s q → MisfitChoosing t s q
+  choosing_misfit t s q b f =
+      let h = f.before in
+      let m = misfit_whole h.reg q at b n e f.refused in
+      record {
+        sch = h.sch;
+        misfit = record { reg = h.reg; part_1 = h.part_1; fed = m.fed; inside = m.inside; misfit = m.misfit; rest = m.rest; bytes = m.bytes };
+        ranged = f.ranged;
+        part_2 = h.part_2;
+      }
+
+pub only_misfit_checked : (register scheme certificate plan : List ℕ) (table : List ℤ) → Bytes register → Bytes scheme → Bytes certificate → Bytes plan →
+    (check_call register scheme certificate plan table).0.number ≡ 15 → MisfitChoosing register scheme plan
+only_misfit_checked t s k q table b b' b'' b₄ e = by (dec_lt (length table) table_numbers)
+  where
+    a : CheckAnswer
+    a = (check_call t s k q table).0
+
+    after : List ℤ
+    after = (check_call t s k q table).1
+
+    go : (InRegister a.number a.part a.position t × (after ≡ table))
+        ⊎ ((InScheme a.number a.part a.position t s × (after ≡ table))
+        ⊎ ((InChoosing a.number a.part a.position t s q × (after ≡ table))
+        ⊎ InCertificate a.number a.part a.position t s q k table after)) → MisfitChoosing t s q
+    go (inl (f, _)) = absurd (no_register a.number e a.part a.position t f)
+    go (inr (inl (f, _))) = absurd (no_scheme a.number e a.part a.position t s f)
+    go (inr (inr (inl (f, _)))) = choosing_misfit a.number e a.part a.position t s q b₄ f
+    go (inr (inr (inr f))) =
+        let h = f.before in
+        absurd (no_certificate_by_itself a.number (omega arith) (chosen h.reg h.fed) h.reg h.sch k a.position f.refused)
+
+    by : Dec (length table < table_numbers) → MisfitChoosing t s q
+    by (yes l) = let n : ◌≡◌ {A = ℕ} 11 15 = ap (λ x. x.0.number) (sym (check_refusals.short t s k q table l)) ∙ e in absurd (omega arith)
+    by (no l) = go (check_refusals.refused t s k q b b' b'' b₄ table (omega arith) (λ z. absurd (omega arith))).1
+
+pub only_misfit_own : (register scheme plan lent : List ℕ) → Bytes register → Bytes scheme → Bytes plan → (plain_call register scheme plan lent).0.number ≡ 15 → MisfitChoosing register scheme plan
+only_misfit_own t s q lent b b' b'' e = go (plain_refusals t s q b b' b'' lent (λ z. absurd (omega arith))).2
+  where
+    a : WriterAnswer
+    a = (plain_call t s q lent).0
+
+    go : InRegister a.number a.part a.position t
+        ⊎ (InScheme a.number a.part a.position t s
+        ⊎ (InChoosing a.number a.part a.position t s q
+        ⊎ PlainTooLong a.number a.part a.position t s q lent)) → MisfitChoosing t s q
+    go (inl f) = absurd (no_register a.number e a.part a.position t f)
+    go (inr (inl f)) = absurd (no_scheme a.number e a.part a.position t s f)
+    go (inr (inr (inl f))) = choosing_misfit a.number e a.part a.position t s q b'' f
+    go (inr (inr (inr f))) = absurd (omega (arith, f.buffer.number_is))
+
+-- ---- the job
 
 pub only_misfit_in_job : (job : List ℕ) (table : List ℤ) (supplier : ℕ) (tally : Tally) → Bytes job → table_numbers ≤ length table → (job_answer job table supplier tally).number ≡ 15 → MisfitJob job (job_answer job table supplier tally).position
 only_misfit_in_job s table supplier tally b l e = go (job_refusals.refused s b table l supplier known tally (λ z. absurd (omega arith))).4
@@ -318,37 +419,52 @@ only_misfit_in_job s table supplier tally b l e = go (job_refusals.refused s b t
     known : supplier < suppliers
     known = of_three s table supplier tally (λ a. a.number ≡ 15 → supplier < suppliers) (λ l z. absurd (omega arith)) (λ l m z. l) (λ l m z. l) e
 
-    front_bytes : (front rest : List ℕ) → s ≡ front ++ rest → Bytes rest
-    front_bytes front rest q = subst Bytes (ap (drop (length front)) q ∙ drop_at front rest (length front) refl) (bytes_drop (length front) s b)
-
     go : FromRegister a.number a.part a.position s table after
         ⊎ (FromScheme a.number a.part a.position s table after
         ⊎ (FromCertificate a.number a.part a.position s table after
-        ⊎ FromPlan a.number a.part a.position s table after)) → MisfitJob s a.position
+        ⊎ (FromPlan a.number a.part a.position s table after
+        ⊎ (FromPlanFirst a.number a.part a.position s table after
+        ⊎ FromCertificateLast a.number a.part a.position s table after)))) → MisfitJob s a.position
     go (inl f) = absurd (never a.number _ register_rows (register_never a.number (omega arith)) (omega arith) s a.position f.refused)
     go (inr (inl f)) =
         let k = f.behind in
         absurd (never a.number _ (scheme_rows f.before.reg) (scheme_never a.number (omega arith) f.before.reg) (omega arith) k.rest k.at k.refused)
-    go (inr (inr (inl f))) = absurd (in_certificate f.behind.refused)
-      where
-        in_certificate : CertificateRefused (coefficient f.before.reg) f.before.reg f.before.sch f.behind.rest a.number f.behind.at → ⊥
-        in_certificate (inl r) = never a.number _ (certificate_rows f.before.reg f.before.sch) (certificate_never a.number (omega arith) f.before.reg f.before.sch) (omega arith) f.behind.rest f.behind.at r
-        in_certificate (inr short) = omega (arith, short.nine)
-    go (inr (inr (inr f))) =
-        let reg = f.before.reg in
+    go (inr (inr (inl f))) =
         let k = f.behind in
-        let c = front_bytes ((f.register ++ f.scheme) ++ f.certificate) k.rest k.job_is in
-        let (z, h) = plan_15 reg k.rest a.number k.at c e k.refused in
-        let (i, d) = there reg k.rest c h in
-        record {
+        absurd (no_certificate a.number (omega arith) (coefficient f.before.reg) f.before.reg f.before.sch k.rest k.at k.refused)
+    go (inr (inr (inr (inl f)))) =
+        let k = f.behind in
+        let front = (f.register ++ f.scheme) ++ f.certificate in
+        let m = misfit_whole f.before.reg k.rest k.at (behind_bytes front s a.position _ b k) a.number e k.refused in
+        inl (record {
           register = f.register;
           scheme = f.scheme;
           certificate = f.certificate;
           before = f.before;
-          fed = nat_at 4 k.rest 1;
-          inside = i;
-          misfit = d;
-          rest = drop 4 (drop 1 k.rest);
-          bytes = k.job_is ∙ ap (λ x. ((f.register ++ f.scheme) ++ f.certificate) ++ x) (bytes_are reg k.rest c h);
-          position_is = k.position_is ∙ rw (z, add-zero);
-        }
+          fed = m.fed;
+          inside = m.inside;
+          misfit = m.misfit;
+          rest = m.rest;
+          bytes = stands_behind front s a.position _ k f.before.reg m;
+          position_is = at_front front s a.position _ k f.before.reg m;
+        })
+    go (inr (inr (inr (inr (inl f))))) =
+        let k = f.behind in
+        let front = f.register ++ f.scheme in
+        let m = misfit_in f.before.reg k.rest k.at (behind_bytes front s a.position _ b k) a.number e k.refused in
+        inr (record {
+          register = f.register;
+          scheme = f.scheme;
+          before = f.before;
+          ranged = f.ranged;
+          fed = m.fed;
+          inside = m.inside;
+          misfit = m.misfit;
+          rest = m.rest;
+          bytes = stands_behind front s a.position _ k f.before.reg m;
+          position_is = at_front front s a.position _ k f.before.reg m;
+        })
+    go (inr (inr (inr (inr (inr f))))) =
+        let k = f.behind in
+        let h = f.before in
+        absurd (no_certificate_by_itself a.number (omega arith) (chosen h.reg h.fed) h.reg h.sch k.rest k.at k.refused)

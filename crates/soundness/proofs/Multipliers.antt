@@ -21,7 +21,7 @@ use Rattle.certificate.proofs.Counts.{counts_apart}
 use Rattle.certificate.proofs.MultiplierForms.{HasForm, form_31, form_32, form_33, form_34, form_35, form_36, form_37, form_38, form_39}
 use Rattle.residual.specs.Residual.{null_part, subtracted_part, null_forms, subtracted_forms, reformulated, shifted}
 use Rattle.residual.proofs.ByCommand.{sum_over_more}
-use Rattle.soundness.specs.Multipliers.{at, more, Adds, Subtracts, MultiplierForms, MultiplierLaws}
+use Rattle.soundness.specs.Multipliers.{at, Adds, Subtracts, MultiplierForms, MultiplierLaws}
 
 -- ---- the two forms as sums
 

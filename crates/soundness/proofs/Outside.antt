@@ -10,7 +10,7 @@ use Rattle.integers.specs.Lists.{All}
 use Rattle.integers.proofs.Lists.{◌▹◌}
 use Rattle.wire.specs.Number.{Bytes}
 use Rattle.wire.specs.Part.{refused}
-use Rattle.wire.specs.Refused.{RefusedByItself}
+use Rattle.wire.specs.Refused.{RefusedAt, RefusedByItself}
 use Rattle.wire.specs.Outcome.{refuses}
 use Rattle.wire.proofs.Outcome.{itself_refused, refused_itself}
 use Rattle.forms.specs.Table.{table_numbers}
@@ -23,8 +23,7 @@ use Rattle.register.proofs.Lowest.{register_refused}
 use Rattle.register.proofs.Opened.{opened_refused}
 use Rattle.register.proofs.Outside.{outside, only_outside}
 use Rattle.scheme.specs.Format.{scheme_rows}
-use Rattle.certificate.specs.Format.{certificate_rows}
-use Rattle.bound.specs.Refused.{CertificateRefused}
+use Rattle.plan.specs.Chosen.{chosen}
 use Rattle.plan.specs.Format.{plan_checks, plan_rows, plan_part}
 use Rattle.job.specs.declared.Tally.{Tally}
 use Rattle.job.specs.declared.JobAnswer.{JobAnswer}
@@ -33,10 +32,10 @@ use Rattle.job.specs.Outcome.{outcome}
 use Rattle.job.specs.Answer.{job_answer}
 use Rattle.job.proofs.Suppliers.{table_enough, of_three}
 use Rattle.soundness.specs.Calls.{register_call, job_call}
-use Rattle.soundness.specs.Refusals.{FromRegister, FromScheme, FromCertificate, FromPlan}
+use Rattle.soundness.specs.Refusals.{FromRegister, FromScheme, FromCertificate, FromPlan, FromPlanFirst, FromCertificateLast}
 use Rattle.soundness.specs.Windows.{job_outside, RefusedOutside}
 use Rattle.soundness.proofs.Refusals.{job_refusals}
-use Rattle.soundness.proofs.Misfit.{Never, never, scheme_never, certificate_never}
+use Rattle.soundness.proofs.Misfit.{Never, never, scheme_never, no_certificate, no_certificate_by_itself}
 
 -- ---- by itself
 
@@ -70,6 +69,9 @@ plan_never : (reg : Register) (n : ℕ) → n ≡ 13 → All (Never n) (plan_row
 unfolding plan_checks
 plan_never reg n e = (λ r xs. (λ k. absurd (omega arith)) ▹ (λ k. absurd (omega arith)) ▹ tt) ▹ tt
 
+no_plan : (reg : Register) (n : ℕ) → n ≡ 13 → (s : List ℕ) (at : ℕ) → RefusedAt (plan_part reg) s n at → ⊥
+no_plan reg n e = never n _ (plan_rows reg) (plan_never reg n e) (omega arith)
+
 pub only_outside_in_job : (job : List ℕ) (table : List ℤ) (supplier : ℕ) (tally : Tally) → Bytes job → table_numbers ≤ length table → (job_answer job table supplier tally).number ≡ 13 → ChoiceOutside job (job_answer job table supplier tally).position
 only_outside_in_job s table supplier tally b l e = go (job_refusals.refused s b table l supplier known tally (λ z. absurd (omega arith))).4
   where
@@ -85,21 +87,26 @@ only_outside_in_job s table supplier tally b l e = go (job_refusals.refused s b 
     go : FromRegister a.number a.part a.position s table after
         ⊎ (FromScheme a.number a.part a.position s table after
         ⊎ (FromCertificate a.number a.part a.position s table after
-        ⊎ FromPlan a.number a.part a.position s table after)) → ChoiceOutside s a.position
+        ⊎ (FromPlan a.number a.part a.position s table after
+        ⊎ (FromPlanFirst a.number a.part a.position s table after
+        ⊎ FromCertificateLast a.number a.part a.position s table after)))) → ChoiceOutside s a.position
     go (inl f) = only_outside s a.position b ((register_refused s b a.number a.position).1 f.refused ∙ ap (λ n. refused n a.position) e)
     go (inr (inl f)) =
         let k = f.behind in
         absurd (never a.number _ (scheme_rows f.before.reg) (scheme_never a.number (omega arith) f.before.reg) (omega arith) k.rest k.at k.refused)
-    go (inr (inr (inl f))) = absurd (in_certificate f.behind.refused)
-      where
-        in_certificate : CertificateRefused (coefficient f.before.reg) f.before.reg f.before.sch f.behind.rest a.number f.behind.at → ⊥
-        in_certificate (inl r) = never a.number _ (certificate_rows f.before.reg f.before.sch) (certificate_never a.number (omega arith) f.before.reg f.before.sch) (omega arith) f.behind.rest f.behind.at r
-        in_certificate (inr short) = omega (arith, short.nine)
-    go (inr (inr (inr f))) = absurd (in_plan f.behind.refused)
+    go (inr (inr (inl f))) =
+        let k = f.behind in
+        absurd (no_certificate a.number (omega arith) (coefficient f.before.reg) f.before.reg f.before.sch k.rest k.at k.refused)
+    go (inr (inr (inr (inl f)))) = absurd (in_plan f.behind.refused)
       where
         in_plan : RefusedByItself (plan_part f.before.reg) f.behind.rest a.number f.behind.at → ⊥
-        in_plan (inl r) = never a.number _ (plan_rows f.before.reg) (plan_never f.before.reg a.number e) (omega arith) f.behind.rest f.behind.at r
+        in_plan (inl r) = no_plan f.before.reg a.number e f.behind.rest f.behind.at r
         in_plan (inr (z, _)) = omega arith
+    go (inr (inr (inr (inr (inl f))))) = absurd (no_plan f.before.reg a.number e f.behind.rest f.behind.at f.behind.refused)
+    go (inr (inr (inr (inr (inr f))))) =
+        let k = f.behind in
+        let h = f.before in
+        absurd (no_certificate_by_itself a.number (omega arith) (chosen h.reg h.fed) h.reg h.sch k.rest k.at k.refused)
 
 -- ---- of no call in particular
 

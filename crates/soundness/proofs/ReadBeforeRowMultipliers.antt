@@ -3,7 +3,7 @@
 use Prim.Native.Nat.{ℕ, zero, suc}
 use native.Mathlib.Omega.{arith}
 use mathlib.Core.Path.{◌≡◌, refl, sym, ◌∙◌, ap}
-use mathlib.Core.Bool.{Bool, false, true, ◌&&◌, and-false, false≢true}
+use mathlib.Core.Bool.{Bool, false, and-false, false≢true}
 use mathlib.Core.List.{List, [], ◌∷◌}
 use lib.Dec.{ltb}
 use lib.ListN.{length, get_or}
@@ -14,7 +14,7 @@ use Rattle.wire.specs.Part.{Step, goes, stops, step}
 use Rattle.wire.specs.Rows.{Progress, is_among, row_of}
 use Rattle.wire.specs.Walk.{passing, comes_from, comes_to}
 use Rattle.wire.proofs.Rest.{NoneOf, no_row_lem, by_bytes}
-use Rattle.wire.proofs.Alike.{SameRow, moved_row, rows_alike, Alike, Ended, neither, read_without}
+use Rattle.wire.proofs.Alike.{SameRow, moved_row, rows_alike, Alike, neither, read_without}
 use Rattle.register.specs.declared.Register.{Register}
 use Rattle.scheme.specs.declared.Scheme.{Scheme}
 use Rattle.certificate.specs.Certificate.{Certificate, fresh}

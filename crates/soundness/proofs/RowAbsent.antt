@@ -25,9 +25,8 @@ use Rattle.wire.proofs.Encoding.{command_at, command_at_reads, length_command, a
 use Rattle.wire.proofs.Outcome.{itself_refused}
 use Rattle.forms.specs.Table.{table_numbers}
 use Rattle.register.specs.declared.Register.{Register}
-use Rattle.register.specs.Register.{coefficient}
 use Rattle.scheme.specs.declared.Scheme.{Scheme}
-use Rattle.scheme.proofs.Opened.{opened_encodings}
+use Rattle.plan.specs.Chosen.{chosen}
 use Rattle.certificate.specs.Limits.{max_row_multiplier}
 use Rattle.certificate.specs.Certificate.{Certificate}
 use Rattle.certificate.specs.Rules.{by_key, arity, rule_of}
@@ -38,8 +37,9 @@ use Rattle.certificate.proofs.Passes.{scale_iff}
 use Rattle.bound.specs.Format.{dominance_checked, certificate_in_job, certificate_by_itself}
 use Rattle.bound.specs.Check.{check_answer}
 use Rattle.bound.proofs.Answers.{after_certificate, parts_accepted}
-use Rattle.soundness.specs.Parts.{Part1, Part2}
+use Rattle.soundness.specs.Parts.{Part1, Part2, Choosing}
 use Rattle.soundness.specs.Rows.{RowAbsent, row_multiplier, row_absent}
+use Rattle.soundness.proofs.Choosing.{chosen_parts}
 
 -- a command that stands at a position and where it may is refused by its own checks
 stands_refused : {S : Type 0} (P : Part S) (s : List ℕ) (read : S) (at : ℕ) (c : Command) → command_at P s at ≡ c → P.here read c.byte ≡ true → size P c.byte ≤ length s - at →
@@ -141,7 +141,7 @@ module _ (reg : Register) (sch : Scheme) (s : List ℕ) (a : RowAbsent reg s) wh
   unfolding certificate_by_itself certificate_in_job dominance_checked
   part_5 c = itself_refused s (rw commands_5)
 
-pub row_absent_lem : (t s k : List ℕ) (reg : Register) (sch : Scheme) (table : List ℤ) → table_numbers ≤ length table → Part1 t reg → Part2 reg s sch → RowAbsent reg k → check_answer t s k table ≡ row_absent
-row_absent_lem t s k reg sch table l p q a =
-    let o = opened_encodings t s reg sch p.conditions p.bytes q.conditions q.bytes in
-    sym (parts_accepted t s k table l reg sch o).answers ∙ ap after_certificate (part_5 reg sch k a (coefficient reg))
+pub row_absent_lem : (t s k q : List ℕ) (reg : Register) (sch : Scheme) (fed : ℕ) (table : List ℤ) → table_numbers ≤ length table → Part1 t reg → Part2 reg s sch → Choosing reg q fed → RowAbsent reg k →
+    check_answer t s k q table ≡ row_absent
+row_absent_lem t s k q reg sch fed table l p₁ p₂ chooses a =
+    sym (parts_accepted t s k q table l reg sch fed (chosen_parts p₁ p₂ chooses)).answers ∙ ap after_certificate (part_5 reg sch k a (chosen reg fed))

@@ -77,32 +77,32 @@ names_row : (reg : Register) (sch : Scheme) (t : Multiplier) → Allowed reg sch
 unfolding Allowed by_key
 names_row reg sch t a e = let (k, i, names, there, _, _) = rw e at a in rw names there
 
-pub rows_named : (reg : Register) (sch : Scheme) (certificate : List ℕ) (cert : Certificate) → Part3 reg sch certificate cert → NamesRows reg cert
-rows_named reg sch certificate cert p = All-map (Allowed reg sch) _ (names_row reg sch) cert.multipliers p.conditions.within.multipliers
+pub rows_named : (c : ℕ → ℤ) (reg : Register) (sch : Scheme) (certificate : List ℕ) (cert : Certificate) → Part3 c reg sch certificate cert → NamesRows reg cert
+rows_named c reg sch certificate cert p = All-map (Allowed reg sch) _ (names_row reg sch) cert.multipliers p.conditions.within.multipliers
 
 -- ---- what rows leave as it is: its definitions look at no row
 
-module _ (reg : Register) (sch : Scheme) where
-  same_function : g (coefficient reg) (without_rows reg) sch ≡ g (coefficient reg) reg sch
+module _ (c : ℕ → ℤ) (reg : Register) (sch : Scheme) where
+  same_function : g c (without_rows reg) sch ≡ g c reg sch
   unfolding g
   same_function = refl
 
-  same_form : h (coefficient reg) (without_rows reg) sch ≡ h (coefficient reg) reg sch
+  same_form : h c (without_rows reg) sch ≡ h c reg sch
   unfolding h g weight
   same_form = refl
 
-  same_plain : plain (coefficient reg) (without_rows reg) sch ≡ plain (coefficient reg) reg sch
+  same_plain : plain c (without_rows reg) sch ≡ plain c reg sch
   unfolding plain subtracted_constant linear_left half_row_sum g
   same_plain = refl
 
-same_cost : (reg : Register) (plan : ℕ) → cost (coefficient reg) (without_rows reg) plan ≡ cost (coefficient reg) reg plan
+same_cost : (c : ℕ → ℤ) (reg : Register) (plan : ℕ) → cost c (without_rows reg) plan ≡ cost c reg plan
 unfolding cost
-same_cost reg plan = refl
+same_cost c reg plan = refl
 
 pub rows_apart : RowsApart
 rows_apart = record {
   costs = same_cost;
   function = same_function;
-  penalty_form = λ reg sch lent. ap (λ f. with_table (side reg.choices sch) (entry f) lent) (same_form reg sch);
+  penalty_form = λ reg sch lent. ap (λ f. with_table (side reg.choices sch) (entry f) lent) (same_form (coefficient reg) reg sch);
   own_certificate = same_plain;
 }

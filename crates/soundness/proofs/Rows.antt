@@ -20,16 +20,18 @@ use Rattle.register.proofs.Canonical.{canonical}
 use Rattle.register.proofs.Entries.{rows_none, in_rows}
 use Rattle.register.proofs.Accept as R
 use Rattle.register.proofs.Opened.{opened}
-use Rattle.register.proofs.SaysRow.{said_in_job, said_by_itself}
-use Rattle.register.proofs.BeforeRows.{row_byte, as_before_rows_in_job, as_before_rows, no_rows}
+use Rattle.register.proofs.SaysRow.{said_in_job, said_by_itself, no_rows}
+use Rattle.register.proofs.BeforeRows.{row_byte, as_before_rows_in_job, as_before_rows}
 use Rattle.plan.specs.Valid as P
 use Rattle.plan.proofs.Answers.{cost_encodings}
 use Rattle.plan.proofs.Fits.{every_fits}
 use Rattle.plan.proofs.BeforeRows.{plan_as_before_rows_in_job, plan_as_before_rows}
 use Rattle.soundness.specs.Calls.{register_call, cost_call, check_call, job_call, listing_call}
+use Rattle.soundness.specs.BeforeRanges.{without_ranges}
 use Rattle.soundness.specs.Windows.{without_rows}
 use Rattle.soundness.specs.Rows.{RowsRight, ValidBeforeRows, after_before_rows, RowsKept, AsBeforeRows}
 use Rattle.soundness.proofs.Written.{forms}
+use Rattle.soundness.proofs.BeforeRanges.{terms_before, encoded_before}
 use Rattle.soundness.proofs.Windows.{register_valid, accepted_valid, windows_kept}
 use Rattle.soundness.proofs.RowForms.{rows_named}
 use Rattle.soundness.proofs.Misfit.{misfit, names_first, misfit_in_job, only_misfit, only_misfit_in_job}
@@ -51,26 +53,26 @@ module _ (r : Register) where
   own_valid : Valid (without_rows r) → RowsRight r → Valid r
   own_valid v = with_rows (without_rows r) v r.rows r.row_totals r.row_entries
 
-  -- the conditions before there were rows
+  -- the conditions before there were rows and ranges
 
-  before_none : Valid (without_rows r) → ValidBeforeRows r
+  before_none : Valid (without_rows (without_ranges r)) → ValidBeforeRows r
   before_none v = record {
     base = v.within.base;
     choices = v.within.choices;
-    terms = v.within.terms;
+    terms = (terms_before r.choices r.terms r.masks r.coefficients).0 v.within.terms;
     windows = v.within.windows;
     may_feed = v.within.may_feed;
     day_length = v.day_length;
     some_choice = v.some_choice;
   }
 
-  with_none : ValidBeforeRows r → Valid (without_rows r)
+  with_none : ValidBeforeRows r → Valid (without_rows (without_ranges r))
   with_none b = record {
     within = record {
       base = b.base;
       day = inr b.day_length;
       choices = b.choices;
-      terms = b.terms;
+      terms = (terms_before r.choices r.terms r.masks r.coefficients).1 b.terms;
       windows = b.windows;
       rows = rows_none r.choices;
       may_feed = b.may_feed;
@@ -81,13 +83,13 @@ module _ (r : Register) where
 
   -- and the bytes
 
-  with_length : encode_with_length (without_rows r) ≡ after_before_rows (encode_base r.base ++ encode_length r.day_length) r
+  with_length : encode_with_length (without_rows (without_ranges r)) ≡ after_before_rows (encode_base r.base ++ encode_length r.day_length) r
   unfolding join_below
-  with_length = simp append-nil
+  with_length = rw (encoded_before r) (simp append-nil)
 
-  without_length : encode_without_length (without_rows r) ≡ after_before_rows (encode_base r.base) r
+  without_length : encode_without_length (without_rows (without_ranges r)) ≡ after_before_rows (encode_base r.base) r
   unfolding join_below
-  without_length = simp append-nil
+  without_length = rw (encoded_before r) (simp append-nil)
 
 -- ---- bytes that say no row
 
@@ -131,7 +133,7 @@ rows_kept = record {
   says_row = λ register z.
       let o = opened register (register_call register) refl z in
       said_by_itself register (reached 0x1F (register_call register).register) (length register) o.reads;
-  read_as_before = λ register none. (ap register_answer (as_before_rows register none), answered_without register none);
+  read_as_before = λ register none no_range. (ap register_answer (as_before_rows register none no_range), answered_without register none);
 }
 
 pub kept_before_rows : AsBeforeRows
@@ -141,7 +143,7 @@ kept_before_rows = record {
   in_job = as_before_rows_in_job;
   by_itself = as_before_rows;
   part_1 = λ register reg.
-      let (to, from) = forms (without_rows reg) register in (
+      let (to, from) = forms (without_rows (without_ranges reg)) register in (
         (λ p. (before_none reg p.conditions, ⊎_elim (λ e. inl (e ∙ with_length reg)) (λ (day, e). inr (day, e ∙ without_length reg)) (to p.bytes))),
         (λ (b, e). record { conditions = with_none reg b; bytes = from (⊎_elim (λ e. inl (e ∙ sym (with_length reg))) (λ (day, e). inr (day, e ∙ sym (without_length reg))) e) }),
       );

@@ -3,27 +3,33 @@ use Prim.Native.Nat.{ℕ, suc, ◌^◌, ◌≤◌, ◌<◌}
 use native.Mathlib.Omega.{arith}
 use mathlib.Core.Path.{◌≡◌, refl, sym, ◌∙◌, ap, subst}
 use mathlib.Core.Logic.{◌↔◌}
-use mathlib.Core.Bool.{true≢false}
+use mathlib.Core.Bool.{false, true≢false}
 use mathlib.Core.List.{List}
 use lib.IntN.{ℤ}
 use lib.Pow.{pow_pos}
 use lib.ListN.{length}
-use lib.Signed.{◌≤ℤ◌}
+use lib.Signed.{◌≤ℤ◌, ≤ℤ_refl}
 use Rattle.integers.proofs.Lists.{flag}
+use Rattle.integers.proofs.Order.{≤ℤ_trans}
 use Rattle.wire.specs.Part.{accepted}
 use Rattle.wire.proofs.Accepting.{reached}
 use Rattle.register.specs.declared.Register.{Register}
-use Rattle.register.specs.Register.{coefficient}
+use Rattle.register.specs.Register.{coefficient, has_range}
 use Rattle.register.specs.Format.{register_by_itself}
 use Rattle.register.specs.Answer.{register_answer}
+use Rattle.register.specs.Valid as R
 use Rattle.register.proofs.Accept.{encoding_accepted, accepted_iff}
 use Rattle.register.proofs.Opened.{Opened}
+use Rattle.register.proofs.Ranged.{low_high}
 use Rattle.plan.specs.Plan as P
 use Rattle.plan.specs.Fits.{Fits, fits}
+use Rattle.plan.specs.Chosen.{chosen}
 use Rattle.plan.specs.Valid.{Valid}
 use Rattle.plan.specs.Encoding.{Encodes}
 use Rattle.plan.specs.Answer.{accepted_cost, cost_answer}
 use Rattle.plan.proofs.Accept.{whole_accepted}
+use Rattle.plan.proofs.Coefficients.{chosen_known}
+use Rattle.plan.proofs.Ranges.{cost_same, cost_most}
 use Rattle.plan.proofs.Answers.{costed, costed_valid}
 use Rattle.plan.proofs.Fits.{register_fits, every_fits}
 use Rattle.bound.specs.Bound.{bound}
@@ -53,9 +59,20 @@ read_is t reg e = ap (λ x. (register_answer x).register) e
 
 -- the cost call, of a register that is read and a plan of its choices
 cost_read : (t bytes : List ℕ) (reg : Register) (plan : ℕ) → Opened t reg → Valid reg plan → Encodes reg plan bytes →
-    cost_answer t bytes ≡ accepted_cost (P.cost (coefficient reg) reg plan)
+    cost_answer t bytes ≡ accepted_cost (P.cost (chosen reg plan) reg plan)
 unfolding cost_answer
 cost_read t bytes reg plan o l e = rw (o.reads, whole_accepted reg o.valid.within.choices.few plan bytes l e)
+
+-- ---- the low coefficients, and those that a plan chooses
+
+module _ (r : Register) (v : R.Valid r) where
+  -- a plan costs the least at the low ones
+  low_least : (plan : ℕ) → P.cost (coefficient r) r plan ≤ℤ P.cost (chosen r plan) r plan
+  low_least = cost_most r (coefficient r) (λ t l. (≤ℤ_refl (coefficient r t), low_high r v.within t))
+
+  -- and the same at both, whichever plan chooses, where no term has a range
+  low_same : has_range r ≡ false → (fed plan : ℕ) → P.cost (chosen r fed) r plan ≡ P.cost (coefficient r) r plan
+  low_same none fed = cost_same (chosen r fed) (coefficient r) r (λ t l. chosen_known r v.within fed none t)
 
 -- ---- an answer that is no refusal
 
@@ -87,7 +104,8 @@ module _ (t : List ℕ) (limit : ℕ) (z : (search_answer t limit).number ≡ 0)
   cost_least : (bytes : List ℕ) → (cost_answer t bytes).number ≡ 0 → w.cost ≤ℤ (cost_answer t bytes).cost
   cost_least bytes n =
       let c = costed t bytes n in
-      rw c.answers (least_read c.reg (read_is t c.reg c.first.reads) c.read.parsed (costed_valid t bytes c))
+      let p = c.read.parsed in
+      rw c.answers (≤ℤ_trans _ _ _ (least_read c.reg (read_is t c.reg c.first.reads) p (costed_valid t bytes c)) (low_least c.reg c.first.valid p))
 
   cheapest : Cheapest cost_call t limit (search_answer t limit)
   cheapest =
@@ -102,7 +120,8 @@ module _ (t : List ℕ) (limit : ℕ) (z : (search_answer t limit).number ≡ 0)
         smallest = λ other f. best.smallest other.fed other.inside ((register_fits reg other.fed).1 f);
         keeps = keeps reg w.plan found.first.valid;
         of_day = feeds_of_day reg found.first.valid w.plan;
-        costed = λ bytes e. cost_read t bytes reg w.plan found.first best_valid e ∙ ap accepted_cost (sym best.cost_is);
+        costed = λ bytes e. cost_read t bytes reg w.plan found.first best_valid e;
+        costed_known = λ none bytes e. cost_read t bytes reg w.plan found.first best_valid e ∙ ap accepted_cost (low_same reg found.first.valid none w.plan w.plan ∙ sym best.cost_is);
         costed_least = cost_least;
         visits_are = refl;
         visits_some = v.0;
@@ -117,14 +136,15 @@ module _ (t : List ℕ) (limit : ℕ) (z : (search_answer t limit).number ≡ 0)
       let all : (plan : ℕ) → Fits reg plan = every_fits reg none in
       record { cheapest = c; least = λ other. c.least other (all other.fed); smallest = λ other. c.smallest other (all other.fed) }
 
-  -- every plan that fits costs at least the bound, and so does the one found
-  bound_below : (s k : List ℕ) (table : List ℤ) → (check_answer t s k table).number ≡ 0 → (check_answer t s k table).bound ≤ℤ (search_answer t limit).cost
-  bound_below s k table n =
-      let c = checked t s k table n in
+  -- without a range every plan that fits costs at least the bound, and so does the one found
+  bound_below : has_range reg ≡ false → (s k q : List ℕ) (table : List ℤ) → (check_answer t s k q table).number ≡ 0 → (check_answer t s k q table).bound ≤ℤ (search_answer t limit).cost
+  bound_below none s k q table n =
+      let c = checked t s k q table n in
+      let o = c.opens.parts in
       let valid = whole_valid c.reg c.sch _ k c.read c.end c.reads in
-      let e = read_is t c.reg c.parts.register_reads in
-      let least = plan_bound (coefficient c.reg) c.reg c.sch c.read.parsed c.parts.scheme_valid valid w.plan (subst (λ r. Fits r w.plan) e best_valid.fits) in
-      rw (c.answers, found.answers, best.cost_is) (subst (λ r. bound c.read.parsed ≤ℤ P.cost (coefficient r) r w.plan) (sym e) least)
+      let e = read_is t c.reg o.register_reads in
+      let least = plan_bound (chosen c.reg c.plan) c.reg c.sch c.read.parsed o.scheme_valid valid w.plan (subst (λ r. Fits r w.plan) e best_valid.fits) in
+      rw (c.answers, found.answers, best.cost_is, ← (low_same reg found.first.valid none c.plan w.plan)) (subst (λ r. bound c.read.parsed ≤ℤ P.cost (chosen r c.plan) r w.plan) (sym e) least)
 
 -- ---- a register that is right
 
@@ -171,7 +191,7 @@ search_sound = record {
   none_32 = none_32;
   cheapest_every = λ t limit rows z. cheapest_every t limit z rows;
   enough_every = λ t r limit p rows. enough t r limit p 0 (pow_pos r.choices) (every_fits r rows 0);
-  bounds = λ t s k table limit n z. bound_below t limit z s k table n;
+  bounds = λ t s k q table limit none n z. bound_below t limit z none s k q table n;
 }
 
 pub sum_sound : SumSound

@@ -21,7 +21,7 @@ use Rattle.register.specs.Register.{tank, minute, window_tank, fresh, set_window
 use Rattle.register.specs.Format.{register_by_itself}
 use Rattle.register.specs.Answer.{register_answer}
 use Rattle.register.specs.Valid.{Valid, MayFeed, window_at}
-use Rattle.register.specs.Encoding.{Encodes, encode_register, encode_without_length, SaysLength, SaysRow}
+use Rattle.register.specs.Encoding.{Encodes, encode_register, encode_without_length, SaysLength, SaysRow, SaysRange}
 use Rattle.register.proofs.Accept.{encoding_accepted}
 use Rattle.register.proofs.Entries.{windows_none, rows_none, in_windows}
 use Rattle.register.proofs.Canonical.{canonical}
@@ -35,9 +35,11 @@ use Rattle.listing.proofs.Lines.{fed_shown, shown_fed}
 use Rattle.soundness.specs.Calls.{register_call, cost_call, job_call, listing_call}
 use Rattle.soundness.specs.Parts.{Part4}
 use Rattle.soundness.specs.Acceptance.{register_accepted}
+use Rattle.soundness.specs.BeforeRanges.{without_ranges}
 use Rattle.soundness.specs.Jobs.{Accepted, Listed, shown, AcceptedJob}
 use Rattle.soundness.specs.Windows.{InWindow, ChoicesInside, Feeding, KeepsWindows, JobInside, WindowsRight, without_windows, without_rows, ValidBeforeWindows, bytes_before_windows, WindowsKept, AsBeforeWindows}
 use Rattle.soundness.proofs.Written.{unsaid}
+use Rattle.soundness.proofs.BeforeRanges.{terms_before, encoded_before}
 use Rattle.soundness.proofs.Jobs.{accepted_job}
 use Rattle.soundness.proofs.Outside.{outside_call, outside_in_job, only_outside_call, only_outside_in_job}
 
@@ -134,24 +136,24 @@ module _ (r : Register) where
   own_valid : Valid (without_windows r) → WindowsRight r → ChoicesInside r → Valid r
   own_valid v = with_windows (without_windows r) v r.windows r.window_tanks r.window_froms r.window_tos
 
-  -- the conditions before there were windows, on a day of the usual length and without rows
+  -- the conditions before there were windows, on a day of the usual length and without rows and ranges
 
-  before_none : r.day_length ≡ usual_day → Valid (without_windows (without_rows r)) → ValidBeforeWindows r
+  before_none : r.day_length ≡ usual_day → Valid (without_windows (without_rows (without_ranges r))) → ValidBeforeWindows r
   before_none day v = record {
     base = v.within.base;
     day = day;
     choices = rw day at v.within.choices;
-    terms = v.within.terms;
+    terms = (terms_before r.choices r.terms r.masks r.coefficients).0 v.within.terms;
     some_choice = v.some_choice;
   }
 
-  with_none : ValidBeforeWindows r → Valid (without_windows (without_rows r))
+  with_none : ValidBeforeWindows r → Valid (without_windows (without_rows (without_ranges r)))
   with_none b = record {
     within = record {
       base = b.base;
       day = inr (inr (inl b.day));
       choices = rw b.day b.choices;
-      terms = b.terms;
+      terms = (terms_before r.choices r.terms r.masks r.coefficients).1 b.terms;
       windows = windows_none r.day_length;
       rows = rows_none r.choices;
       may_feed = λ i l. may_feed_lem (without_windows r) (tank r i) (minute r i) (inside_none i l);
@@ -160,20 +162,20 @@ module _ (r : Register) where
     some_choice = b.some_choice;
   }
 
-  bytes_none : encode_without_length (without_windows (without_rows r)) ≡ bytes_before_windows r
+  bytes_none : encode_without_length (without_windows (without_rows (without_ranges r))) ≡ bytes_before_windows r
   unfolding join_below
-  bytes_none = simp append-nil
+  bytes_none = rw (encoded_before r) (simp append-nil)
 
--- ---- bytes without a window that say no length and no row
+-- ---- bytes without a window that say no length, no row and no range
 
-module _ (s : List ℕ) (none : get_or s 5 0 ≡ 0x13 → ⊥) (no_length : SaysLength s → ⊥) (no_row_lem : SaysRow s → ⊥) where
+module _ (s : List ℕ) (none : get_or s 5 0 ≡ 0x13 → ⊥) (no_length : SaysLength s → ⊥) (no_row_lem : SaysRow s → ⊥) (no_range : SaysRange s → ⊥) where
   answered_without : without_windows (register_call s).register ≡ (register_call s).register
   unfolding fresh
   answered_without = go (register_by_itself s) refl
     where
       go : (x : Reading (Progress Register)) → register_by_itself s ≡ x → without_windows (register_answer x).register ≡ (register_answer x).register
       go (refused n at) e = refl
-      go (accepted p end) e = ap (λ w. set_windows p.parsed w.0 w.1 w.2 w.3) (sym (no_windows s none no_length no_row_lem e))
+      go (accepted p end) e = ap (λ w. set_windows p.parsed w.0 w.1 w.2 w.3) (sym (no_windows s none no_length no_row_lem no_range e))
 
 -- ---- acceptance
 
@@ -199,8 +201,8 @@ windows_kept = record {
   outside_in_job = outside_in_job;
   only_outside = only_outside_call;
   only_outside_in_job = only_outside_in_job;
-  read_as_before = λ register none no_length no_row_lem.
-      (ap register_answer (as_before_windows register none no_length no_row_lem), answered_without register none no_length no_row_lem);
+  read_as_before = λ register none no_length no_row_lem no_range.
+      (ap register_answer (as_before_windows register none no_length no_row_lem no_range), answered_without register none no_length no_row_lem no_range);
 }
 
 pub kept_before_windows : AsBeforeWindows
@@ -208,7 +210,7 @@ kept_before_windows = record {
   in_job = as_before_windows_in_job;
   by_itself = as_before_windows;
   part_1 = λ register reg no_length.
-      let one = unsaid (without_windows (without_rows reg)) register no_length in (
+      let one = unsaid (without_windows (without_rows (without_ranges reg))) register no_length in (
         (λ p. let (day, e) = one.0 p.bytes in (before_none reg day p.conditions, e ∙ bytes_none reg)),
         (λ (b, e). record { conditions = with_none reg b; bytes = one.1 (b.day, e ∙ sym (bytes_none reg)) }),
       );

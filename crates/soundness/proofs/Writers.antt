@@ -3,6 +3,7 @@ use Prim.Native.Nat.{ℕ, ◌≤◌, ◌<◌}
 use native.Mathlib.Omega.{arith}
 use native.Mathlib.Decide.{dec_lt}
 use mathlib.Core.Path.{◌≡◌, refl, sym, ◌∙◌, ap, ap₂}
+use mathlib.Core.Bool.{false≢true}
 use mathlib.Core.List.{List}
 use lib.Dec.{ltb}
 use lib.IntN.{ℤ}
@@ -15,27 +16,32 @@ use Rattle.wire.specs.Outcome.{Outcome, refuses, accepts, answer_by}
 use Rattle.wire.specs.Writer.{refused_answer, bytes_answer, with_front}
 use Rattle.forms.specs.Table.{table_numbers}
 use Rattle.register.specs.declared.Register.{Register}
+use Rattle.register.specs.Register.{has_range}
 use Rattle.register.specs.Format.{register_by_itself}
 use Rattle.register.specs.Answer.{register_answer}
 use Rattle.register.specs.Opening.{open_register}
 use Rattle.register.proofs.Accept as Ra
 use Rattle.scheme.specs.declared.Scheme.{Scheme}
 use Rattle.scheme.specs.Encoding.{encode_scheme}
-use Rattle.scheme.specs.Answer.{open_parts, scheme_answer}
 use Rattle.scheme.proofs.Canonical.{canonical}
-use Rattle.scheme.proofs.Opened.{opened_encodings, register_bytes, scheme_bytes, answer_opened}
+use Rattle.scheme.proofs.Opened.{register_bytes, scheme_bytes, answer_opened}
 use Rattle.builder.specs.Builder.{Built, stopped, built, build}
 use Rattle.builder.specs.Answer.{built_room, built_answer, built_buffer}
 use Rattle.builder.proofs.Validity.{build_valid, build_size}
 use Rattle.builder.proofs.Call as B
+use Rattle.plan.specs.Chosen.{chosen}
+use Rattle.certificate.specs.Encoding.{Encodes}
 use Rattle.bound.specs.Bound.{bound}
+use Rattle.bound.specs.Opening.{open_chosen}
 use Rattle.plain.specs.Answer.{own_bytes, own_room, plain_answer, plain_buffer}
-use Rattle.plain.proofs.Valid.{plain_valid}
+use Rattle.plain.proofs.Same.{plain_same}
+use Rattle.plain.proofs.Valid.{Low, low_chosen, plain_valid}
 use Rattle.plain.proofs.Encoded.{plain_bytes}
 use Rattle.plain.proofs.ReadBack.{plain_encodes}
 use Rattle.plain.proofs.Answers.{parts_accepted}
 use Rattle.plain.proofs.Call as P
 use Rattle.job.specs.Outcome.{of_register, with_scheme, with_certificate, with_plan, outcome}
+use Rattle.job.proofs.Turn.{same_chosen}
 use Rattle.job.proofs.Suppliers.{known}
 use Rattle.listing.specs.declared.Reader.{Reader}
 use Rattle.listing.specs.declared.Reader.TheVariants.{Farm, Supplier}
@@ -44,9 +50,10 @@ use Rattle.listing.specs.Readers.{lines_for}
 use Rattle.listing.specs.Answer.{listing_room, answer_with, listing_table, buffer_with}
 use Rattle.listing.proofs.Outcome.{listing_short}
 use Rattle.soundness.specs.Calls.{front, scheme_call, check_call, plain_call, build_call, job_call, listing_with, listing_call, supplier_listing_call}
-use Rattle.soundness.specs.Parts.{Part1, Part2, Part3, with_r}
-use Rattle.soundness.specs.Acceptance.{OfScheme, OfCheck, scheme_accepted, check_accepted}
+use Rattle.soundness.specs.Parts.{Part1, Part2, Part3, Part4, Choosing, with_r, WithPlan}
+use Rattle.soundness.specs.Acceptance.{OfCheck, scheme_accepted, check_accepted}
 use Rattle.soundness.specs.Writers.{Writer, handed_back, Writes, KeepsRefused, OfBuild, BuildWrites, own_certificate, PlainWrites, OwnJobs, ListingWrites, Writers}
+use Rattle.soundness.proofs.Choosing.{choosing_of, chosen_parts}
 use Rattle.soundness.proofs.Acceptance.{acceptance}
 
 -- ---- a call that writes bytes
@@ -81,7 +88,7 @@ front_is writer bytes room w lent z = by (dec_lt (length lent) (length bytes))
 -- ---- the builder
 
 module _ (t : List ℕ) (reg : Register) (p : Part1 t reg) where
-  build_is : (x : Built) → build reg ≡ x → (lent : List ℕ) → build_call t lent ≡ (built_answer t reg lent x, built_buffer reg lent x)
+  pub build_is : (x : Built) → build reg ≡ x → (lent : List ℕ) → build_call t lent ≡ (built_answer t reg lent x, built_buffer reg lent x)
   build_is x e lent = rw (Ra.encoding_accepted t reg p.conditions p.bytes, e) refl
 
 build_writes : (t : List ℕ) (reg : Register) (sch : Scheme) → OfBuild t reg sch → Writes (build_call t) (encode_scheme reg.choices sch) built_room
@@ -133,65 +140,98 @@ of_build = record {
 
 -- ---- our own certificate
 
-module _ (t s : List ℕ) (reg : Register) (sch : Scheme) (p : Part1 t reg) (q : Part2 reg s sch) where
-  plain_writes : Writes (plain_call t s) (own_bytes reg sch) own_room
-  plain_writes =
-      let o = opened_encodings t s reg sch p.conditions p.bytes q.conditions q.bytes in
-      writes_bytes (plain_call t s) (own_bytes reg sch) own_room (λ lent. let (a, b) = parts_accepted t s lent reg sch o in rw (a, b) refl) (plain_bytes reg sch p.conditions q.conditions)
+module _ (t s q : List ℕ) (k : WithPlan t s q) where
+  abbrev c : ℕ → ℤ
+  c = chosen k.reg k.fed
 
-  module _ (lent : List ℕ) (z : (plain_call t s lent).0.number ≡ 0) where
-    plain_reads : Part3 reg sch (front (plain_call t s lent)) (own_certificate reg sch)
+  low : Low c k.reg
+  low = low_chosen k.reg k.part_1.conditions k.fed
+
+  plain_writes : Writes (plain_call t s q) (own_bytes k.reg k.sch k.fed) own_room
+  plain_writes =
+      let o = chosen_parts k.part_1 k.part_2 k.choosing in
+      writes_bytes (plain_call t s q) (own_bytes k.reg k.sch k.fed) own_room (λ lent. let (a, b) = parts_accepted t s q lent k.reg k.sch k.fed o in rw (a, b) refl) (plain_bytes c k.reg k.sch k.part_1.conditions k.part_2.conditions)
+
+  module _ (lent : List ℕ) (z : (plain_call t s q lent).0.number ≡ 0) where
+    plain_reads : Part3 c k.reg k.sch (front (plain_call t s q lent)) (own_certificate k.reg k.sch k.fed)
     plain_reads = record {
-      conditions = plain_valid reg sch p.conditions q.conditions;
-      bytes = rw (front_is (plain_call t s) (own_bytes reg sch) own_room plain_writes lent z) (plain_encodes _ reg sch);
+      conditions = plain_valid c k.reg k.sch low k.part_1.conditions k.part_2.conditions;
+      bytes = rw (front_is (plain_call t s q) (own_bytes k.reg k.sch k.fed) own_room plain_writes lent z) (plain_encodes c k.reg k.sch);
     }
 
-    plain_checks : (table : List ℤ) → table_numbers ≤ length table → check_call t s (front (plain_call t s lent)) table ≡ (check_accepted (bound (own_certificate reg sch)), with_r reg sch (own_certificate reg sch) table)
+    plain_checks : (table : List ℤ) → table_numbers ≤ length table →
+        check_call t s (front (plain_call t s q lent)) q table ≡ (check_accepted (bound (own_certificate k.reg k.sch k.fed)), with_r c k.reg k.sch (own_certificate k.reg k.sch k.fed) table)
     plain_checks table l =
-        let c : OfCheck t s (front (plain_call t s lent)) (bound (own_certificate reg sch)) = record { reg = reg; sch = sch; cert = own_certificate reg sch; part_1 = p; part_2 = q; part_3 = plain_reads; bound_is = refl } in
-        let k = acceptance.of_check in
-        ap₂ (λ x y. (x, y)) (k.all t s _ table _ l c) (k.table_back t s _ table _ l c)
+        let d : OfCheck t s (front (plain_call t s q lent)) q (bound (own_certificate k.reg k.sch k.fed)) = record {
+          reg = k.reg;
+          sch = k.sch;
+          fed = k.fed;
+          cert = own_certificate k.reg k.sch k.fed;
+          part_1 = k.part_1;
+          part_2 = k.part_2;
+          choosing = k.choosing;
+          part_3 = plain_reads;
+          bound_is = refl;
+        } in
+        let a = acceptance.of_check in
+        ap₂ (λ x y. (x, y)) (a.all t s _ q table _ l d) (a.table_back t s _ q table _ l d)
 
-plain_only : (t s lent : List ℕ) → Bytes t → (plain_call t s lent).0.number ≡ 0 → (sch : Scheme) × OfScheme t s sch
-plain_only t s lent b z =
-    let o = (P.call_reads t s lent z).opens in (
-      (scheme_answer t s).scheme,
-      record {
-        reg = (register_answer (register_by_itself t)).register;
-        part_1 = record { conditions = o.register_valid; bytes = register_bytes t s _ _ o b };
-        part_2 = record { conditions = o.scheme_valid; bytes = scheme_bytes t s _ _ o };
-      },
-    )
+plain_only : (t s q lent : List ℕ) → Bytes t → Bytes q → (plain_call t s q lent).0.number ≡ 0 → WithPlan t s q
+plain_only t s q lent b b' z =
+    let w = P.call_reads t s q lent z in
+    let o = w.opens.parts in
+    record {
+      reg = w.reg;
+      sch = w.sch;
+      fed = w.plan;
+      part_1 = record { conditions = o.register_valid; bytes = register_bytes t s _ _ o b };
+      part_2 = record { conditions = o.scheme_valid; bytes = scheme_bytes t s _ _ o };
+      choosing = choosing_of w.opens b';
+    }
 
-plain_keeps : (t s : List ℕ) → KeepsRefused (plain_call t s)
+plain_keeps : (t s q : List ℕ) → KeepsRefused (plain_call t s q)
 unfolding plain_answer plain_buffer
-plain_keeps t s lent = go (open_parts t s)
+plain_keeps t s q lent = go (open_chosen t s q)
   where
-    go : (x : Outcome (Register × Scheme)) → let a = answer_by refused_answer (λ (reg, sch). bytes_answer (own_bytes reg sch) lent) x in
-        (a.number ≡ 0 → ⊥) → (a.count ≡ 0) × (answer_by (λ number part at. lent) (λ (reg, sch). with_front (own_bytes reg sch) lent) x ≡ lent)
+    go : (x : Outcome (Register × Scheme × ℕ)) → let a = answer_by refused_answer (λ (reg, sch, p). bytes_answer (own_bytes reg sch p) lent) x in
+        (a.number ≡ 0 → ⊥) → (a.count ≡ 0) × (answer_by (λ number part at. lent) (λ (reg, sch, p). with_front (own_bytes reg sch p) lent) x ≡ lent)
     go (refuses n part at) h = (refl, refl)
-    go (accepts (reg, sch)) h = keeps_bytes (own_bytes reg sch) lent h
+    go (accepts (reg, sch, p)) h = keeps_bytes (own_bytes reg sch p) lent h
 
 of_plain : PlainWrites plain_call check_call
 of_plain = record { writes = plain_writes; reads_back = plain_reads; checks = plain_checks; only = plain_only; keeps = plain_keeps }
 
 -- ---- a job of what these two write
 
+-- a plan of the register chooses the coefficients where the register has a range; where it has none, the plan that feeds nothing does, and
+-- the certificate is the same
+module _ (t s q : List ℕ) (reg : Register) (sch : Scheme) (fed : ℕ) (p₁ : Part1 t reg) (p₂ : Part2 reg s sch) (p₄ : Part4 reg q fed) where
+  abbrev beside : (chooses : ℕ) → Choosing reg q chooses → WithPlan t s q
+  beside chooses h = record { reg = reg; sch = sch; fed = chooses; part_1 = p₁; part_2 = p₂; choosing = h }
+
+  own_encodes : (lent : List ℕ) → (plain_call t s q lent).0.number ≡ 0 → Encodes (own_certificate reg sch fed) (front (plain_call t s q lent))
+  own_encodes lent z =
+      flag (has_range reg)
+      (λ some. (plain_reads t s q (beside fed (record { part_4 = λ e. p₄; none = λ none. absurd (false≢true (sym none ∙ some)) })) lent z).bytes)
+      (λ none.
+      let same = same_chosen reg p₁.conditions.within none fed 0 in
+      rw (plain_same (chosen reg fed) (chosen reg 0) reg sch (λ i l. same i))
+      (plain_reads t s q (beside 0 (record { part_4 = λ some. absurd (false≢true (sym none ∙ some)); none = λ e. refl })) lent z).bytes)
+
 own_jobs : OwnJobs build_call plain_call job_call
 own_jobs t plan reg sch fed o p lent lent' z y table supplier tally k l =
     let q = built_part t reg sch o lent z in
-    let r = plain_reads t (front (build_call t lent)) reg sch o.part_1 q lent' y in
     acceptance.of_job.all _ table supplier tally _ _ k l (record {
-      parts = with_plan (with_certificate (with_scheme (of_register reg) sch) (own_certificate reg sch)) fed;
-      conditions = record { register = o.part_1.conditions; scheme = q.conditions; certificate = r.conditions; plan = p.conditions };
+      parts = with_plan (with_certificate (with_scheme (of_register reg) sch) (own_certificate reg sch fed)) fed;
+      conditions = record { register = o.part_1.conditions; scheme = q.conditions; certificate = plain_valid (chosen reg fed) reg sch (low_chosen reg o.part_1.conditions fed) o.part_1.conditions q.conditions; plan = p.conditions };
       bytes = record {
         first = t;
         second = front (build_call t lent);
-        third = front (plain_call t (front (build_call t lent)) lent');
+        third = front (plain_call t (front (build_call t lent)) plan lent');
         fourth = plan;
         register = o.part_1.bytes;
         scheme = q.bytes;
-        certificate = r.bytes;
+        certificate = own_encodes t (front (build_call t lent)) plan reg sch fed o.part_1 q p lent' y;
         plan = p.bytes;
         bytes = refl;
       };

@@ -1,8 +1,10 @@
 -- The encodings of each register, scheme and plan.
 use mathlib.Core.Path.{◌≡◌, refl, sym, ◌∙◌}
 use mathlib.Core.Logic.{◌⊎◌, inr, ◌↔◌, ⊎_elim}
+use mathlib.Core.Bool.{Bool, true, false}
 use mathlib.Core.List.{List, [], ◌∷◌, ◌++◌, append_assoc}
 use native.Mathlib.Omega.{arith}
+use lib.IntN.{ℤ}
 use lib.ListN.{get_or}
 use Prim.Native.Nat.{ℕ, zero, suc}
 use borrow.Author.Tests.{eq-eqb}
@@ -10,8 +12,8 @@ use Rattle.integers.specs.Lists.{join_below}
 use Rattle.wire.specs.Number.{bytes_of}
 use Rattle.register.specs.declared.Register.{Register}
 use Rattle.register.specs.Limits.{usual_day}
-use Rattle.register.specs.Register.{tank, minute, mask, coefficient, window_tank, window_from, window_to, row_total}
-use Rattle.register.specs.Encoding.{row_list, Encodes, encode_base, encode_window, encode_choice, encode_row, encode_term, encode_length, encode_with_length, encode_without_length, encode_register, SaysLength}
+use Rattle.register.specs.Register.{tank, minute, mask, coefficient, high, is_range, window_tank, window_from, window_to, row_total}
+use Rattle.register.specs.Encoding.{row_list, Encodes, encode_base, encode_window, encode_choice, encode_row, encode_term, encode_range, encode_entry, encode_length, encode_with_length, encode_without_length, encode_register, SaysLength}
 use Rattle.register.proofs.Canonical as R
 use Rattle.scheme.proofs.Canonical as S
 use Rattle.plan.proofs.Accept as P
@@ -42,16 +44,22 @@ unfolding join_below
 join_other f h zero rest o = o
 join_other f h (suc n) rest o = rw append_assoc (join_other f h n (f n ++ rest) (h n rest))
 
+-- in either form of a term
+entry_other : (ranged : Bool) (mask : ℕ) (low high : ℤ) (rest : List ℕ) → Other (encode_entry ranged mask low high ++ rest)
+unfolding encode_term encode_range
+entry_other true mask low high rest z = omega arith
+entry_other false mask low high rest z = omega arith
+
 module _ (reg : Register) where
   without_other : SaysLength (encode_without_length reg) → ⊥
-  unfolding encode_base encode_window encode_choice encode_row encode_term bytes_of
+  unfolding encode_base encode_window encode_choice encode_row bytes_of
   without_other (_, e) =
       let one : Other (0x1F ∷ []) = λ z. omega arith in
       let o =
       join_other (λ j. encode_window (window_tank reg j) (window_from reg j) (window_to reg j)) (λ i rest z. omega arith) reg.windows _
       (join_other (λ i. encode_choice (tank reg i) (minute reg i)) (λ i rest z. omega arith) reg.choices _
       (join_other (λ k. encode_row (row_total reg k) (row_list reg k)) (λ i rest z. omega arith) reg.rows _
-      (join_other (λ t. encode_term (mask reg t) (coefficient reg t)) (λ i rest z. omega arith) reg.terms _ one))) in
+      (join_other (λ t. encode_entry (is_range reg t) (mask reg t) (coefficient reg t) (high reg t)) (λ t. entry_other (is_range reg t) (mask reg t) (coefficient reg t) (high reg t)) reg.terms _ one))) in
       o (simp append_assoc at e)
 
   pub says_length_iff : (s : List ℕ) → Encodes reg s → SaysLength s ↔ (s ≡ encode_with_length reg)

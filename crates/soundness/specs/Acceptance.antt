@@ -15,16 +15,17 @@ use Rattle.bound.specs.Bound.{bound}
 use Rattle.penalty.specs.Answer.{with_penalty}
 use Rattle.plan.specs.declared.CostAnswer.{CostAnswer}
 use Rattle.plan.specs.Plan.{cost}
+use Rattle.plan.specs.Chosen.{chosen}
 use Rattle.plan.specs.Fits.{Fits}
 use Rattle.job.specs.declared.Tally.{Tally}
 use Rattle.job.specs.declared.JobAnswer.{JobAnswer}
-use Rattle.job.specs.Outcome.{Parts}
+use Rattle.job.specs.Outcome.{Parts, coefficients}
 use Rattle.job.specs.Valid.{Valid, Encodes}
 use Rattle.job.specs.Tally.{suppliers, with_accepted, moved}
 use Rattle.search.specs.declared.SearchAnswer.{SearchAnswer}
 use Rattle.search.specs.Answer.{search}
 use Rattle.soundness.specs.Calls.{RegisterCall, SchemeCall, CostCall, PenaltyCall, CheckCall, JobCall, SearchCall}
-use Rattle.soundness.specs.Parts.{Part1, Part2, Part3, Part4, with_r}
+use Rattle.soundness.specs.Parts.{Part1, Part2, Part3, Part4, Choosing, with_r}
 
 -- ---- the parts that a call is lent, and the values that it answers for them
 
@@ -34,22 +35,24 @@ pub record OfScheme (register scheme : List ℕ) (sch : Scheme) : Type 0 where
   pub part_1 : Part1 register reg
   pub part_2 : Part2 reg scheme sch
 
--- parts 1 and 4: the cost of the plan
+-- parts 1 and 4: the cost of the plan, with the coefficients that it chooses
 pub record OfCost (register plan : List ℕ) (z : ℤ) : Type 0 where
   pub reg : Register
   pub fed : ℕ
   pub part_1 : Part1 register reg
   pub part_4 : Part4 reg plan fed
-  pub cost_is : z ≡ cost (coefficient reg) reg fed
+  pub cost_is : z ≡ cost (chosen reg fed) reg fed
 
--- parts 1 to 3: the bound of the certificate
-pub record OfCheck (register scheme certificate : List ℕ) (b : ℤ) : Type 0 where
+-- parts 1 to 3, and of a register with a range part 4: the bound of the certificate, which is one of the coefficients that the plan chooses
+pub record OfCheck (register scheme certificate plan : List ℕ) (b : ℤ) : Type 0 where
   pub reg : Register
   pub sch : Scheme
+  pub fed : ℕ
   pub cert : Certificate
   pub part_1 : Part1 register reg
   pub part_2 : Part2 reg scheme sch
-  pub part_3 : Part3 reg sch certificate cert
+  pub choosing : Choosing reg plan fed
+  pub part_3 : Part3 (chosen reg fed) reg sch certificate cert
   pub bound_is : b ≡ bound cert
 
 -- a job is the four parts, one after the other: the bound and the cost
@@ -58,7 +61,7 @@ pub record OfJob (job : List ℕ) (b z : ℤ) : Type 0 where
   pub conditions : Valid parts
   pub bytes : Encodes parts job
   pub bound_is : b ≡ bound parts.certificate
-  pub cost_is : z ≡ cost (coefficient parts.register) parts.register parts.plan
+  pub cost_is : z ≡ cost (coefficients parts) parts.register parts.plan
 
 -- part 1, and a limit that the visits of the rule do not pass: the plan that the rule comes to, which fits, its cost and the visits
 pub record OfSearch (register : List ℕ) (limit plan : ℕ) (z : ℤ) (visits : ℕ) : Type 0 where
@@ -113,21 +116,21 @@ pub record CostAcceptance (call : CostCall) : Type 0 where
 -- another number
 
 pub record CheckAcceptance (call : CheckCall) : Type 0 where
-  pub all : (register scheme certificate : List ℕ) (table : List ℤ) (b : ℤ) → table_numbers ≤ length table →
-      OfCheck register scheme certificate b → (call register scheme certificate table).0 ≡ check_accepted b
-  pub table_back : (register scheme certificate : List ℕ) (table : List ℤ) (b : ℤ) → table_numbers ≤ length table →
-      (p : OfCheck register scheme certificate b) → (call register scheme certificate table).1 ≡ with_r p.reg p.sch p.cert table
-  pub only : (register scheme certificate : List ℕ) (table : List ℤ) (b : ℤ) → Bytes register → Bytes scheme → Bytes certificate →
-      (call register scheme certificate table).0 ≡ check_accepted b → OfCheck register scheme certificate b
-  pub number_0 : (register scheme certificate : List ℕ) (table : List ℤ) → (call register scheme certificate table).0.number ≡ 0 →
-      (call register scheme certificate table).0 ≡ check_accepted (call register scheme certificate table).0.bound
-  pub short : (register scheme certificate : List ℕ) (table : List ℤ) → length table < table_numbers → (call register scheme certificate table).0.number ≡ 0 → ⊥
+  pub all : (register scheme certificate plan : List ℕ) (table : List ℤ) (b : ℤ) → table_numbers ≤ length table →
+      OfCheck register scheme certificate plan b → (call register scheme certificate plan table).0 ≡ check_accepted b
+  pub table_back : (register scheme certificate plan : List ℕ) (table : List ℤ) (b : ℤ) → table_numbers ≤ length table →
+      (p : OfCheck register scheme certificate plan b) → (call register scheme certificate plan table).1 ≡ with_r (chosen p.reg p.fed) p.reg p.sch p.cert table
+  pub only : (register scheme certificate plan : List ℕ) (table : List ℤ) (b : ℤ) → Bytes register → Bytes scheme → Bytes certificate → Bytes plan →
+      (call register scheme certificate plan table).0 ≡ check_accepted b → OfCheck register scheme certificate plan b
+  pub number_0 : (register scheme certificate plan : List ℕ) (table : List ℤ) → (call register scheme certificate plan table).0.number ≡ 0 →
+      (call register scheme certificate plan table).0 ≡ check_accepted (call register scheme certificate plan table).0.bound
+  pub short : (register scheme certificate plan : List ℕ) (table : List ℤ) → length table < table_numbers → (call register scheme certificate plan table).0.number ≡ 0 → ⊥
 
 pub record JobAcceptance (call : JobCall) : Type 0 where
   pub all : (job : List ℕ) (table : List ℤ) (supplier : ℕ) (tally : Tally) (b z : ℤ) → supplier < suppliers → table_numbers ≤ length table →
       OfJob job b z → (call job table supplier tally).0 ≡ job_accepted b z supplier tally
   pub table_back : (job : List ℕ) (table : List ℤ) (supplier : ℕ) (tally : Tally) (b z : ℤ) → supplier < suppliers → table_numbers ≤ length table →
-      (p : OfJob job b z) → (call job table supplier tally).1 ≡ with_r p.parts.register p.parts.scheme p.parts.certificate table
+      (p : OfJob job b z) → (call job table supplier tally).1 ≡ with_r (coefficients p.parts) p.parts.register p.parts.scheme p.parts.certificate table
   pub only : (job : List ℕ) (table : List ℤ) (supplier : ℕ) (tally : Tally) (b z : ℤ) → Bytes job →
       (call job table supplier tally).0 ≡ job_accepted b z supplier tally → OfJob job b z
   pub number_0 : (job : List ℕ) (table : List ℤ) (supplier : ℕ) (tally : Tally) → (call job table supplier tally).0.number ≡ 0 →

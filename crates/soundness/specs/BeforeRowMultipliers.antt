@@ -15,7 +15,6 @@ use Rattle.forms.specs.Form.{Form, mono, place, times, value, homogenized, entry
 use Rattle.forms.specs.Table.{table_numbers}
 use Rattle.sets.specs.Sets.{ProperSubset, is_proper_subset}
 use Rattle.register.specs.declared.Register.{Register}
-use Rattle.register.specs.Register.{coefficient}
 use Rattle.scheme.specs.declared.Scheme.{Scheme}
 use Rattle.scheme.specs.Scheme.{left, right, variables, side}
 use Rattle.scheme.specs.Variables.{E}
@@ -30,13 +29,14 @@ use Rattle.certificate.specs.Within.{Variable, Product, NullRange, SubtractedRan
 use Rattle.certificate.specs.Encoding.{Encodes}
 use Rattle.residual.specs.Residual.{null_part, reformulated, B, R, square_at}
 use Rattle.bound.specs.Relaxation.{plan_point}
-use Rattle.plan.specs.Plan.{Plan}
+use Rattle.plan.specs.Plan.{Plan, cost}
+use Rattle.plan.specs.Chosen.{chosen}
 use Rattle.job.specs.declared.Tally.{Tally}
 use Rattle.job.specs.Outcome.{Parts}
 use Rattle.job.specs.Valid as J
 use Rattle.soundness.specs.Calls.{CheckCall, PlainCall, JobCall, front}
-use Rattle.soundness.specs.Parts.{Part1, Part2, Part3}
-use Rattle.soundness.specs.Jobs.{plan_cost}
+use Rattle.soundness.specs.Parts.{Part1, Part2, Part3, Choosing, WithPlan}
+use Rattle.soundness.specs.Jobs.{job_cost}
 use Rattle.soundness.specs.Writers.{own_certificate}
 
 -- no multiplier of a certificate is a `3B`
@@ -144,10 +144,10 @@ B_before_rows c reg sch cert i j = entry (shifted_before_rows c reg sch cert) i 
 unfoldable pub R_before_rows : (ℕ → ℤ) → Register → Scheme → Certificate → ℕ → ℕ → ℤ
 R_before_rows c reg sch cert i j = B_before_rows c reg sch cert i j -ℤ sum_over cert.squares (λ q. square_at q i j)
 
--- part 3: within the limits, R carries T, that is, it is diagonally dominant, and the bytes
-pub record Part3BeforeRows (reg : Register) (sch : Scheme) (certificate : List ℕ) (cert : Certificate) : Type 0 where
+-- part 3: within the limits, R carries T, that is, it is diagonally dominant, and the bytes; c t is the coefficient of term t
+pub record Part3BeforeRows (c : ℕ → ℤ) (reg : Register) (sch : Scheme) (certificate : List ℕ) (cert : Certificate) : Type 0 where
   pub within : WithinBeforeRows reg sch cert
-  pub carried : DiagonallyDominant (side reg.choices sch) (R_before_rows (coefficient reg) reg sch cert)
+  pub carried : DiagonallyDominant (side reg.choices sch) (R_before_rows c reg sch cert)
   pub bytes : Encodes cert certificate
 
 -- ---- part 3 before there were rows: how it was read
@@ -191,8 +191,8 @@ SaysRowMultiplier reg sch s = comes_to (part_before_row_multipliers reg sch) (λ
 -- Part 3 without a `3B` is what it was, whether the register has rows or not; of no call in particular.
 pub record AsBeforeRowMultipliers : Type 0 where
   -- it meets today's conditions and has no `3B` just where it meets those of before
-  pub part_3 : (reg : Register) (sch : Scheme) (certificate : List ℕ) (cert : Certificate) →
-      (Part3 reg sch certificate cert × NoRowMultiplier cert) ↔ Part3BeforeRows reg sch certificate cert
+  pub part_3 : (c : ℕ → ℤ) (reg : Register) (sch : Scheme) (certificate : List ℕ) (cert : Certificate) →
+      (Part3 c reg sch certificate cert × NoRowMultiplier cert) ↔ Part3BeforeRows c reg sch certificate cert
   -- its B and its R are those of before
   pub table_b : (c : ℕ → ℤ) (reg : Register) (sch : Scheme) (cert : Certificate) → NoRowMultiplier cert → B c reg sch cert ≡ B_before_rows c reg sch cert
   pub table_r : (c : ℕ → ℤ) (reg : Register) (sch : Scheme) (cert : Certificate) → NoRowMultiplier cert → R c reg sch cert ≡ R_before_rows c reg sch cert
@@ -213,22 +213,23 @@ pub record NullEveryPlan : Type 0 where
   pub function_is : (c : ℕ → ℤ) (reg : Register) (sch : Scheme) (cert : Certificate) → S.Valid reg sch → Within reg sch cert → NoRowMultiplier cert → (plan : ℕ) →
       homogenized (reformulated c reg sch cert) 1 (plan_point reg sch plan) ≡ pos cert.scale *ℤ homogenized (g c reg sch) 1 (plan_point reg sch plan)
 
--- The bound of a certificate without a `3B` is one over every plan of the register's choices, whether it fits the rows or not.
+-- The bound of a certificate without a `3B` is one over every plan of the register's choices, whether it fits the rows or not, with the
+-- coefficients that the plan chooses which is given beside it.
 pub record BoundsEveryPlan (check_call : CheckCall) (plain_call : PlainCall) (job_call : JobCall) : Type 0 where
   -- where the check accepts a certificate without a `3B`, no plan costs less than the bound that it answers
-  pub of_check : (register scheme certificate : List ℕ) (table : List ℤ) (reg : Register) (sch : Scheme) (cert : Certificate) →
-      Part1 register reg → Part2 reg scheme sch → Part3 reg sch certificate cert → NoRowMultiplier cert →
-      (check_call register scheme certificate table).0.number ≡ 0 →
-      (plan : Plan reg.choices) → (check_call register scheme certificate table).0.bound ≤ℤ plan_cost reg plan.fed
+  pub of_check : (register scheme certificate plan : List ℕ) (table : List ℤ) (reg : Register) (sch : Scheme) (fed : ℕ) (cert : Certificate) →
+      Part1 register reg → Part2 reg scheme sch → Choosing reg plan fed → Part3 (chosen reg fed) reg sch certificate cert → NoRowMultiplier cert →
+      (check_call register scheme certificate plan table).0.number ≡ 0 →
+      (other : Plan reg.choices) → (check_call register scheme certificate plan table).0.bound ≤ℤ cost (chosen reg fed) reg other.fed
   -- and so where a job is accepted, of the bound that is answered for it
   pub of_job : (job : List ℕ) (table : List ℤ) (supplier : ℕ) (tally : Tally) (parts : Parts) →
       J.Valid parts → J.Encodes parts job → NoRowMultiplier parts.certificate →
       (job_call job table supplier tally).0.number ≡ 0 →
-      (plan : Plan parts.register.choices) → (job_call job table supplier tally).0.bound ≤ℤ plan_cost parts.register plan.fed
-  -- our own certificate has no `3B`, whatever register and scheme it is of
-  pub own : (reg : Register) (sch : Scheme) → NoRowMultiplier (own_certificate reg sch)
+      (plan : Plan parts.register.choices) → (job_call job table supplier tally).0.bound ≤ℤ job_cost parts plan.fed
+  -- our own certificate has no `3B`, whatever register, scheme and plan it is of
+  pub own : (reg : Register) (sch : Scheme) (fed : ℕ) → NoRowMultiplier (own_certificate reg sch fed)
   -- so the bound that the check, lent a table that is long enough, answers for the bytes that our own call hands back is one over
   -- every plan
-  pub of_own : (register scheme lent : List ℕ) (table : List ℤ) (reg : Register) (sch : Scheme) → Part1 register reg → Part2 reg scheme sch →
-      (plain_call register scheme lent).0.number ≡ 0 → table_numbers ≤ length table →
-      (plan : Plan reg.choices) → (check_call register scheme (front (plain_call register scheme lent)) table).0.bound ≤ℤ plan_cost reg plan.fed
+  pub of_own : (register scheme plan lent : List ℕ) (table : List ℤ) (k : WithPlan register scheme plan) →
+      (plain_call register scheme plan lent).0.number ≡ 0 → table_numbers ≤ length table →
+      (other : Plan k.reg.choices) → (check_call register scheme (front (plain_call register scheme plan lent)) plan table).0.bound ≤ℤ cost (chosen k.reg k.fed) k.reg other.fed

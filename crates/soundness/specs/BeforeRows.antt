@@ -6,7 +6,7 @@ use Rattle.wire.specs.Number.{Bytes}
 use Rattle.wire.specs.Outcome.{Outcome, refuses, accepts, given, and_then, answer_by}
 use Rattle.register.specs.declared.Register.{Register}
 use Rattle.register.specs.Register.{coefficient}
-use Rattle.register.specs.Encoding.{SaysRow}
+use Rattle.register.specs.Encoding.{SaysRow, SaysRange}
 use Rattle.register.specs.BeforeRows.{by_itself_before_rows}
 use Rattle.plan.specs.declared.CostAnswer.{CostAnswer}
 use Rattle.plan.specs.Plan.{cost}
@@ -70,16 +70,17 @@ cost_answer_before_rows register plan = answer_by refused_cost accepted_cost (co
 -- ---- the promises
 
 pub record CostAsBeforeRows (cost_call : CostCall) : Type 0 where
-  -- bytes that say no row are answered as they were, with every plan: refused as part 1 is or as part 4 is, or given the cost
-  pub answers : (register plan : List ℕ) → (SaysRow register → ⊥) → cost_call register plan ≡ cost_answer_before_rows register plan
+  -- bytes that say no row, and no range, which came later, are answered as they were, with every plan: refused as part 1 is or as part 4
+  -- is, or given the cost
+  pub answers : (register plan : List ℕ) → (SaysRow register → ⊥) → (SaysRange register → ⊥) → cost_call register plan ≡ cost_answer_before_rows register plan
   -- where the register has no row, 15 is never answered
   pub never_15 : (register plan : List ℕ) → Bytes register → Bytes plan → (register_of register).rows ≡ 0 → (cost_call register plan).number ≡ 15 → ⊥
 
 pub record SearchAsBeforeRows (search_call : SearchCall) : Type 0 where
   -- without rows the rule comes to what it did, in plan, cost, visits, and in whether a full plan has been met
   pub rule : (c : ℕ → ℤ) (reg : Register) → reg.rows ≡ 0 → search c reg ≡ search_before_rows c reg
-  -- bytes that say no row are answered as they were, with every limit: refused as part 1 is, or 14, or given the plan
-  pub answers : (register : List ℕ) (limit : ℕ) → (SaysRow register → ⊥) → search_call register limit ≡ search_answer_before_rows register limit
+  -- bytes that say no row, and no range, are answered as they were, with every limit: refused as part 1 is, or 14, or given the plan
+  pub answers : (register : List ℕ) (limit : ℕ) → (SaysRow register → ⊥) → (SaysRange register → ⊥) → search_call register limit ≡ search_answer_before_rows register limit
   -- where the register has no row, 16 is never answered
   pub never_16 : (register : List ℕ) (limit : ℕ) → Bytes register → (register_of register).rows ≡ 0 → (search_call register limit).number ≡ 16 → ⊥
   -- a register without rows is accepted as it was: all such bytes and limits, and only such

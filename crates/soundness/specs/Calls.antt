@@ -38,13 +38,13 @@ CostCall = List ℕ → List ℕ → CostAnswer
 abbrev pub PenaltyCall : Type 0
 PenaltyCall = List ℕ → List ℕ → List ℤ → PenaltyAnswer × List ℤ
 
--- parts 1 to 3, and the table
+-- parts 1 to 4, and the table
 abbrev pub CheckCall : Type 0
-CheckCall = List ℕ → List ℕ → List ℕ → List ℤ → CheckAnswer × List ℤ
+CheckCall = List ℕ → List ℕ → List ℕ → List ℕ → List ℤ → CheckAnswer × List ℤ
 
--- parts 1 and 2, and the byte buffer
+-- parts 1, 2 and 4, and the byte buffer
 abbrev pub PlainCall : Type 0
-PlainCall = List ℕ → List ℕ → List ℕ → WriterAnswer × List ℕ
+PlainCall = List ℕ → List ℕ → List ℕ → List ℕ → WriterAnswer × List ℕ
 
 -- part 1, and the byte buffer
 abbrev pub BuildCall : Type 0
@@ -81,10 +81,10 @@ abbrev pub penalty_call : PenaltyCall
 penalty_call register scheme lent = (penalty_answer register scheme lent, penalty_table register scheme lent)
 
 abbrev pub check_call : CheckCall
-check_call register scheme certificate lent = (check_answer register scheme certificate lent, check_table register scheme certificate lent)
+check_call register scheme certificate plan lent = (check_answer register scheme certificate plan lent, check_table register scheme certificate plan lent)
 
 abbrev pub plain_call : PlainCall
-plain_call register scheme lent = (plain_answer register scheme lent, plain_buffer register scheme lent)
+plain_call register scheme plan lent = (plain_answer register scheme plan lent, plain_buffer register scheme plan lent)
 
 abbrev pub build_call : BuildCall
 build_call register lent = (build_answer register lent, build_buffer register lent)

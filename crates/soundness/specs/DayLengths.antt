@@ -8,8 +8,8 @@ use Rattle.register.specs.declared.Register.{Register}
 use Rattle.register.specs.declared.RegisterAnswer.{RegisterAnswer}
 use Rattle.register.specs.Limits.{max_choices, max_windows, max_base, max_tank, usual_day, long_day}
 use Rattle.register.specs.Register.{tank, minute, window_from, window_to, set_length}
-use Rattle.register.specs.Valid.{DayLength, Before, Terms, MayFeed, window_at}
-use Rattle.register.specs.Encoding.{Encodes, encode_base, encode_length, encode_choice, encode_windows, encode_choices, encode_terms, encode_with_length, encode_without_length, encode_register, HasByte, SaysLength, length_in, SaysRow}
+use Rattle.register.specs.Valid.{DayLength, Before, MayFeed, window_at}
+use Rattle.register.specs.Encoding.{Encodes, encode_base, encode_length, encode_choice, encode_windows, encode_choices, encode_with_length, encode_without_length, encode_register, HasByte, SaysLength, length_in, SaysRow, SaysRange}
 use Rattle.register.specs.Ranges.{OutOfRange}
 use Rattle.register.specs.Format.{register_in_job, register_by_itself}
 use Rattle.register.specs.Answer.{refused_answer, register_answer}
@@ -17,6 +17,7 @@ use Rattle.register.specs.BeforeLengths.{max_minute_before, max_to_before, in_jo
 use Rattle.text.specs.Text.{HasLine}
 use Rattle.job.specs.declared.Tally.{Tally}
 use Rattle.listing.specs.Listing.{fed_line}
+use Rattle.soundness.specs.BeforeRanges.{TermsBefore, encode_terms_before, without_ranges}
 use Rattle.soundness.specs.Calls.{RegisterCall, CostCall, JobCall, ListingCall}
 use Rattle.soundness.specs.Parts.{Part1, Part4}
 use Rattle.soundness.specs.Acceptance.{register_accepted}
@@ -57,8 +58,8 @@ pub record UsualDay (answer : RegisterAnswer) : Type 0 where
   pub accepted : answer.number ≡ 0 → answer.register.day_length ≡ usual_day
   pub refused : (answer.number ≡ 0 → ⊥) → answer.register.day_length ≡ 0
 
--- the conditions on a register before there were day lengths, which was before there were rows: on the ranges of a choice and of a
--- window, and on the whole
+-- the conditions on a register before there were day lengths, which was before there were rows and ranges: on the numbers of a choice and
+-- of a window, and on the whole
 
 pub record ChoiceBefore (t m : ℕ) : Type 0 where
   pub tank_above : 1 ≤ t
@@ -78,7 +79,7 @@ pub record ValidBeforeLengths (r : Register) : Type 0 where
   pub tanks : Column max_choices r.choices 0 r.tanks
   pub minutes : Column max_choices r.choices 0 r.minutes
   pub choices : Table max_choices r.choices (λ i. (tank r i, minute r i)) (λ c. ChoiceBefore c.0 c.1) Before
-  pub terms : Terms r.choices r.terms r.masks r.coefficients
+  pub terms : TermsBefore r.choices r.terms r.masks r.coefficients
   pub window_tanks : Column max_windows r.windows 0 r.window_tanks
   pub window_froms : Column max_windows r.windows 0 r.window_froms
   pub window_tos : Column max_windows r.windows 0 r.window_tos
@@ -88,7 +89,7 @@ pub record ValidBeforeLengths (r : Register) : Type 0 where
 
 -- and its bytes: `10`, each `13`, each `11`, each `12`, `1F`
 abbrev pub bytes_before_lengths : Register → List ℕ
-bytes_before_lengths r = encode_base r.base ++ encode_windows r ++ encode_choices r ++ encode_terms r ++ (0x1F ∷ [])
+bytes_before_lengths r = encode_base r.base ++ encode_windows r ++ encode_choices r ++ encode_terms_before r ++ (0x1F ∷ [])
 
 -- ---- the promises
 
@@ -119,18 +120,18 @@ pub record LengthsKept (register_call : RegisterCall) (cost_call : CostCall) (jo
   -- the usual length may be said or not: the register is the same
   pub said_or_not : (reg : Register) → reg.day_length ≡ usual_day →
       (register_call (encode_with_length reg) ≡ register_accepted reg) ↔ (register_call (encode_without_length reg) ≡ register_accepted reg)
-  -- bytes that say no length have the usual one, with rows or without
+  -- bytes that say no length have the usual one, with rows and ranges or without
   pub usual : (register : List ℕ) → (SaysLength register → ⊥) → UsualDay (register_call register)
-  -- and are answered as they were, accepted or refused, where they say no row, which came later
-  pub read_as_before : (register : List ℕ) → (SaysLength register → ⊥) → (SaysRow register → ⊥) → register_call register ≡ register_answer (by_itself_before_lengths register)
+  -- and are answered as they were, accepted or refused, where they say no row and no range, which came later
+  pub read_as_before : (register : List ℕ) → (SaysLength register → ⊥) → (SaysRow register → ⊥) → (SaysRange register → ⊥) → register_call register ≡ register_answer (by_itself_before_lengths register)
 
--- A register that says no length and no row is what it was, of no call in particular: each call reads part 1 at the front of a job or
+-- A register that says no length, no row and no range is what it was, of no call in particular: each call reads part 1 at the front of a job or
 -- by itself, and what is said of part 1 has its earlier form.
 pub record AsBeforeLengths : Type 0 where
   -- bytes that say a length have a byte `18`; and an encoding of a register says one just where it is the one with `18`
   pub length_byte : (s : List ℕ) → SaysLength s → HasByte 0x18 s
   pub says_length : (register : List ℕ) (reg : Register) → Encodes reg register → SaysLength register ↔ (register ≡ encode_with_length reg)
-  pub in_job : (s : List ℕ) → (SaysLength s → ⊥) → (SaysRow s → ⊥) → register_in_job s ≡ in_job_before_lengths s
-  pub by_itself : (s : List ℕ) → (SaysLength s → ⊥) → (SaysRow s → ⊥) → register_by_itself s ≡ by_itself_before_lengths s
+  pub in_job : (s : List ℕ) → (SaysLength s → ⊥) → (SaysRow s → ⊥) → (SaysRange s → ⊥) → register_in_job s ≡ in_job_before_lengths s
+  pub by_itself : (s : List ℕ) → (SaysLength s → ⊥) → (SaysRow s → ⊥) → (SaysRange s → ⊥) → register_by_itself s ≡ by_itself_before_lengths s
   pub part_1 : (register : List ℕ) (reg : Register) → (SaysLength register → ⊥) →
-      Part1 register (without_rows reg) ↔ (ValidBeforeLengths reg × (reg.day_length ≡ usual_day) × (register ≡ bytes_before_lengths reg))
+      Part1 register (without_rows (without_ranges reg)) ↔ (ValidBeforeLengths reg × (reg.day_length ≡ usual_day) × (register ≡ bytes_before_lengths reg))

@@ -1,25 +1,32 @@
 -- What a farm reads of a job: the numbers that the job call answers and the lines that the listing call writes, as a predicate of
 -- any two such calls. Each may be lent a table of its own.
-use Rattle.std.specs.Prelude.{ℕ, ◌<◌, ◌≤◌, ◌≡◌, ◌↔◌, cond, List, [], ◌∷◌, ◌++◌, eqb, ℤ, pos, ◌-ℤ◌, length, take, ◌≤ℤ◌}
+use Rattle.std.specs.Prelude.{ℕ, ◌<◌, ◌≤◌, ◌≡◌, ◌↔◌, false, cond, List, [], ◌∷◌, ◌++◌, eqb, ℤ, pos, ◌-ℤ◌, length, take, ◌≤ℤ◌}
 use Rattle.wire.specs.Number.{Bytes}
 use Rattle.forms.specs.Table.{table_numbers}
-use Rattle.register.specs.declared.Register.{Register}
-use Rattle.register.specs.Register.{coefficient}
+use Rattle.register.specs.Register.{coefficient, has_range}
 use Rattle.plan.specs.Plan as P
 use Rattle.plan.specs.Fits.{Fits}
 use Rattle.job.specs.declared.Tally.{Tally}
 use Rattle.job.specs.declared.JobAnswer.{JobAnswer}
 use Rattle.job.specs.Tally.{suppliers}
-use Rattle.job.specs.Outcome.{Parts}
+use Rattle.job.specs.Outcome.{Parts, coefficients}
 use Rattle.job.specs.Valid.{Valid, Encodes}
 use Rattle.listing.specs.Listing.{plan_lines, bound_line, refusal_line}
 use Rattle.listing.specs.Answer.{listing_room}
 use Rattle.listing.specs.Same.{SamePlan}
 use Rattle.soundness.specs.Calls.{JobCall, ListingCall}
 
--- the cost of a plan, by a register
-abbrev pub plan_cost : Register → ℕ → ℤ
-plan_cost reg plan = P.cost (coefficient reg) reg plan
+-- the cost of any plan, with the coefficients that the plan of a job chooses
+abbrev pub job_cost : Parts → ℕ → ℤ
+job_cost parts plan = P.cost (coefficients parts) parts.register plan
+
+-- what bound and cost of an answer say of the parts of a job, with coefficients c
+pub record JobCosts (c : ℕ → ℤ) (parts : Parts) (answer : JobAnswer) : Type 0 where
+  -- no plan of their register that fits costs less than the bound, and without rows none at all
+  pub bounds : (plan : P.Plan parts.register.choices) → Fits parts.register plan.fed → answer.bound ≤ℤ P.cost c parts.register plan.fed
+  pub bounds_every : parts.register.rows ≡ 0 → (plan : P.Plan parts.register.choices) → answer.bound ≤ℤ P.cost c parts.register plan.fed
+  -- the cost is that of their plan
+  pub cost_is : answer.cost ≡ P.cost c parts.register parts.plan
 
 -- the bytes before the first that is a given one, all where none is
 unfoldable pub before : ℕ → List ℕ → List ℕ
@@ -57,11 +64,9 @@ module _ (job_call : JobCall) (listing_call : ListingCall) where
     pub no_other : Bytes job → (others : Parts) → Valid others → Encodes others job → others ≡ parts
     -- its plan fits the rows of its register
     pub fits : Fits parts.register parts.plan
-    -- no plan of its register that fits costs less than the bound, and without rows none at all
-    pub bounds : (plan : P.Plan parts.register.choices) → Fits parts.register plan.fed → (answered job table supplier tally).bound ≤ℤ plan_cost parts.register plan.fed
-    pub bounds_every : parts.register.rows ≡ 0 → (plan : P.Plan parts.register.choices) → (answered job table supplier tally).bound ≤ℤ plan_cost parts.register plan.fed
-    -- the cost is that of its plan
-    pub cost_is : (answered job table supplier tally).cost ≡ plan_cost parts.register parts.plan
+    -- bound and cost are of the coefficients that its plan chooses; where its register has no range, of the low ones, as before there were any
+    pub costs : JobCosts (coefficients parts) parts (answered job table supplier tally)
+    pub costs_known : has_range parts.register ≡ false → JobCosts (coefficient parts.register) parts (answered job table supplier tally)
     -- the gap says how far the cost is above the bound
     pub gap_is : (answered job table supplier tally).gap ≡ (answered job table supplier tally).cost -ℤ (answered job table supplier tally).bound
     pub gap_not_negative : pos 0 ≤ℤ (answered job table supplier tally).gap

@@ -2,14 +2,14 @@
 -- are those of the first command of the part that is not right, and within it the lowest number (`wire/specs/Refused`,
 -- `bound/specs/Refused`), that the answer's other fields are 0, and what table and buffer then hold. 10, 11, 12, 14, 16
 -- and 17, which no wrong command causes, have cases of their own. The bytes settle number and position: `refused_iff` in `wire/proofs/Lowest`.
-use Rattle.std.specs.Prelude.{ℕ, ◌+◌, ◌≤◌, ◌<◌, ◌≡◌, ◌⊎◌, List, ◌++◌, ℤ, pos, length}
+use Rattle.std.specs.Prelude.{ℕ, ◌+◌, ◌≤◌, ◌<◌, ◌≡◌, ◌⊎◌, true, false, List, ◌++◌, ℤ, pos, length}
 use Rattle.std.proofs.Common.{inl, inr}
 use Rattle.wire.specs.Number.{Bytes}
 use Rattle.wire.specs.Refused.{RefusedAt, RefusedByItself}
 use Rattle.wire.specs.Walk.{Stands}
 use Rattle.forms.specs.Table.{table_numbers}
 use Rattle.register.specs.declared.Register.{Register}
-use Rattle.register.specs.Register.{coefficient}
+use Rattle.register.specs.Register.{coefficient, has_range}
 use Rattle.register.specs.Register as OfRegister
 use Rattle.register.specs.Format.{register_part}
 use Rattle.register.specs.Encoding.{term_kind}
@@ -23,13 +23,14 @@ use Rattle.certificate.specs.Certificate.{Certificate}
 use Rattle.bound.specs.Refused.{CertificateRefused, CertificateRefusedByItself}
 use Rattle.plain.specs.Encoding.{encode_plain}
 use Rattle.plan.specs.Format.{plan_part}
+use Rattle.plan.specs.Chosen.{chosen}
 use Rattle.job.specs.declared.Tally.{Tally}
 use Rattle.job.specs.Tally.{suppliers, with_refused, moved}
 use Rattle.job.specs.Outcome.{outcome, table_after}
 use Rattle.listing.specs.Listing.{PlanLines, plan_lines, supplier_lines, listed}
 use Rattle.search.specs.Answer.{search}
 use Rattle.soundness.specs.Calls.{RegisterCall, SchemeCall, CostCall, PenaltyCall, CheckCall, PlainCall, BuildCall, JobCall, ListingCall, SearchCall}
-use Rattle.soundness.specs.Parts.{Part1, Part2, Part3, NoneFit, with_r}
+use Rattle.soundness.specs.Parts.{Part1, Part2, Part3, Part4, WithPlan, NoneFit, with_r}
 
 -- ---- the parts before the one that is refused
 
@@ -43,26 +44,38 @@ pub record Before3 (register scheme : List ℕ) : Type 0 where
   pub part_1 : Part1 register reg
   pub part_2 : Part2 reg scheme sch
 
+-- in a job whose register has no range, where the plan comes last
 pub record Before4 (register scheme certificate : List ℕ) : Type 0 where
   pub reg : Register
   pub sch : Scheme
   pub cert : Certificate
+  pub no_range : has_range reg ≡ false
   pub part_1 : Part1 register reg
   pub part_2 : Part2 reg scheme sch
-  pub part_3 : Part3 reg sch certificate cert
+  pub part_3 : Part3 (coefficient reg) reg sch certificate cert
+
+-- in a job whose register has one, where the certificate comes last
+pub record BeforeLast (register scheme plan : List ℕ) : Type 0 where
+  pub reg : Register
+  pub sch : Scheme
+  pub fed : ℕ
+  pub ranged : has_range reg ≡ true
+  pub part_1 : Part1 register reg
+  pub part_2 : Part2 reg scheme sch
+  pub part_4 : Part4 reg plan fed
 
 -- ---- the table after a refused certificate: as it was lent where a command is refused, 1 to 8, and else, `3F` being reached, with R
 
-module _ (reg : Register) (sch : Scheme) (lent : List ℤ) where
+module _ (c : ℕ → ℤ) (reg : Register) (sch : Scheme) (lent : List ℤ) where
   -- a command is refused, or R falls short
-  abbrev pub table_refused : {s : List ℕ} {number at : ℕ} → CertificateRefused (coefficient reg) reg sch s number at → List ℤ
+  abbrev pub table_refused : {s : List ℕ} {number at : ℕ} → CertificateRefused c reg sch s number at → List ℤ
   table_refused (inl command) = lent
-  table_refused (inr short) = with_r reg sch short.certificate lent
+  table_refused (inr short) = with_r c reg sch short.certificate lent
 
   -- or bytes stand after the end
-  abbrev pub table_refused_by_itself : {s : List ℕ} {number at : ℕ} → CertificateRefusedByItself (coefficient reg) reg sch s number at → List ℤ
+  abbrev pub table_refused_by_itself : {s : List ℕ} {number at : ℕ} → CertificateRefusedByItself c reg sch s number at → List ℤ
   table_refused_by_itself (inl inside) = table_refused inside
-  table_refused_by_itself (inr past) = with_r reg sch past.certificate lent
+  table_refused_by_itself (inr past) = with_r c reg sch past.certificate lent
 
 -- ---- parts that are runs of bytes by themselves, refused with this number in this part at this position of its bytes
 
@@ -76,11 +89,19 @@ module _ (number part at : ℕ) where
     pub before : Before2 register
     pub refused : RefusedByItself (scheme_part before.reg) scheme number at
 
-  pub record InCertificate (register scheme certificate : List ℕ) (lent table : List ℤ) : Type 0 where
+  -- with the coefficients that the plan chooses
+  pub record InCertificate (register scheme plan certificate : List ℕ) (lent table : List ℤ) : Type 0 where
     pub part_is : part ≡ 3
+    pub before : WithPlan register scheme plan
+    pub refused : CertificateRefusedByItself (chosen before.reg before.fed) before.reg before.sch certificate number at
+    pub table_is : table ≡ table_refused_by_itself (chosen before.reg before.fed) before.reg before.sch lent refused
+
+  -- the plan that chooses them, of a register with a range
+  pub record InChoosing (register scheme plan : List ℕ) : Type 0 where
+    pub part_is : part ≡ 4
     pub before : Before3 register scheme
-    pub refused : CertificateRefusedByItself (coefficient before.reg) before.reg before.sch certificate number at
-    pub table_is : table ≡ table_refused_by_itself before.reg before.sch lent refused
+    pub ranged : has_range before.reg ≡ true
+    pub refused : RefusedByItself (plan_part before.reg) plan number at
 
   pub record InPlan (register plan : List ℕ) : Type 0 where
     pub part_is : part ≡ 4
@@ -112,9 +133,9 @@ module _ (number part at : ℕ) where
     pub buffer : ShortBuffer (encode_scheme before.reg.choices scheme) lent
 
   -- the certificate of our own
-  pub record PlainTooLong (register scheme lent : List ℕ) : Type 0 where
-    pub before : Before3 register scheme
-    pub buffer : ShortBuffer (encode_plain (coefficient before.reg) before.reg before.sch) lent
+  pub record PlainTooLong (register scheme plan lent : List ℕ) : Type 0 where
+    pub before : WithPlan register scheme plan
+    pub buffer : ShortBuffer (encode_plain (chosen before.reg before.fed) before.reg before.sch) lent
 
   -- the search, with a register that is right: the rule visits more partial plans than the limit
   pub record PastLimit (register : List ℕ) (limit : ℕ) : Type 0 where
@@ -156,16 +177,18 @@ module _ (number part position : ℕ) (job : List ℕ) (lent table : List ℤ) w
     pub behind : Behind register job position (λ rest at. RefusedAt (scheme_part before.reg) rest number at)
     pub table_is : table ≡ lent
 
+  -- where the register has no range, the certificate comes before the plan
   pub record FromCertificate : Type 0 where
     pub part_is : part ≡ 3
     pub register : List ℕ
     pub scheme : List ℕ
     pub before : Before3 register scheme
+    pub no_range : has_range before.reg ≡ false
     pub behind : Behind (register ++ scheme) job position
         (λ rest at. CertificateRefused (coefficient before.reg) before.reg before.sch rest number at)
-    pub table_is : table ≡ table_refused before.reg before.sch lent behind.refused
+    pub table_is : table ≡ table_refused (coefficient before.reg) before.reg before.sch lent behind.refused
 
-  -- the plan is the last part: all that is left of the job is the plan by itself
+  -- the plan is then the last part: all that is left of the job is the plan by itself
   pub record FromPlan : Type 0 where
     pub part_is : part ≡ 4
     pub register : List ℕ
@@ -174,7 +197,28 @@ module _ (number part position : ℕ) (job : List ℕ) (lent table : List ℤ) w
     pub before : Before4 register scheme certificate
     pub behind : Behind ((register ++ scheme) ++ certificate) job position
         (λ rest at. RefusedByItself (plan_part before.reg) rest number at)
-    pub table_is : table ≡ with_r before.reg before.sch before.cert lent
+    pub table_is : table ≡ with_r (coefficient before.reg) before.reg before.sch before.cert lent
+
+  -- where the register has a range, the plan comes before the certificate
+  pub record FromPlanFirst : Type 0 where
+    pub part_is : part ≡ 4
+    pub register : List ℕ
+    pub scheme : List ℕ
+    pub before : Before3 register scheme
+    pub ranged : has_range before.reg ≡ true
+    pub behind : Behind (register ++ scheme) job position (λ rest at. RefusedAt (plan_part before.reg) rest number at)
+    pub table_is : table ≡ lent
+
+  -- the certificate is then the last part, and is of the coefficients that the plan chooses
+  pub record FromCertificateLast : Type 0 where
+    pub part_is : part ≡ 3
+    pub register : List ℕ
+    pub scheme : List ℕ
+    pub plan : List ℕ
+    pub before : BeforeLast register scheme plan
+    pub behind : Behind ((register ++ scheme) ++ plan) job position
+        (λ rest at. CertificateRefusedByItself (chosen before.reg before.fed) before.reg before.sch rest number at)
+    pub table_is : table ≡ table_refused_by_itself (chosen before.reg before.fed) before.reg before.sch lent behind.refused
 
 -- ---- the calls. A table that is too short is refused 11 with part and position 0, before all else, and is left as it was lent
 
@@ -222,27 +266,29 @@ pub record PenaltyRefusals (call : PenaltyCall) : Type 0 where
       ⊎ InScheme a.number a.part a.position register scheme)
 
 pub record CheckRefusals (call : CheckCall) : Type 0 where
-  pub short : (register scheme certificate : List ℕ) (lent : List ℤ) → length lent < table_numbers →
-      call register scheme certificate lent ≡ (record { number = 11; part = 0; position = 0; bound = pos 0 }, lent)
-  pub refused : (register scheme certificate : List ℕ) → Bytes register → Bytes scheme → Bytes certificate → (lent : List ℤ) → table_numbers ≤ length lent →
-      let a = (call register scheme certificate lent).0 in
-      let table = (call register scheme certificate lent).1 in
+  pub short : (register scheme certificate plan : List ℕ) (lent : List ℤ) → length lent < table_numbers →
+      call register scheme certificate plan lent ≡ (record { number = 11; part = 0; position = 0; bound = pos 0 }, lent)
+  pub refused : (register scheme certificate plan : List ℕ) → Bytes register → Bytes scheme → Bytes certificate → Bytes plan → (lent : List ℤ) → table_numbers ≤ length lent →
+      let a = (call register scheme certificate plan lent).0 in
+      let table = (call register scheme certificate plan lent).1 in
       (a.number ≡ 0 → ⊥) →
       (a.bound ≡ pos 0)
       × ((InRegister a.number a.part a.position register × (table ≡ lent))
       ⊎ ((InScheme a.number a.part a.position register scheme × (table ≡ lent))
-      ⊎ InCertificate a.number a.part a.position register scheme certificate lent table))
+      ⊎ ((InChoosing a.number a.part a.position register scheme plan × (table ≡ lent))
+      ⊎ InCertificate a.number a.part a.position register scheme plan certificate lent table)))
 
 -- its buffer is left as it was lent
 abbrev pub PlainRefusals : PlainCall → Type 0
-PlainRefusals call = (register scheme : List ℕ) → Bytes register → Bytes scheme → (lent : List ℕ) →
-    let a = (call register scheme lent).0 in
+PlainRefusals call = (register scheme plan : List ℕ) → Bytes register → Bytes scheme → Bytes plan → (lent : List ℕ) →
+    let a = (call register scheme plan lent).0 in
     (a.number ≡ 0 → ⊥) →
     (a.count ≡ 0)
-    × ((call register scheme lent).1 ≡ lent)
+    × ((call register scheme plan lent).1 ≡ lent)
     × (InRegister a.number a.part a.position register
     ⊎ (InScheme a.number a.part a.position register scheme
-    ⊎ PlainTooLong a.number a.part a.position register scheme lent))
+    ⊎ (InChoosing a.number a.part a.position register scheme plan
+    ⊎ PlainTooLong a.number a.part a.position register scheme plan lent)))
 
 -- the tally is no field that is 0: a refused job is counted for its supplier, whatever refuses it. Where there is no such supplier
 -- nothing is counted, and nothing else is looked at
@@ -264,7 +310,9 @@ pub record JobRefusals (call : JobCall) : Type 0 where
       × (FromRegister a.number a.part a.position job lent table
       ⊎ (FromScheme a.number a.part a.position job lent table
       ⊎ (FromCertificate a.number a.part a.position job lent table
-      ⊎ FromPlan a.number a.part a.position job lent table)))
+      ⊎ (FromPlan a.number a.part a.position job lent table
+      ⊎ (FromPlanFirst a.number a.part a.position job lent table
+      ⊎ FromCertificateLast a.number a.part a.position job lent table)))))
 
 -- of a listing with these lines of a register and a plan the only refusal is 11; a buffer below the lines is found after the job is
 -- read, and the table is then the one after the job

@@ -11,16 +11,17 @@ use Rattle.forms.specs.Form.{place, value, entry}
 use Rattle.forms.specs.Table.{table_numbers}
 use Rattle.register.specs.declared.Register.{Register}
 use Rattle.register.specs.Limits.{max_base, usual_day}
-use Rattle.register.specs.Register.{tank, minute, coefficient, row_total, row_entry}
+use Rattle.register.specs.Register.{tank, minute, row_total, row_entry, has_range}
 use Rattle.register.specs.Valid as R
-use Rattle.register.specs.Valid.{DayLength, Choices, Terms, Windows, MayFeed, window_at}
-use Rattle.register.specs.Encoding.{Encodes, encode_base, encode_length, encode_windows, encode_choices, encode_terms, encode_register, HasByte, SaysRow}
+use Rattle.register.specs.Valid.{DayLength, Choices, Windows, MayFeed, window_at}
+use Rattle.register.specs.Encoding.{Encodes, encode_base, encode_length, encode_windows, encode_choices, encode_register, HasByte, SaysRow, SaysRange}
 use Rattle.register.specs.Answer.{register_answer}
 use Rattle.register.specs.Format.{register_in_job, register_by_itself}
 use Rattle.register.specs.BeforeRows.{in_job_before_rows, by_itself_before_rows}
 use Rattle.plan.specs.declared.CostAnswer.{CostAnswer}
 use Rattle.plan.specs.Plan.{cost}
 use Rattle.plan.specs.Fits.{Fits, fed_sum}
+use Rattle.plan.specs.Chosen.{chosen}
 use Rattle.plan.specs.Format.{plan_in_job, plan_by_itself}
 use Rattle.plan.specs.BeforeRows.{plan_in_job_before_rows, plan_by_itself_before_rows}
 use Rattle.plan.specs.Encoding.{encode_plan}
@@ -43,9 +44,10 @@ use Rattle.job.specs.declared.JobAnswer.{JobAnswer}
 use Rattle.job.specs.Tally.{suppliers, with_refused, moved}
 use Rattle.listing.specs.Listing.{fed_line}
 use Rattle.soundness.specs.Calls.{RegisterCall, CostCall, CheckCall, JobCall, ListingCall}
-use Rattle.soundness.specs.Parts.{Part1, Part2, Part3, Part4}
+use Rattle.soundness.specs.Parts.{Part1, Part2, Part3, Part4, Choosing}
 use Rattle.soundness.specs.Acceptance.{register_accepted, cost_accepted}
-use Rattle.soundness.specs.Refusals.{Before4}
+use Rattle.soundness.specs.Refusals.{Before3, Before4}
+use Rattle.soundness.specs.BeforeRanges.{TermsBefore, encode_terms_before, without_ranges}
 use Rattle.soundness.specs.Jobs.{Accepted, Listed, shown, AcceptedJob}
 use Rattle.soundness.specs.Windows.{without_rows}
 
@@ -95,8 +97,8 @@ pub record Misfit (register plan : List ℕ) : Type 0 where
   pub rest : List ℕ
   pub bytes : plan ≡ encode_plan fed ++ rest
 
--- in a job: parts 1 to 3, and at a position such a plan
-pub record MisfitJob (job : List ℕ) (position : ℕ) : Type 0 where
+-- in a job whose register has no range: parts 1 to 3, and at a position such a plan
+pub record MisfitLast (job : List ℕ) (position : ℕ) : Type 0 where
   pub register : List ℕ
   pub scheme : List ℕ
   pub certificate : List ℕ
@@ -107,6 +109,22 @@ pub record MisfitJob (job : List ℕ) (position : ℕ) : Type 0 where
   pub rest : List ℕ
   pub bytes : job ≡ ((register ++ scheme) ++ certificate) ++ (encode_plan fed ++ rest)
   pub position_is : position ≡ length ((register ++ scheme) ++ certificate)
+
+-- in one whose register has a range: parts 1 and 2, and at a position such a plan
+pub record MisfitFirst (job : List ℕ) (position : ℕ) : Type 0 where
+  pub register : List ℕ
+  pub scheme : List ℕ
+  pub before : Before3 register scheme
+  pub ranged : has_range before.reg ≡ true
+  pub fed : ℕ
+  pub inside : fed < 2 ^ before.reg.choices
+  pub misfit : Fits before.reg fed → ⊥
+  pub rest : List ℕ
+  pub bytes : job ≡ (register ++ scheme) ++ (encode_plan fed ++ rest)
+  pub position_is : position ≡ length (register ++ scheme)
+
+abbrev pub MisfitJob : List ℕ → ℕ → Type 0
+MisfitJob job position = MisfitLast job position ⊎ MisfitFirst job position
 
 -- at the plan's command, which is the first of part 4
 abbrev pub plan_refused : ℕ → CostAnswer
@@ -177,20 +195,21 @@ pub record RowForms : Type 0 where
 
 -- ---- what rows leave as it is
 
--- rows change neither what a plan costs, nor g, the penalty form in a table and our own certificate, of no call in particular
+-- rows change neither what a plan costs, nor g, the penalty form in a table and our own certificate, of no call in particular; c t is the
+-- coefficient of term t
 pub record RowsApart : Type 0 where
-  pub costs : (reg : Register) (plan : ℕ) → cost (coefficient reg) (without_rows reg) plan ≡ cost (coefficient reg) reg plan
-  pub function : (reg : Register) (sch : Scheme) → g (coefficient reg) (without_rows reg) sch ≡ g (coefficient reg) reg sch
+  pub costs : (c : ℕ → ℤ) (reg : Register) (plan : ℕ) → cost c (without_rows reg) plan ≡ cost c reg plan
+  pub function : (c : ℕ → ℤ) (reg : Register) (sch : Scheme) → g c (without_rows reg) sch ≡ g c reg sch
   pub penalty_form : (reg : Register) (sch : Scheme) (lent : List ℤ) → with_penalty (without_rows reg) sch lent ≡ with_penalty reg sch lent
-  pub own_certificate : (reg : Register) (sch : Scheme) → plain (coefficient reg) (without_rows reg) sch ≡ plain (coefficient reg) reg sch
+  pub own_certificate : (c : ℕ → ℤ) (reg : Register) (sch : Scheme) → plain c (without_rows reg) sch ≡ plain c reg sch
 
 -- ---- without rows
 
--- the conditions on a register before there were rows
+-- the conditions on a register before there were rows, which was before there were ranges
 pub record ValidBeforeRows (r : Register) : Type 0 where
   pub base : nat_abs r.base ≤ max_base
   pub choices : Choices r.day_length r.choices r.tanks r.minutes
-  pub terms : Terms r.choices r.terms r.masks r.coefficients
+  pub terms : TermsBefore r.choices r.terms r.masks r.coefficients
   pub windows : Windows r.day_length r.windows r.window_tanks r.window_froms r.window_tos
   pub may_feed : (i : ℕ) → i < r.choices → MayFeed r.windows (window_at r) (tank r i) (minute r i)
   pub day_length : DayLength r.day_length
@@ -199,7 +218,7 @@ pub record ValidBeforeRows (r : Register) : Type 0 where
 -- and its bytes: `10`, `18`, which may be missing where the length is the usual one, each `13`, each `11`, each `12`, `1F`
 
 abbrev pub after_before_rows : List ℕ → Register → List ℕ
-after_before_rows header r = header ++ encode_windows r ++ encode_choices r ++ encode_terms r ++ (0x1F ∷ [])
+after_before_rows header r = header ++ encode_windows r ++ encode_choices r ++ encode_terms_before r ++ (0x1F ∷ [])
 
 abbrev pub EncodesBeforeRows : Register → List ℕ → Type 0
 EncodesBeforeRows r s =
@@ -230,9 +249,9 @@ pub record RowsKept (register_call : RegisterCall) (cost_call : CostCall) (check
   pub names_first : (register rest : List ℕ) (reg : Register) (fed : ℕ) → Part1 register reg → 2 ^ reg.choices ≤ fed → fed < 2 ^ 32 →
       cost_call register (encode_plan fed ++ rest) ≡ plan_refused 5
   -- a `3B` of a row that is not there is refused 5, and an accepted certificate has none
-  pub row_absent : (register scheme certificate : List ℕ) (reg : Register) (sch : Scheme) (table : List ℤ) → table_numbers ≤ length table →
-      Part1 register reg → Part2 reg scheme sch → RowAbsent reg certificate → (check_call register scheme certificate table).0 ≡ row_absent
-  pub rows_named : (reg : Register) (sch : Scheme) (certificate : List ℕ) (cert : Certificate) → Part3 reg sch certificate cert → NamesRows reg cert
+  pub row_absent : (register scheme certificate plan : List ℕ) (reg : Register) (sch : Scheme) (fed : ℕ) (table : List ℤ) → table_numbers ≤ length table →
+      Part1 register reg → Part2 reg scheme sch → Choosing reg plan fed → RowAbsent reg certificate → (check_call register scheme certificate plan table).0 ≡ row_absent
+  pub rows_named : (c : ℕ → ℤ) (reg : Register) (sch : Scheme) (certificate : List ℕ) (cert : Certificate) → Part3 c reg sch certificate cert → NamesRows reg cert
   -- without rows every plan fits, as where the bytes say no row
   pub every_plan : (reg : Register) → reg.rows ≡ 0 → (plan : ℕ) → Fits reg plan
   pub none_said : (register : List ℕ) → (SaysRow register → ⊥) → (register_call register).register.rows ≡ 0
@@ -240,21 +259,21 @@ pub record RowsKept (register_call : RegisterCall) (cost_call : CostCall) (check
   pub says_row : (register : List ℕ) → (register_call register).number ≡ 0 → SaysRow register ↔ (1 ≤ (register_call register).register.rows)
   -- and every set of the choices is accepted for its cost, as before there were rows
   pub cost_every : (register plan : List ℕ) (reg : Register) (fed : ℕ) → Part1 register reg → reg.rows ≡ 0 → fed < 2 ^ reg.choices → PE.Encodes reg fed plan →
-      cost_call register plan ≡ cost_accepted (cost (coefficient reg) reg fed)
-  -- bytes that say no row are answered as they were, accepted or refused, with no row
-  pub read_as_before : (register : List ℕ) → (SaysRow register → ⊥) →
+      cost_call register plan ≡ cost_accepted (cost (chosen reg fed) reg fed)
+  -- bytes that say no row, and no range, which came later, are answered as they were, accepted or refused, with no row
+  pub read_as_before : (register : List ℕ) → (SaysRow register → ⊥) → (SaysRange register → ⊥) →
       (register_call register ≡ register_answer (by_itself_before_rows register)) × (without_rows (register_call register).register ≡ (register_call register).register)
 
--- A register that says no row is what it was, of no call in particular: each call reads part 1 at the front of a job or by itself, and
+-- A register that says no row and no range is what it was, of no call in particular: each call reads part 1 at the front of a job or by itself, and
 -- what is said of part 1, and of part 4 with such a register, has its earlier form.
 pub record AsBeforeRows : Type 0 where
   -- bytes that say a row have a byte `14`: all others are as before
   pub row_byte : (s : List ℕ) → SaysRow s → HasByte 0x14 s
   -- and where part 1 is right, by itself or whatever stands behind it, a row is said just where there is one
   pub says_row : (register rest : List ℕ) (reg : Register) → Part1 register reg → SaysRow (register ++ rest) ↔ (1 ≤ reg.rows)
-  pub in_job : (s : List ℕ) → (SaysRow s → ⊥) → register_in_job s ≡ in_job_before_rows s
-  pub by_itself : (s : List ℕ) → (SaysRow s → ⊥) → register_by_itself s ≡ by_itself_before_rows s
-  pub part_1 : (register : List ℕ) (reg : Register) → Part1 register (without_rows reg) ↔ (ValidBeforeRows reg × EncodesBeforeRows reg register)
+  pub in_job : (s : List ℕ) → (SaysRow s → ⊥) → (SaysRange s → ⊥) → register_in_job s ≡ in_job_before_rows s
+  pub by_itself : (s : List ℕ) → (SaysRow s → ⊥) → (SaysRange s → ⊥) → register_by_itself s ≡ by_itself_before_rows s
+  pub part_1 : (register : List ℕ) (reg : Register) → Part1 register (without_rows (without_ranges reg)) ↔ (ValidBeforeRows reg × EncodesBeforeRows reg register)
   -- with a register without rows part 4 is read as it was, accepted or refused
   pub part_4_in_job : (reg : Register) → reg.rows ≡ 0 → (s : List ℕ) → plan_in_job reg s ≡ plan_in_job_before_rows reg s
   pub part_4_by_itself : (reg : Register) → reg.rows ≡ 0 → (s : List ℕ) → plan_by_itself reg s ≡ plan_by_itself_before_rows reg s

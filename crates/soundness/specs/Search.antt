@@ -1,14 +1,18 @@
 -- R-3, the cheapest plan: what a farm is promised of it, as a predicate of any search call, any cost call and any check. The rule is
 -- `search` in `search/specs`. A register that is right is answered what the rule comes to (`Acceptance`), or 14 or 16 (`Refusals`).
--- The register is the one that our reader answers, as in `Demand3`.
+-- The register is the one that our reader answers, as in `Demand3`. Of a term with a range the search takes the low coefficient, and the
+-- cost call and the check those that a plan chooses: that the cost found is what the cost call answers, and at least the bound of every
+-- certificate, is said of registers without a range (`costed_known`, `bounds`). Of others `RangesKept.costed` has that the bound is at most
+-- what the cost call answers.
 use Rattle.std.specs.Prelude.{ℕ, suc, ◌^◌, ◌≤◌, ◌<◌, ◌≡◌, ◌↔◌, false, List, T, ℤ, pos, ◌≤ℤ◌}
 use Rattle.sets.specs.Sets.{is_member}
 use Rattle.wire.specs.Number.{Bytes}
 use Rattle.register.specs.declared.Register.{Register}
 use Rattle.register.specs.Limits.{max_choices}
-use Rattle.register.specs.Register.{coefficient}
+use Rattle.register.specs.Register.{coefficient, has_range}
 use Rattle.plan.specs.Plan as P
 use Rattle.plan.specs.Fits.{Fits}
+use Rattle.plan.specs.Chosen.{chosen}
 use Rattle.plan.specs.Encoding.{Encodes}
 use Rattle.search.specs.declared.SearchAnswer.{SearchAnswer}
 use Rattle.search.specs.Sum.{possible, negative, term_sum, sum}
@@ -37,7 +41,7 @@ none_fits = record { number = 16; part = 0; position = 0; plan = 0; cost = pos 0
 -- what an answer says that is no refusal
 pub record Cheapest (cost_call : CostCall) (register : List ℕ) (limit : ℕ) (a : SearchAnswer) : Type 0 where
   pub part_1 : Bytes register → Part1 register (register_of register)
-  -- the plan is one of the register's and fits its rows, and the cost is its cost
+  -- the plan is one of the register's and fits its rows, and the cost is its cost, with the low coefficients
   pub plan : Plan register
   pub plan_is : plan.fed ≡ a.plan
   pub fits : Fits (register_of register) a.plan
@@ -48,8 +52,10 @@ pub record Cheapest (cost_call : CostCall) (register : List ℕ) (limit : ℕ) (
   -- it feeds inside the windows of each tank, and only in minutes of the day
   pub keeps : KeepsWindows (register_of register) a.plan
   pub of_day : FeedsOfDay (register_of register) a.plan
-  -- the cost call answers this cost for the plan's bytes, and no less for any bytes that it accepts
-  pub costed : (bytes : List ℕ) → Encodes (register_of register) a.plan bytes → cost_call register bytes ≡ cost_accepted a.cost
+  -- the cost call takes the plan's bytes, and answers its cost with the coefficients that it chooses, which is this one where no term has a
+  -- range; for no bytes that it accepts it answers less
+  pub costed : (bytes : List ℕ) → Encodes (register_of register) a.plan bytes → cost_call register bytes ≡ cost_accepted (P.cost (chosen (register_of register) a.plan) (register_of register) a.plan)
+  pub costed_known : has_range (register_of register) ≡ false → (bytes : List ℕ) → Encodes (register_of register) a.plan bytes → cost_call register bytes ≡ cost_accepted a.cost
   pub costed_least : (bytes : List ℕ) → (cost_call register bytes).number ≡ 0 → a.cost ≤ℤ (cost_call register bytes).cost
   -- the visits are those of the rule: at least one, at most 2 to the power (n + 1), less 1, and no more than the limit
   pub visits_are : a.visits ≡ visits_of (register_of register)
@@ -83,10 +89,10 @@ pub record SearchSound (search_call : SearchCall) (cost_call : CostCall) (check_
   pub cheapest_every : (register : List ℕ) (limit : ℕ) → (register_of register).rows ≡ 0 → (search_call register limit).number ≡ 0 →
       CheapestEvery cost_call register limit (search_call register limit)
   pub enough_every : (register : List ℕ) (reg : Register) (limit : ℕ) → Part1 register reg → reg.rows ≡ 0 → 2 ^ suc reg.choices ≤ suc limit → (search_call register limit).number ≡ 0
-  -- no certificate that the check accepts with the register has a bound above the cost found
-  pub bounds : (register scheme certificate : List ℕ) (table : List ℤ) (limit : ℕ) →
-      (check_call register scheme certificate table).0.number ≡ 0 → (search_call register limit).number ≡ 0 →
-      (check_call register scheme certificate table).0.bound ≤ℤ (search_call register limit).cost
+  -- no certificate that the check accepts with a register without a range has a bound above the cost found
+  pub bounds : (register scheme certificate plan : List ℕ) (table : List ℤ) (limit : ℕ) → has_range (register_of register) ≡ false →
+      (check_call register scheme certificate plan table).0.number ≡ 0 → (search_call register limit).number ≡ 0 →
+      (check_call register scheme certificate plan table).0.bound ≤ℤ (search_call register limit).cost
 
 -- ---- the sum at a partial plan, of no call in particular: the choices below d are undecided, the others are decided, fed where they
 -- are in `fed`, which has none below d

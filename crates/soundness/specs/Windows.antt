@@ -9,8 +9,8 @@ use Rattle.forms.specs.Table.{table_numbers}
 use Rattle.register.specs.declared.Register.{Register}
 use Rattle.register.specs.Limits.{max_windows, max_rows, row_entries, max_base, usual_day}
 use Rattle.register.specs.Register.{tank, minute, window_tank, set_windows, set_rows}
-use Rattle.register.specs.Valid.{Choices, Terms, Windows, Inside, window_at}
-use Rattle.register.specs.Encoding.{Encodes, encode_base, encode_choices, encode_terms, encode_register, SaysLength, SaysRow}
+use Rattle.register.specs.Valid.{Choices, Windows, Inside, window_at}
+use Rattle.register.specs.Encoding.{Encodes, encode_base, encode_choices, encode_register, SaysLength, SaysRow, SaysRange}
 use Rattle.register.specs.Outside.{ChoiceOutside}
 use Rattle.register.specs.Answer.{refused_answer, register_answer}
 use Rattle.register.specs.Format.{register_in_job, register_by_itself}
@@ -20,6 +20,7 @@ use Rattle.job.specs.declared.Tally.{Tally}
 use Rattle.job.specs.declared.JobAnswer.{JobAnswer}
 use Rattle.job.specs.Tally.{suppliers, with_refused, moved}
 use Rattle.listing.specs.Listing.{fed_line}
+use Rattle.soundness.specs.BeforeRanges.{TermsBefore, encode_terms_before, without_ranges}
 use Rattle.soundness.specs.Calls.{RegisterCall, CostCall, JobCall, ListingCall}
 use Rattle.soundness.specs.Parts.{Part1, Part4}
 use Rattle.soundness.specs.Acceptance.{register_accepted}
@@ -76,17 +77,17 @@ without_windows r = set_windows r 0 (replicate max_windows 0) (replicate max_win
 abbrev pub without_rows : Register → Register
 without_rows r = set_rows r 0 (replicate max_rows (pos 0)) (replicate (max_rows * row_entries) (pos 0))
 
--- the conditions on a register before there were windows, when each day had the usual length and there were no rows
+-- the conditions on a register before there were windows, when each day had the usual length and there were no rows and no ranges
 pub record ValidBeforeWindows (r : Register) : Type 0 where
   pub base : nat_abs r.base ≤ max_base
   pub day : r.day_length ≡ usual_day
   pub choices : Choices usual_day r.choices r.tanks r.minutes
-  pub terms : Terms r.choices r.terms r.masks r.coefficients
+  pub terms : TermsBefore r.choices r.terms r.masks r.coefficients
   pub some_choice : 1 ≤ r.choices
 
 -- and its bytes: `10`, each `11`, each `12`, `1F`
 abbrev pub bytes_before_windows : Register → List ℕ
-bytes_before_windows r = encode_base r.base ++ encode_choices r ++ encode_terms r ++ (0x1F ∷ [])
+bytes_before_windows r = encode_base r.base ++ encode_choices r ++ encode_terms_before r ++ (0x1F ∷ [])
 
 -- ---- a choice that is refused for its windows
 
@@ -119,8 +120,8 @@ pub record WindowsKept (register_call : RegisterCall) (cost_call : CostCall) (jo
   pub only_outside_in_job : (job : List ℕ) (table : List ℤ) (supplier : ℕ) (tally : Tally) → Bytes job → table_numbers ≤ length table →
       (job_call job table supplier tally).0.number ≡ 13 → ChoiceOutside job (job_call job table supplier tally).0.position
   -- bytes without a window, whose `13` would stand at 5, are answered as they were, accepted or refused, with no window, where they
-  -- say no day length and no row, which came later
-  pub read_as_before : (register : List ℕ) → (get_or register 5 0 ≡ 0x13 → ⊥) → (SaysLength register → ⊥) → (SaysRow register → ⊥) →
+  -- say no day length, no row and no range, which came later
+  pub read_as_before : (register : List ℕ) → (get_or register 5 0 ≡ 0x13 → ⊥) → (SaysLength register → ⊥) → (SaysRow register → ⊥) → (SaysRange register → ⊥) →
       (register_call register ≡ register_answer (by_itself_before_windows register)) × (without_windows (register_call register).register ≡ (register_call register).register)
 
 -- 13, of no call in particular: each call reads part 1 at the front of a job or by itself, and comes to 13 just where a choice lies
@@ -129,10 +130,10 @@ pub record RefusedOutside : Type 0 where
   pub in_job : (s : List ℕ) (at : ℕ) → Bytes s → (register_in_job s ≡ refused 13 at) ↔ ChoiceOutside s at
   pub by_itself : (s : List ℕ) (at : ℕ) → Bytes s → (register_by_itself s ≡ refused 13 at) ↔ ChoiceOutside s at
 
--- A register without windows that says no day length and no row is what it was, of no call in particular: each call reads part 1 at the
+-- A register without windows that says no day length, no row and no range is what it was, of no call in particular: each call reads part 1 at the
 -- front of a job or by itself, and what is said of part 1 has its earlier form.
 pub record AsBeforeWindows : Type 0 where
-  pub in_job : (s : List ℕ) → (get_or s 5 0 ≡ 0x13 → ⊥) → (SaysLength s → ⊥) → (SaysRow s → ⊥) → register_in_job s ≡ in_job_before_windows s
-  pub by_itself : (s : List ℕ) → (get_or s 5 0 ≡ 0x13 → ⊥) → (SaysLength s → ⊥) → (SaysRow s → ⊥) → register_by_itself s ≡ by_itself_before_windows s
+  pub in_job : (s : List ℕ) → (get_or s 5 0 ≡ 0x13 → ⊥) → (SaysLength s → ⊥) → (SaysRow s → ⊥) → (SaysRange s → ⊥) → register_in_job s ≡ in_job_before_windows s
+  pub by_itself : (s : List ℕ) → (get_or s 5 0 ≡ 0x13 → ⊥) → (SaysLength s → ⊥) → (SaysRow s → ⊥) → (SaysRange s → ⊥) → register_by_itself s ≡ by_itself_before_windows s
   pub part_1 : (register : List ℕ) (reg : Register) → (SaysLength register → ⊥) →
-      Part1 register (without_windows (without_rows reg)) ↔ (ValidBeforeWindows reg × (register ≡ bytes_before_windows reg))
+      Part1 register (without_windows (without_rows (without_ranges reg))) ↔ (ValidBeforeWindows reg × (register ≡ bytes_before_windows reg))

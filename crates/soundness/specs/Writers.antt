@@ -1,12 +1,12 @@
 -- What the calls write, of any such calls: the bytes of the scheme built or of the certificate meant, which read back, or the lines
 -- of a job, and all else of the lent buffer as it was.
-use Rattle.std.specs.Prelude.{ℕ, ◌≤◌, ◌<◌, ◌≡◌, List, ◌++◌, ℤ, length, drop}
+use Rattle.std.specs.Prelude.{ℕ, ◌≤◌, ◌<◌, ◌≡◌, cond, List, ◌++◌, ℤ, length, drop}
 use Rattle.wire.specs.declared.WriterAnswer.{WriterAnswer}
 use Rattle.wire.specs.Number.{Bytes}
 use Rattle.wire.specs.Writer.{refused_answer, written_answer}
 use Rattle.forms.specs.Table.{table_numbers}
 use Rattle.register.specs.declared.Register.{Register}
-use Rattle.register.specs.Register.{coefficient}
+use Rattle.register.specs.Register.{has_range}
 use Rattle.register.specs.Position.{term_position}
 use Rattle.scheme.specs.declared.Scheme.{Scheme}
 use Rattle.scheme.specs.Encoding.{encode_scheme}
@@ -16,6 +16,7 @@ use Rattle.certificate.specs.Certificate.{Certificate}
 use Rattle.bound.specs.Bound.{bound}
 use Rattle.plain.specs.Plain.{plain}
 use Rattle.plan.specs.Plan.{cost}
+use Rattle.plan.specs.Chosen.{chosen}
 use Rattle.job.specs.declared.Tally.{Tally}
 use Rattle.job.specs.Tally.{suppliers}
 use Rattle.job.specs.Outcome.{outcome}
@@ -23,8 +24,8 @@ use Rattle.listing.specs.Listing.{PlanLines, plan_lines, supplier_lines, listed}
 use Rattle.listing.specs.Answer.{listing_room}
 use Rattle.plain.specs.Answer.{own_bytes, own_room}
 use Rattle.soundness.specs.Calls.{SchemeCall, CheckCall, PlainCall, BuildCall, JobCall, ListingCall, front}
-use Rattle.soundness.specs.Parts.{Part1, Part2, Part3, Part4, with_r}
-use Rattle.soundness.specs.Acceptance.{OfScheme, scheme_accepted, check_accepted, job_accepted}
+use Rattle.soundness.specs.Parts.{Part1, Part3, Part4, WithPlan, with_r}
+use Rattle.soundness.specs.Acceptance.{scheme_accepted, check_accepted, job_accepted}
 
 -- ---- a call that writes: from a lent buffer to its answer and the buffer handed back
 
@@ -70,34 +71,35 @@ pub record BuildWrites (build_call : BuildCall) (scheme_call : SchemeCall) : Typ
 
 -- ---- our own certificate
 
-abbrev pub own_certificate : Register → Scheme → Certificate
-own_certificate reg sch = plain (coefficient reg) reg sch
+-- with the coefficients that a plan chooses
+abbrev pub own_certificate : Register → Scheme → (fed : ℕ) → Certificate
+own_certificate reg sch fed = plain (chosen reg fed) reg sch
 
 pub record PlainWrites (plain_call : PlainCall) (check_call : CheckCall) : Type 0 where
-  pub writes : (register scheme : List ℕ) (reg : Register) (sch : Scheme) → Part1 register reg → Part2 reg scheme sch → Writes (plain_call register scheme) (own_bytes reg sch) own_room
+  pub writes : (register scheme plan : List ℕ) (k : WithPlan register scheme plan) → Writes (plain_call register scheme plan) (own_bytes k.reg k.sch k.fed) own_room
   -- what is handed back is an encoding of our own certificate, which meets its conditions
-  pub reads_back : (register scheme : List ℕ) (reg : Register) (sch : Scheme) → Part1 register reg → Part2 reg scheme sch →
-      (lent : List ℕ) → (plain_call register scheme lent).0.number ≡ 0 → Part3 reg sch (front (plain_call register scheme lent)) (own_certificate reg sch)
-  -- and the check accepts it, with its bound and its residual
-  pub checks : (register scheme : List ℕ) (reg : Register) (sch : Scheme) → Part1 register reg → Part2 reg scheme sch →
-      (lent : List ℕ) → (plain_call register scheme lent).0.number ≡ 0 → (table : List ℤ) → table_numbers ≤ length table →
-      check_call register scheme (front (plain_call register scheme lent)) table ≡ (check_accepted (bound (own_certificate reg sch)), with_r reg sch (own_certificate reg sch) table)
+  pub reads_back : (register scheme plan : List ℕ) (k : WithPlan register scheme plan) → (lent : List ℕ) → (plain_call register scheme plan lent).0.number ≡ 0 →
+      Part3 (chosen k.reg k.fed) k.reg k.sch (front (plain_call register scheme plan lent)) (own_certificate k.reg k.sch k.fed)
+  -- and the check accepts it beside the plan that it was written for, with its bound and its residual
+  pub checks : (register scheme plan : List ℕ) (k : WithPlan register scheme plan) → (lent : List ℕ) → (plain_call register scheme plan lent).0.number ≡ 0 → (table : List ℤ) → table_numbers ≤ length table →
+      check_call register scheme (front (plain_call register scheme plan lent)) plan table
+      ≡ (check_accepted (bound (own_certificate k.reg k.sch k.fed)), with_r (chosen k.reg k.fed) k.reg k.sch (own_certificate k.reg k.sch k.fed) table)
   -- 0 is answered for no other parts
-  pub only : (register scheme lent : List ℕ) → Bytes register → (plain_call register scheme lent).0.number ≡ 0 → (sch : Scheme) × OfScheme register scheme sch
-  pub keeps : (register scheme : List ℕ) → KeepsRefused (plain_call register scheme)
+  pub only : (register scheme plan lent : List ℕ) → Bytes register → Bytes plan → (plain_call register scheme plan lent).0.number ≡ 0 → WithPlan register scheme plan
+  pub keeps : (register scheme plan : List ℕ) → KeepsRefused (plain_call register scheme plan)
 
 -- ---- a job of what these two write
 
--- part 1, a plan of it that fits, and between them what the builder and then the plain call hand back: a job that is accepted, with the
--- bound of our own certificate
+-- part 1, a plan of it that fits, and what the builder and then the plain call, which is given this plan, hand back, in the order of a
+-- job's parts: a job that is accepted, with the bound of our own certificate
 abbrev pub OwnJobs : BuildCall → PlainCall → JobCall → Type 0
 OwnJobs build_call plain_call job_call =
     (register plan : List ℕ) (reg : Register) (sch : Scheme) (fed : ℕ) → OfBuild register reg sch → Part4 reg plan fed →
-    (lent lent' : List ℕ) → let scheme = front (build_call register lent) in let certificate = front (plain_call register scheme lent') in
-    (build_call register lent).0.number ≡ 0 → (plain_call register scheme lent').0.number ≡ 0 →
+    (lent lent' : List ℕ) → let scheme = front (build_call register lent) in let certificate = front (plain_call register scheme plan lent') in
+    (build_call register lent).0.number ≡ 0 → (plain_call register scheme plan lent').0.number ≡ 0 →
     (table : List ℤ) (supplier : ℕ) (tally : Tally) → supplier < suppliers → table_numbers ≤ length table →
-    (job_call (register ++ (scheme ++ (certificate ++ plan))) table supplier tally).0
-    ≡ job_accepted (bound (own_certificate reg sch)) (cost (coefficient reg) reg fed) supplier tally
+    (job_call (register ++ (scheme ++ cond (has_range reg) (plan ++ certificate) (certificate ++ plan))) table supplier tally).0
+    ≡ job_accepted (bound (own_certificate reg sch fed)) (cost (chosen reg fed) reg fed) supplier tally
 
 -- ---- the listings
 

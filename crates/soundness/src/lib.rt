@@ -70,19 +70,20 @@ pub fn check_call(
     register: &[u8],
     scheme: &[u8],
     certificate: &[u8],
+    plan: &[u8],
     table: &mut [i64],
 ) -> CheckAnswer
-    ensures value { result ≡ (check_call register.now scheme.now certificate.now table.old).0 }
-    ensures table_after { table.new ≡ (check_call register.now scheme.now certificate.now table.old).1 }
+    ensures value { result ≡ (check_call register.now scheme.now certificate.now plan.now table.old).0 }
+    ensures table_after { table.new ≡ (check_call register.now scheme.now certificate.now plan.now table.old).1 }
 {
-    feedcheck_check(register, scheme, certificate, table)
+    feedcheck_check(register, scheme, certificate, plan, table)
 }
 
-pub fn plain_call(register: &[u8], scheme: &[u8], buffer: &mut [u8]) -> WriterAnswer
-    ensures value { result ≡ (plain_call register.now scheme.now buffer.old).0 }
-    ensures buffer_after { buffer.new ≡ (plain_call register.now scheme.now buffer.old).1 }
+pub fn plain_call(register: &[u8], scheme: &[u8], plan: &[u8], buffer: &mut [u8]) -> WriterAnswer
+    ensures value { result ≡ (plain_call register.now scheme.now plan.now buffer.old).0 }
+    ensures buffer_after { buffer.new ≡ (plain_call register.now scheme.now plan.now buffer.old).1 }
 {
-    feedcheck_plain(register, scheme, buffer)
+    feedcheck_plain(register, scheme, plan, buffer)
 }
 
 pub fn build_call(register: &[u8], buffer: &mut [u8]) -> WriterAnswer

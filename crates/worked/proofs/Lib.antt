@@ -4,4 +4,5 @@ pub mod Jobs
 pub mod Told
 pub mod Relaxed
 pub mod Full
+pub mod Prices
 pub mod Table

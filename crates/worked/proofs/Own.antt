@@ -1,7 +1,7 @@
 -- W7 through the check: the bytes of our own certificate, and those with a smaller multiplier in both `31`.
 use mathlib.Core.Path.{◌≡◌, refl}
 use mathlib.Core.List.{List, [], ◌∷◌, map, flat_map}
-use Prim.Native.Nat.{◌≤◌}
+use Prim.Native.Nat.{ℕ, ◌≤◌}
 use lib.IntN.{ℤ, negsuc}
 use lib.ListN.{length}
 use borrow.Author.Tests.{le-ltb}
@@ -41,11 +41,12 @@ use Rattle.plain.proofs.Worked.{w7_bytes}
 abbrev pub answers : List CheckAnswer
 answers = record { number = 0; part = 0; position = 0; bound = negsuc 5 } ∷ refused_answer 9 3 73 ∷ []
 
-read : map (λ m. answer_by refused_answer accepted_answer (open_certificate register_bytes w3_bytes (w7_bytes m))) (3 ∷ 2 ∷ []) ≡ answers
+-- no term has a range, so any bytes may stand for the plan
+read : (plan : List ℕ) → map (λ m. answer_by refused_answer accepted_answer (open_certificate register_bytes w3_bytes (w7_bytes m) plan)) (3 ∷ 2 ∷ []) ≡ answers
 unfolding flat_map join_below all_below comes_before abs sum_below sum_over except off_diagonal ceil_div is_member is_subset is_proper_subset times entry nat_at little refusal command_checks operands_at total checks_at after_at command step follow run read_from read_part by_itself row_of Reg.fresh base_checks choice_checks term_checks RegFormat.end_checks register_in_job register_by_itself Sch.fresh up_to upward E term g is_new product_checks split_checks SchFormat.end_checks scheme_in_job scheme_by_itself by_key arity rule_of null_part subtracted_part null_forms subtracted_forms reformulated shifted R row_holds carries bound scale_checks multiplier_checks square_checks commands_in_job dominance_checked certificate_in_job certificate_by_itself
-read = refl
+read plan = refl
 
 -- with every table long enough
-pub w7_checked : (lent : List ℤ) → table_numbers ≤ length lent → map (λ m. check_answer register_bytes w3_bytes (w7_bytes m) lent) (3 ∷ 2 ∷ []) ≡ answers
+pub w7_checked : (plan : List ℕ) (lent : List ℤ) → table_numbers ≤ length lent → map (λ m. check_answer register_bytes w3_bytes (w7_bytes m) plan lent) (3 ∷ 2 ∷ []) ≡ answers
 unfolding check_answer
-w7_checked lent l = rw (le-ltb (length lent) table_numbers l) read
+w7_checked plan lent l = rw (le-ltb (length lent) table_numbers l) (read plan)

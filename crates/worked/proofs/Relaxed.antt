@@ -26,11 +26,11 @@ use Rattle.wire.specs.Part.{operands_at, total, checks_at, after_at, step, run, 
 use Rattle.wire.specs.Part as P
 use Rattle.wire.specs.Rows.{row_of}
 use Rattle.wire.specs.Outcome.{accepts}
-use Rattle.register.specs.Register.{coefficient, set_base, set_choices, set_terms}
+use Rattle.register.specs.Register.{coefficient, set_base, set_choices}
 use Rattle.register.specs.Register as Reg
 use Rattle.register.specs.Format.{base_checks, choice_checks, term_checks, register_in_job}
 use Rattle.register.specs.Format as RegFormat
-use Rattle.register.proofs.Example.{example_register}
+use Rattle.register.proofs.Example.{example_register, known_terms}
 use Rattle.scheme.specs.declared.Scheme.{Scheme}
 use Rattle.scheme.specs.Scheme.{left, right}
 use Rattle.scheme.specs.Scheme as Sch
@@ -74,7 +74,7 @@ triangle =
 
 abbrev pub triangle_parts : Parts
 triangle_parts = record {
-  register = set_terms
+  register = known_terms
       (set_choices (set_base example_register (pos 1)) 3 (1 ∷ 1 ∷ 1 ∷ replicate 29 0) (480 ∷ 720 ∷ 960 ∷ replicate 29 0))
       6 (1 ∷ 2 ∷ 3 ∷ 4 ∷ 5 ∷ 6 ∷ replicate 250 0) (negsuc 0 ∷ negsuc 0 ∷ pos 1 ∷ negsuc 0 ∷ pos 1 ∷ pos 1 ∷ replicate 250 (pos 0));
   scheme = record {
@@ -110,7 +110,7 @@ product =
 
 abbrev pub product_parts : Parts
 product_parts = record {
-  register = set_terms
+  register = known_terms
       (set_choices (set_base example_register (pos 0)) 2 (1 ∷ 1 ∷ replicate 30 0) (480 ∷ 960 ∷ replicate 30 0))
       3 (1 ∷ 2 ∷ 3 ∷ replicate 253 0) (negsuc 0 ∷ negsuc 0 ∷ pos 1 ∷ replicate 253 (pos 0));
   scheme = record {

@@ -1,5 +1,5 @@
--- The paper's rows W1 to W9, with the bytes that they are about, and two rows more: weights where two ways lead to a product, and a
--- certificate with as many commands as it may have. −6 is written neg_ℤ (pos 6).
+-- The paper's rows W1 to W9, with the bytes that they are about, and three rows more: weights where two ways lead to a product, a
+-- certificate with as many commands as it may have, and a register with a range. −6 is written neg_ℤ (pos 6).
 use Prim.Native.Nat.{ℕ, ◌+◌, ◌≤◌, ◌<◌}
 use mathlib.Core.Path.{◌≡◌, refl}
 use mathlib.Core.Bool.{cond}
@@ -10,6 +10,7 @@ use Rattle.integers.specs.Integer.{abs}
 use Rattle.integers.specs.Lists.{join_below}
 use Rattle.forms.specs.Form.{value}
 use Rattle.forms.specs.Table.{table_numbers}
+use Rattle.wire.specs.Outcome.{accepts, and_then}
 use Rattle.register.specs.declared.Register.{Register}
 use Rattle.register.specs.Register.{coefficient}
 use Rattle.register.specs.Format.{register_by_itself}
@@ -25,6 +26,7 @@ use Rattle.scheme.proofs.Worked as Scheme
 use Rattle.plan.specs.Encoding.{encode_plan}
 use Rattle.plan.specs.Answer.{accepted_cost, cost_answer}
 use Rattle.plan.proofs.Worked as Plan
+use Rattle.search.specs.Answer.{search_answer}
 use Rattle.builder.specs.Builder.{build, built}
 use Rattle.builder.specs.Answer.{build_answer, build_buffer}
 use Rattle.builder.proofs.Worked as Builder
@@ -35,6 +37,7 @@ use Rattle.certificate.specs.Certificate.{Certificate}
 use Rattle.certificate.specs.Within.{Within}
 use Rattle.bound.specs.Bound.{bound}
 use Rattle.bound.specs.Valid.{Valid}
+use Rattle.bound.specs.Opening.{open_chosen}
 use Rattle.bound.specs.Check.{check_answer}
 use Rattle.certificate.proofs.Commands.{command}
 use Rattle.bound.proofs.Worked as Certificate
@@ -49,6 +52,7 @@ use Rattle.listing.specs.Listing.{listing, supplier_listing}
 use Rattle.worked.proofs.Alone as Alone
 use Rattle.worked.proofs.Own.{w7_checked}
 use Rattle.worked.proofs.Full.{many, with_many, full, full_valid}
+use Rattle.worked.proofs.Prices.{price_register, price_scheme, price_plan, price_own, price_searched, price_costed, price_written, price_checked}
 use Rattle.worked.proofs.Jobs.{lines, counted, counted_last, unknown, jobs, supplier_jobs}
 
 -- the example's four parts; the third with T below 256
@@ -164,8 +168,8 @@ pub record Worked : Type 0 where
         multipliers = command 0x31 2 3 ∷ command 0x31 3 3 ∷ command 0x39 0 6 ∷ command 0x39 1 4 ∷ command 0x39 2 3 ∷ command 0x39 3 3 ∷ [];
         squares = [];
       }
-  -- by the check's call: its bytes, and those with the multiplier 2 in both `31`
-  pub w7_checked : (lent : List ℤ) → table_numbers ≤ length lent →
+  -- by the check's call: its bytes, and those with the multiplier 2 in both `31`, with any plan, since no term has a range
+  pub w7_checked : (fed : ℕ) (plan : List ℕ) (lent : List ℤ) → table_numbers ≤ length lent →
       let bytes : ℕ → List ℕ = λ m.
       0x30 ∷ 1 ∷ 0 ∷ 0 ∷ 0 ∷ 0xFA ∷ 0xFF ∷ 0xFF ∷ 0xFF ∷ 0xFF ∷ 0xFF ∷ 0xFF ∷ 0xFF
       ∷ 0x31 ∷ 2 ∷ m ∷ 0 ∷ 0 ∷ 0 ∷ 0 ∷ 0 ∷ 0 ∷ 0
@@ -175,8 +179,8 @@ pub record Worked : Type 0 where
       ∷ 0x39 ∷ 2 ∷ 3 ∷ 0 ∷ 0 ∷ 0 ∷ 0 ∷ 0 ∷ 0 ∷ 0
       ∷ 0x39 ∷ 3 ∷ 3 ∷ 0 ∷ 0 ∷ 0 ∷ 0 ∷ 0 ∷ 0 ∷ 0
       ∷ 0x3F ∷ [] in
-      (own_bytes example_register built_scheme ≡ bytes 3)
-      × (map (λ m. check_answer part1 built3 (bytes m) lent) (3 ∷ 2 ∷ [])
+      (own_bytes example_register built_scheme fed ≡ bytes 3)
+      × (map (λ m. check_answer part1 built3 (bytes m) plan lent) (3 ∷ 2 ∷ [])
       ≡ record { number = 0; part = 0; position = 0; bound = neg_ℤ (pos 6) } ∷ record { number = 9; part = 3; position = 73; bound = pos 0 } ∷ [])
   -- not of the paper's rows: of any register with a choice and a row, and any scheme, 1,023 `31`, a `3B` and 64 squares are within the
   -- limits; a multiplier more is not, nor a square more
@@ -185,6 +189,13 @@ pub record Worked : Type 0 where
   -- and a certificate that meets every condition without a multiplier and a square does so with them
   pub full_valid : (c : ℕ → ℤ) (reg : Register) (sch : Scheme) (k : Certificate) → 1 ≤ reg.choices → 1 ≤ reg.rows → k.multipliers ≡ [] → k.squares ≡ [] →
       Valid c reg sch k → Valid c reg sch (with_many k 1_023 64)
+  -- not of the paper's rows: one choice, one term with a coefficient from −5 to 0, and the plan that feeds the choice. The search takes the
+  -- low coefficient, the cost call and our own certificate the high one: the cost found is below the bound
+  pub price_searched : search_answer price_register 3 ≡ record { number = 0; part = 0; position = 0; plan = 1; cost = neg_ℤ (pos 5); visits = 3 }
+  pub price_costed : cost_answer price_register price_plan ≡ accepted_cost (pos 0)
+  pub price_written : and_then (open_chosen price_register price_scheme price_plan) (λ (reg, sch, p). accepts (own_bytes reg sch p)) ≡ accepts price_own
+  pub price_checked : (lent : List ℤ) → table_numbers ≤ length lent →
+      check_answer price_register price_scheme price_own price_plan lent ≡ record { number = 0; part = 0; position = 0; bound = pos 0 }
   -- W8, T and s of certificates with no further command
   pub w8 : let ratio : ℤ → ℕ → Certificate = λ T s. record { scale = s; target = T; multipliers = []; squares = [] } in
       map bound (ratio (neg_ℤ (pos 7)) 2 ∷ ratio (pos 7) 2 ∷ ratio (neg_ℤ (pos 1)) 3 ∷ []) ≡ neg_ℤ (pos 3) ∷ pos 4 ∷ pos 0 ∷ []
@@ -248,9 +259,13 @@ worked = record {
   two_ways_splits = refl;
   two_ways_weights = Penalty.two_ways;
   w7 = Plain.w7;
-  w7_checked = λ lent l. (Plain.w7_bytes_lem, w7_checked lent l);
+  w7_checked = λ fed plan lent l. (Plain.w7_bytes_lem fed, w7_checked plan lent l);
   full = full;
   full_valid = full_valid;
+  price_searched = price_searched;
+  price_costed = price_costed;
+  price_written = price_written;
+  price_checked = price_checked;
   w8 = Certificate.w8;
   w9 = λ lent supplier tally k l e. counted lent supplier tally k l e;
   w9_limit = λ lent supplier tally k l e. counted_last lent supplier tally k l e;

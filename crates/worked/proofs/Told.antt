@@ -27,11 +27,11 @@ use Rattle.wire.specs.Rows.{row_of}
 use Rattle.wire.specs.Outcome.{accepts}
 use Rattle.text.specs.Text.{digits_to, digits, decimal, line}
 use Rattle.register.specs.declared.Register.{Register}
-use Rattle.register.specs.Register.{set_base, set_choices, set_terms}
+use Rattle.register.specs.Register.{set_base, set_choices}
 use Rattle.register.specs.Register as Reg
 use Rattle.register.specs.Format.{base_checks, choice_checks, term_checks, register_in_job}
 use Rattle.register.specs.Format as RegFormat
-use Rattle.register.proofs.Example.{example_register}
+use Rattle.register.proofs.Example.{example_register, known_terms}
 use Rattle.scheme.specs.declared.Scheme.{Scheme}
 use Rattle.scheme.specs.Scheme as Sch
 use Rattle.scheme.specs.Variables.{up_to, upward, E}
@@ -70,7 +70,7 @@ job tank coefficient = 0x10 ∷ 0 ∷ 0 ∷ 0 ∷ 0 ∷ 0x11 ∷ tank ∷ 0 ∷ 
 
 -- the example's register with other base cost, choices and terms
 abbrev register : (tank coefficient : ℕ) → Register
-register tank coefficient = set_terms
+register tank coefficient = known_terms
     (set_choices (set_base example_register (pos 0)) 1 (tank ∷ replicate 31 0) (replicate 32 0))
     1 (1 ∷ replicate 255 0) (pos coefficient ∷ replicate 255 (pos 0))
 
