@@ -1,5 +1,6 @@
 // register.txt: name REG | number part position base n m, then n times: tank minute, then m times: mask coefficient,
-// then w, then w times: tank from to, then the day length, then q, then q times: b and 32 entries.
+// then w, then w times: tank from to, then the day length, then q, then q times: b and 32 entries,
+// then 1 where a term has a range or else 0, then m times: high.
 use crate::answers::{listed, refusal};
 use register::{Register, feedcheck_register};
 use vectors::{Differs, Fields};
@@ -48,6 +49,19 @@ fn rows(fields: &mut Fields, register: &Register) -> Result<(), Differs> {
     Ok(())
 }
 
+// Whether a term has a range, then the high coefficients, and past the count zeros.
+fn ranges(fields: &mut Fields, register: &Register) -> Result<(), Differs> {
+    fields.is(u8::from(register.ranged.contains(&true)))?;
+    for i in 0..Register::MAX_TERMS {
+        let is_listed = i < register.terms;
+        listed(fields, is_listed, register.highs[i], 0)?;
+        if register.ranged[i] & !is_listed {
+            return Err(Differs);
+        }
+    }
+    Ok(())
+}
+
 pub fn agrees(mut fields: Fields) -> Result<(), Differs> {
     let mut register = [0; console::streams::TEXT];
     let register = fields.bytes(&mut register)?;
@@ -64,5 +78,6 @@ pub fn agrees(mut fields: Fields) -> Result<(), Differs> {
     fields.is(register.day_length)?;
     fields.is(register.rows)?;
     rows(&mut fields, register)?;
+    ranges(&mut fields, register)?;
     fields.end()
 }
