@@ -1,6 +1,6 @@
 // The example of the scope through include/feedcheck.h, every call, a register with windows, days of each length, a register with
-// rows, a tally of several suppliers, what a supplier may read, the names and sentences of the refusals, and the version. Prints a
-// line and exits 1 where an answer is another than the scope's.
+// rows, one with ranges, a tally of several suppliers, what a supplier may read, the names and sentences of the refusals, and the
+// version. Prints a line and exits 1 where an answer is another than the scope's.
 #include <stddef.h>
 #include <stdio.h>
 #include <string.h>
@@ -23,6 +23,18 @@ static const uint8_t ROWS[104] = {0x10, 10, 0, 0, 0, 0x11, 4, 0, 0xE0, 1, 0x11, 
                                   0x14, 0xFF, 0xFF, 2, 0xFD, 0, 0, 0, 0, 0, 0, 0, 0, 0, 0, 0, 0, 0, 0, 0, 0, 0, 0, 0, 0, 0, 0, 0, 0, 0, 0, 0, 0, 0, 0,
                                   0x14, 1, 0, 1, 1, 0, 0, 0, 0, 0, 0, 0, 0, 0, 0, 0, 0, 0, 0, 0, 0, 0, 0, 0, 0, 0, 0, 0, 0, 0, 0, 0, 0, 0, 0,
                                   0x12, 1, 0, 0, 0, 0xFE, 0xFF, 0xFF, 0xFF, 0x12, 2, 0, 0, 0, 0xFD, 0xFF, 0xFF, 0xFF, 0x1F};
+
+// Choices at minutes 480 and 481 of tank 4, the first costs from -2 to 3, the second -3, and both together from 0 to 5. A scheme
+// without products. Plans that feed the second choice, and both, each with its own certificate of ours.
+static const uint8_t RANGES[51] = {0x10, 10, 0, 0, 0, 0x11, 4, 0, 0xE0, 1, 0x11, 4, 0, 0xE1, 1,
+                                   0x16, 1, 0, 0, 0, 0xFE, 0xFF, 0xFF, 0xFF, 3, 0, 0, 0, 0x12, 2, 0, 0, 0, 0xFD, 0xFF, 0xFF, 0xFF,
+                                   0x16, 3, 0, 0, 0, 0, 0, 0, 0, 5, 0, 0, 0, 0x1F};
+static const uint8_t RANGES_SCHEME[10] = {0x22, 0, 0, 0x22, 1, 1, 0x22, 0, 1, 0x2F};
+static const uint8_t SECOND[5] = {0x40, 2, 0, 0, 0}, BOTH[5] = {0x40, 3, 0, 0, 0};
+static const uint8_t FOR_SECOND[34] = {0x30, 1, 0, 0, 0, 5, 0, 0, 0, 0, 0, 0, 0, 0x39, 0, 2, 0, 0, 0, 0, 0, 0, 0,
+                                       0x39, 1, 3, 0, 0, 0, 0, 0, 0, 0, 0x3F};
+static const uint8_t FOR_BOTH[44] = {0x30, 1, 0, 0, 0, 4, 0, 0, 0, 0, 0, 0, 0, 0x31, 0, 3, 0, 0, 0, 0, 0, 0, 0,
+                                     0x31, 1, 3, 0, 0, 0, 0, 0, 0, 0, 0x39, 1, 6, 0, 0, 0, 0, 0, 0, 0, 0x3F};
 
 enum { REGISTER = 48, SCHEME = 16, CERTIFICATE = 44, PLAN = 5 };
 
@@ -86,6 +98,64 @@ static void try_rows(void) {
                                              s.visits == 0);
     s = feedcheck_search(ROWS, sizeof ROWS, 6);
     expect("rows, search, limit passed", s.number == 14 && s.part == 0);
+}
+
+// Whether our own certificate beside this plan is this one.
+static int ours(const uint8_t *plan, const uint8_t *certificate, size_t length) {
+    uint8_t buffer[64];
+    FeedcheckWriterAnswer w = feedcheck_plain(RANGES, sizeof RANGES, RANGES_SCHEME, sizeof RANGES_SCHEME, plan, PLAN, buffer,
+                                              sizeof buffer);
+    return w.number == 0 && w.part == 0 && w.position == 0 && w.count == length && memcmp(buffer, certificate, length) == 0;
+}
+
+// The check of a certificate beside so many bytes of a plan.
+static FeedcheckCheckAnswer beside(const uint8_t *plan, size_t length, const uint8_t *certificate, size_t size, int64_t *table) {
+    return feedcheck_check(RANGES, sizeof RANGES, RANGES_SCHEME, sizeof RANGES_SCHEME, certificate, size, plan, length, table,
+                           FEEDCHECK_TABLE_NUMBERS);
+}
+
+// A job of the plan that feeds both choices and its certificate, the plan first or the certificate.
+static FeedcheckJobAnswer ranges_job(int plan_first, int64_t *table) {
+    uint8_t job[sizeof RANGES + sizeof RANGES_SCHEME + sizeof BOTH + sizeof FOR_BOTH], *rest = job + 61;
+    FeedcheckTally tally;
+    memset(&tally, 0, sizeof tally);
+    memcpy(job, RANGES, sizeof RANGES);
+    memcpy(job + sizeof RANGES, RANGES_SCHEME, sizeof RANGES_SCHEME);
+    memcpy(plan_first ? rest : rest + sizeof FOR_BOTH, BOTH, sizeof BOTH);
+    memcpy(plan_first ? rest + sizeof BOTH : rest, FOR_BOTH, sizeof FOR_BOTH);
+    return feedcheck_job(job, sizeof job, table, FEEDCHECK_TABLE_NUMBERS, 0, tally);
+}
+
+// Each certificate is accepted beside its plan; that for the second choice falls short beside the plan that feeds both.
+static void try_ranges(int64_t *table) {
+    FeedcheckRegisterAnswer a = feedcheck_register(RANGES, sizeof RANGES);
+    expect("ranges", a.number == 0 && a.reg.terms == 3 && a.reg.coefficients[0] == -2 && a.reg.highs[0] == 3 && a.reg.ranged[0] == 1 &&
+                         a.reg.coefficients[1] == -3 && a.reg.highs[1] == -3 && a.reg.ranged[1] == 0 && a.reg.coefficients[2] == 0 &&
+                         a.reg.highs[2] == 5 && a.reg.ranged[2] == 1 && a.reg.highs[3] == 0 && a.reg.ranged[255] == 0);
+    uint8_t bytes[sizeof RANGES];
+    memcpy(bytes, RANGES, sizeof RANGES);
+    bytes[46] = 0, bytes[42] = 1;
+    a = feedcheck_register(bytes, sizeof bytes);
+    expect("ranges, low above high", a.number == 6 && a.part == 1 && a.position == 37 && a.reg.highs[0] == 0 && a.reg.ranged[0] == 0);
+    FeedcheckCostAnswer c = feedcheck_cost(RANGES, sizeof RANGES, BOTH, sizeof BOTH);
+    expect("ranges, cost of the highs", c.number == 0 && c.cost == 15);
+    FeedcheckSearchAnswer s = feedcheck_search(RANGES, sizeof RANGES, 7);
+    expect("ranges, search of the lows", s.number == 0 && s.plan == 3 && s.cost == 5);
+    expect("ranges, plain", ours(SECOND, FOR_SECOND, sizeof FOR_SECOND) && ours(BOTH, FOR_BOTH, sizeof FOR_BOTH));
+    FeedcheckCheckAnswer k = beside(SECOND, PLAN, FOR_SECOND, sizeof FOR_SECOND, table);
+    expect("ranges, check", k.number == 0 && k.bound == 5);
+    k = beside(BOTH, PLAN, FOR_BOTH, sizeof FOR_BOTH, table);
+    expect("ranges, check beside the other plan", k.number == 0 && k.bound == 4);
+    k = beside(BOTH, PLAN, FOR_SECOND, sizeof FOR_SECOND, table);
+    expect("ranges, check of the wrong certificate", k.number == 9 && k.part == 3 && k.position == 33);
+    table[0] = 77;
+    k = beside(BOTH, 0, FOR_BOTH, sizeof FOR_BOTH, table);
+    expect("ranges, check without a plan", k.number == 2 && k.part == 4 && k.position == 0 && k.bound == 0 && table[0] == 77);
+    FeedcheckJobAnswer j = ranges_job(1, table);
+    expect("ranges, job", j.number == 0 && j.bound == 4 && j.cost == 15 && j.gap == 11 && j.tally.pairs[0].accepted == 1);
+    table[0] = 77;
+    j = ranges_job(0, table);
+    expect("ranges, certificate where the plan is due", j.number == 1 && j.part == 4 && j.position == 61 && table[0] == 77);
 }
 
 // Unequal counters; those of supplier 15 are at the top and one below it.
@@ -203,6 +273,7 @@ int main(void) {
     FeedcheckRegisterAnswer a = feedcheck_register(JOB, REGISTER);
     expect("register", a.number == 0 && a.reg.base == 10 && a.reg.choices == 3 && a.reg.terms == 3 && a.reg.tanks[2] == 7 &&
                            a.reg.minutes[1] == 720 && a.reg.masks[2] == 7 && a.reg.coefficients[0] == -6);
+    expect("register, no ranges", a.reg.highs[0] == -6 && a.reg.highs[2] == 5 && a.reg.highs[3] == 0 && a.reg.ranged[0] == 0);
     expect("register, no length", a.reg.day_length == FEEDCHECK_USUAL_DAY);
     expect("register, no rows", a.reg.rows == 0 && a.reg.row_totals[7] == 0 && a.reg.row_entries[255] == 0);
     expect("register, no windows", a.reg.windows == 0 && a.reg.window_tanks[0] == 0 && a.reg.window_tos[63] == 0);
@@ -219,8 +290,9 @@ int main(void) {
                                           a.reg.window_tanks[0] == 0);
     try_days();
     try_rows();
+    try_ranges(table);
     // The places that docs/LINKING.md speaks of.
-    expect("record", sizeof a == 2888 && sizeof a.reg == 2872 && offsetof(FeedcheckRegister, day_length) == 4 &&
+    expect("record", sizeof a == 4168 && sizeof a.reg == 4152 && offsetof(FeedcheckRegister, day_length) == 4 &&
                          offsetof(FeedcheckRegister, choices) == 8);
     FeedcheckSchemeAnswer b = feedcheck_scheme(JOB, REGISTER, scheme, SCHEME);
     expect("scheme", b.number == 0 && b.scheme.products == 2 && b.scheme.splits == 3 && b.scheme.rights[1] == 3 &&
@@ -242,11 +314,13 @@ int main(void) {
     expect("search, choice outside", s.number == 13 && s.part == 1 && s.position == 26 && s.visits == 0);
     FeedcheckPenaltyAnswer p = feedcheck_penalty(JOB, REGISTER, scheme, SCHEME, table, FEEDCHECK_TABLE_NUMBERS);
     expect("penalty", p.number == 0 && table[0] == 20 && table[5] == 20);
-    FeedcheckCheckAnswer k = feedcheck_check(JOB, REGISTER, scheme, SCHEME, certificate, CERTIFICATE, table, FEEDCHECK_TABLE_NUMBERS);
+    // Without a range the check and the plain certificate don't look at the plan.
+    FeedcheckCheckAnswer k = feedcheck_check(JOB, REGISTER, scheme, SCHEME, certificate, CERTIFICATE, buffer, 0, table,
+                                             FEEDCHECK_TABLE_NUMBERS);
     expect("check", k.number == 0 && k.bound == 0 && table[0] == 0);
-    k = feedcheck_check(JOB, REGISTER, scheme, SCHEME, certificate, CERTIFICATE - 1, table, FEEDCHECK_TABLE_NUMBERS);
+    k = feedcheck_check(JOB, REGISTER, scheme, SCHEME, certificate, CERTIFICATE - 1, JOB, 1, table, FEEDCHECK_TABLE_NUMBERS);
     expect("check, cut", k.number == 2 && k.part == 3 && k.position == 43);
-    w = feedcheck_plain(JOB, REGISTER, scheme, SCHEME, buffer, sizeof buffer);
+    w = feedcheck_plain(JOB, REGISTER, scheme, SCHEME, scheme, SCHEME, buffer, sizeof buffer);
     expect("plain", w.number == 0 && w.count == CERTIFICATE && memcmp(buffer, certificate, CERTIFICATE) == 0);
     FeedcheckTally tally = {{{4294967295u, 7}}};
     FeedcheckJobAnswer j = feedcheck_job(JOB, sizeof JOB, table, FEEDCHECK_TABLE_NUMBERS, 0, tally);
@@ -261,8 +335,8 @@ int main(void) {
     try_refusals();
     try_version();
     if (!failed)
-        printf("header %s: the example, the windows, the days, the rows, the suppliers and their listing are answered as the scope "
-               "says, and each refusal has its name and sentence\n",
+        printf("header %s: the example, the windows, the days, the rows, the ranges, the suppliers and their listing are answered as "
+               "the scope says, and each refusal has its name and sentence\n",
                FEEDCHECK_VERSION);
     return failed;
 }

@@ -4,14 +4,23 @@
  * WORDS. A supplier sends a farm a job, a file of four parts. docs/FORMAT.md explains their bytes.
  *
  *   register     Part 1: what the farm may do and what it costs. A choice is a tank and a minute of the day at which the tank may
- *                be fed. A term is a set of choices and a coefficient, which is added to the cost where all of them are fed. There
- *                may be windows, the times of day outside of which a tank must not be fed, rows, which fix totals ("this tank
- *                exactly four times"), and the length of the day.
+ *                be fed. A term is a set of choices and a coefficient, which is added to the cost where all of them are fed. A
+ *                coefficient that is not known exactly is given as a range, a low and a high one. There may be windows, the times
+ *                of day outside of which a tank must not be fed, rows, which fix totals ("this tank exactly four times"), and the
+ *                length of the day.
  *   scheme       Part 2: further variables beside the choices, each of them the product of two others, and for each term its
  *                split, the two variables whose product it is. So the cost becomes a polynomial of degree 2.
  *   certificate  Part 3: whole numbers which show that no plan that fits costs less than a bound. The check adds them up.
  *   plan         Part 4: which choices are fed. It costs the register's base cost and the coefficients of all terms whose choices
- *                are all fed. It fits where the total of each row comes out; in a register without rows every plan fits.
+ *                are all fed, of a range the high one. It fits where the total of each row comes out; in a register without rows
+ *                every plan fits.
+ *
+ * RANGES. In a register that has a term with a range, a plan chooses the coefficients: of each range the high one where the plan
+ * feeds all choices of the term, else the low one. Cost, bound, gap and our own certificate are of the coefficients that the plan
+ * chooses; so feedcheck_check and feedcheck_plain are given the plan too, and in a job part 4 stands between parts 2 and 3. With a
+ * gap of 0 no plan that fits is cheaper than this one, whatever the coefficients are within their ranges. feedcheck_search and
+ * feedcheck_penalty take the low coefficients, so a search may show another cost of a plan than feedcheck_cost. Where no term has
+ * a range there is one coefficient for each term, and the parts of a job stand in the order of their numbers.
  *
  * Costs, coefficients and bounds are whole numbers in whatever unit of money the register is written in. A job brings a register of
  * its own: that it is accepted does not say that this is the farm's (docs/REFUSALS.md, "What an accepted job does not say").
@@ -24,8 +33,8 @@
  * FEEDCHECK_TABLE_NUMBERS numbers; a shorter one is refused 11 before anything is read. A buffer shorter than the bytes to be
  * written is refused 11 after everything is read, and is left as it was.
  *
- * A call that is given parts by themselves reads them in their order, each to the end of its run: bytes after the end of a part are
- * refused 12, at the first of them, before the next part is read.
+ * A call that is given parts by themselves reads them in the order of their numbers, but part 4 before part 3; each to the end of
+ * its run: bytes after the end of a part are refused 12, at the first of them, before the next part is read.
  *
  * WHAT A CALL ANSWERS. An answer's number is 0, FEEDCHECK_ACCEPTED, or that of a refusal, 1 to 17. On a refusal part, 1 to 4, and
  * position tell the command that is refused. The position is that of its first byte, or of the place where a command is missing or
@@ -42,6 +51,7 @@
 #ifndef FEEDCHECK_H
 #define FEEDCHECK_H
 
+#include <stdbool.h>
 #include <stddef.h>
 #include <stdint.h>
 
@@ -53,10 +63,10 @@ extern "C" {
  * is that of the last change that users asked for (docs/changes/R-NUMBER.md), and the patch number counts what came after it.
  * Before 1.0 a new minor number may change calls and records, a new patch number does not. docs/LINKING.md tells what a program
  * must change, under "Programs compiled with an earlier header". */
-#define FEEDCHECK_VERSION "0.8.1"
+#define FEEDCHECK_VERSION "0.9.0"
 #define FEEDCHECK_VERSION_MAJOR 0
-#define FEEDCHECK_VERSION_MINOR 8
-#define FEEDCHECK_VERSION_PATCH 1
+#define FEEDCHECK_VERSION_MINOR 9
+#define FEEDCHECK_VERSION_PATCH 0
 
 enum {
     FEEDCHECK_MAX_CHOICES = 32,     /* the most choices of a register, */
@@ -72,8 +82,8 @@ enum {
     FEEDCHECK_MAX_BUILT = 865,      /* a buffer of so many bytes is enough for every scheme that is built, */
     FEEDCHECK_MAX_PLAIN = 1294,     /* for every certificate that feedcheck_plain writes, */
     FEEDCHECK_MAX_LISTING = 4096,   /* for every listing, the farm's and the supplier's */
-    FEEDCHECK_MAX_JOB = 26037,      /* no job of more bytes is accepted */
-    FEEDCHECK_MAX_JOB_READ = 26166  /* a longer job is answered as its first so many bytes are */
+    FEEDCHECK_MAX_JOB = 27061,      /* no job of more bytes is accepted */
+    FEEDCHECK_MAX_JOB_READ = 27195  /* a longer job is answered as its first so many bytes are */
 };
 
 /* How many suppliers a tally counts apart; their numbers begin at 0. A macro, so that #ifdef tells headers without suppliers. */
@@ -99,7 +109,7 @@ enum {
     FEEDCHECK_REFUSED_PAST_END = 12,
     FEEDCHECK_REFUSED_OUTSIDE_WINDOWS = 13,
     FEEDCHECK_REFUSED_PAST_LIMIT = 14,      /* feedcheck_search */
-    FEEDCHECK_REFUSED_MISFIT = 15,          /* feedcheck_cost, feedcheck_job */
+    FEEDCHECK_REFUSED_MISFIT = 15,          /* feedcheck_cost, feedcheck_job; with ranges feedcheck_check, feedcheck_plain */
     FEEDCHECK_REFUSED_NONE_FITS = 16,       /* feedcheck_search */
     FEEDCHECK_REFUSED_UNKNOWN_SUPPLIER = 17 /* feedcheck_job */
 };
@@ -152,8 +162,9 @@ static inline const char *feedcheck_refusal_text(uint8_t number) {
  * counted from 0 at the day's beginning; every minute is below day_length, and no window ends after it.
  * Choice number i is of the tank tanks[i], 1 to 9,999, at the minute minutes[i]. There is at least one choice. Choices rise by tank
  * and then by minute.
- * Term number t is of each choice i for which bit i of masks[t] is set, at least one; its coefficient coefficients[t] is -1,000,000
- * to 1,000,000 and not 0. Masks rise.
+ * Term number t is of each choice i for which bit i of masks[t] is set, at least one. Masks rise. Where ranged[t] is false its
+ * coefficient is coefficients[t], which is not 0, and highs[t] is the same number. Where ranged[t] is true the term has a range,
+ * from coefficients[t] to highs[t]; each may be 0, and they may be equal. Coefficients, low and high, are -1,000,000 to 1,000,000.
  * Window number w is of the tank window_tanks[w]: window_froms[w] is its first minute, window_tos[w] the first minute after it.
  * Where a tank has no window, every minute of the day is allowed. Windows rise by tank and then by first minute; they may overlap.
  * Row number k has the total row_totals[k], -4,064 to 4,064, and for choice j the entry row_entries[FEEDCHECK_ROW_ENTRIES * k + j],
@@ -165,13 +176,27 @@ typedef struct {
     size_t choices, terms;
     uint16_t tanks[FEEDCHECK_MAX_CHOICES], minutes[FEEDCHECK_MAX_CHOICES];
     uint32_t masks[FEEDCHECK_MAX_TERMS];
-    int32_t coefficients[FEEDCHECK_MAX_TERMS];
+    int32_t coefficients[FEEDCHECK_MAX_TERMS], highs[FEEDCHECK_MAX_TERMS];
+    bool ranged[FEEDCHECK_MAX_TERMS];
     size_t windows;
     uint16_t window_tanks[FEEDCHECK_MAX_WINDOWS], window_froms[FEEDCHECK_MAX_WINDOWS], window_tos[FEEDCHECK_MAX_WINDOWS];
     size_t rows;
     int16_t row_totals[FEEDCHECK_MAX_ROWS];
     int8_t row_entries[FEEDCHECK_MAX_ROWS * FEEDCHECK_ROW_ENTRIES];
 } FeedcheckRegister;
+
+/* Whether a term of the register has a range, be its two coefficients equal. The plan of a job then stands before the certificate,
+ * and feedcheck_check and feedcheck_plain read the plan that they are given. */
+static inline bool feedcheck_has_range(const FeedcheckRegister *reg) {
+    size_t t;
+
+    for (t = 0; t < reg->terms; t++) {
+        if (reg->ranged[t]) {
+            return true;
+        }
+    }
+    return false;
+}
 
 /* What a scheme says. Variables 0 to n - 1 are the register's n choices, and variable n + k is product number k: 1 where both its
  * operands are 1, which are the variables lefts[k] and rights[k], with lefts[k] < rights[k] < n + k.
@@ -221,8 +246,9 @@ typedef struct {
     int64_t cost;
 } FeedcheckCostAnswer;
 
-/* plan: bit i is set where choice i is fed. visits: the partial plans that the search came to, the empty one, full ones and those
- * that it left at once included; with n choices never more than 2 to the power (n + 1), less 1. */
+/* plan: bit i is set where choice i is fed. cost: with the low coefficients where there are ranges. visits: the partial plans that
+ * the search came to, the empty one, full ones and those that it left at once included; with n choices never more than 2 to the
+ * power (n + 1), less 1. */
 typedef struct {
     uint8_t number, part;
     size_t position;
@@ -236,7 +262,8 @@ typedef struct {
     size_t position;
 } FeedcheckPenaltyAnswer;
 
-/* bound: no plan that fits the rows costs less. -4,000,000,000,000,000 to 4,000,000,000,000,000. */
+/* bound: no plan that fits the rows costs less; where there are ranges, with the coefficients that the given plan chooses.
+ * -4,000,000,000,000,000 to 4,000,000,000,000,000. */
 typedef struct {
     uint8_t number, part;
     size_t position;
@@ -244,6 +271,7 @@ typedef struct {
 } FeedcheckCheckAnswer;
 
 /* bound and cost as above; gap: the cost less the bound, 0 or more, so that no plan that fits is cheaper by more than the gap.
+ * Where there are ranges and the gap is 0, no plan that fits is cheaper, with any coefficients within the ranges.
  * tally: the one that the call was given, with this job counted. */
 typedef struct {
     uint8_t number, part;
@@ -256,45 +284,54 @@ typedef struct {
  * if part 1 is right. libregister.a */
 FeedcheckRegisterAnswer feedcheck_register(const uint8_t *reg, size_t reg_length);
 
-/* Reads a scheme, the bytes of part 2, of a register. Parts 2 to 4 of a job, given in the scheme's place, are refused 12 in part 2
- * with the position at which part 3 begins, if part 2 is right. libscheme.a */
+/* Reads a scheme, the bytes of part 2, of a register. Part 2 of a job with all that stands behind it, given in the scheme's place,
+ * is refused 12 in part 2 with the position at which the next part begins, if part 2 is right: part 3 or, where the register has a
+ * range, part 4. libscheme.a */
 FeedcheckSchemeAnswer feedcheck_scheme(const uint8_t *reg, size_t reg_length, const uint8_t *scheme, size_t scheme_length);
 
 /* Builds a scheme of a register and writes its bytes. Refused 10, in part 1 at the command of the term, where a term needs a 33rd
  * product. libbuilder.a */
 FeedcheckWriterAnswer feedcheck_build(const uint8_t *reg, size_t reg_length, uint8_t *buffer, size_t buffer_length);
 
-/* The cost of a plan, the bytes of part 4. Refused 15, at the plan's command, where the plan does not fit the rows. libplan.a */
+/* The cost of a plan, the bytes of part 4, of a range with the high coefficient. Refused 15, at the plan's command, where the plan
+ * does not fit the rows. Where parts 4 and 3 of a job with ranges are given in the plan's place it is refused 12 in part 4 with the
+ * position at which part 3 begins, if part 4 is right. libplan.a */
 FeedcheckCostAnswer feedcheck_cost(const uint8_t *reg, size_t reg_length, const uint8_t *plan, size_t plan_length);
 
-/* Finds a plan that fits the rows and costs at most any other that fits, of equals the smallest number. Refused 14, with part and
- * position 0, where that takes more visits than the limit; it stops there, so the limit bounds the time of the call. As many as
- * the limit are accepted. Refused 16, with part and position 0, where no plan fits; 14 comes before it. libsearch.a */
+/* Finds a plan that fits the rows and costs at most any other that fits, of equals the smallest number. Costs here are those with
+ * the low coefficients of ranges. Refused 14, with part and position 0, where that takes more visits than the limit; it stops
+ * there, so the limit bounds the time of the call. As many as the limit are accepted. Refused 16, with part and position 0, where
+ * no plan fits; 14 comes before it. libsearch.a */
 FeedcheckSearchAnswer feedcheck_search(const uint8_t *reg, size_t reg_length, uint32_t limit);
 
 /* Leaves the penalty form in the table, a function of the scheme's variables for solvers that take no conditions. Where every
  * product is 1 just where both its operands are, the function is the cost of the plan that feeds the choices which are 1; its least
  * value over all 0s and 1s is the least cost. Where the register has rows, the least value over those whose choices fit is the
- * least cost of the plans that fit. On a refusal the table stays as it was. libpenalty.a */
+ * least cost of the plans that fit. Costs here are those with the low coefficients of ranges. On a refusal the table stays as it
+ * was. libpenalty.a */
 FeedcheckPenaltyAnswer feedcheck_penalty(const uint8_t *reg, size_t reg_length, const uint8_t *scheme, size_t scheme_length,
                                          int64_t *table, size_t table_length);
 
-/* Checks a certificate, the bytes of part 3. Leaves R in the table, what the certificate leaves over (docs/SUPPLIERS.md). It is
- * refused 9, at its end command, where in some row of R, numbers side * i to side * i + N, the one on the diagonal is less than the
- * absolute values of the others together. The table is written where the end command is reached: also on a refusal 9, or 12 in
- * part 3; on any other it stays as it was. libbound.a */
+/* Checks a certificate, the bytes of part 3. Where the register has a range, the plan, the bytes of part 4, chooses coefficients:
+ * it is read after part 2 and before part 3, and refused as by feedcheck_cost, 15 among the refusals. Where it has none the plan's
+ * bytes are not looked at; give any, or none with a pointer that is not null. Leaves R in the table, what the certificate leaves
+ * over (docs/SUPPLIERS.md). It is refused 9, at its end command, where in some row of R, numbers side * i to side * i + N, the one
+ * on the diagonal is less than the absolute values of the others together. The table is written where the end command is reached:
+ * also on a refusal 9, or 12 in part 3; on any other it stays as it was. libbound.a */
 FeedcheckCheckAnswer feedcheck_check(const uint8_t *reg, size_t reg_length, const uint8_t *scheme, size_t scheme_length,
-                                     const uint8_t *certificate, size_t certificate_length, int64_t *table, size_t table_length);
+                                     const uint8_t *certificate, size_t certificate_length, const uint8_t *plan,
+                                     size_t plan_length, int64_t *table, size_t table_length);
 
-/* Writes a certificate for a register and a scheme that takes no solver. It is always accepted; its bound is often far below the
- * least cost. libplain.a */
+/* Writes a certificate for a register and a scheme that takes no solver, and for a plan, which is looked at as by feedcheck_check:
+ * where the register has a range. It is always accepted with this plan; its bound is often far below the least cost. libplain.a */
 FeedcheckWriterAnswer feedcheck_plain(const uint8_t *reg, size_t reg_length, const uint8_t *scheme, size_t scheme_length,
-                                      uint8_t *buffer, size_t buffer_length);
+                                      const uint8_t *plan, size_t plan_length, uint8_t *buffer, size_t buffer_length);
 
 /* A whole job of this supplier, 0 to 15: the bound, the plan's cost, the gap, and the tally with the job counted. Refused 15 where
- * its plan does not fit the rows. Leaves R in the table as feedcheck_check does: also where it is refused 9, or in part 4.
- * Refused 17, with part and position 0, where the supplier is above 15; that comes before anything else, a short table too, and
- * leaves the table as it was. libjob.a */
+ * its plan does not fit the rows. Where the register has a range the parts stand in the order 1, 2, 4, 3. Leaves R in the table
+ * where the end command of part 3 is reached: also where it is refused 9, or behind that command. Refused 17, with
+ * part and position 0, where the supplier is above 15; that comes before anything else, a short table too, and leaves the table as
+ * it was. libjob.a */
 FeedcheckJobAnswer feedcheck_job(const uint8_t *job, size_t job_length, int64_t *table, size_t table_length, uint8_t supplier,
                                  FeedcheckTally tally);
 

@@ -1,6 +1,7 @@
 #!/usr/bin/env python3
 """The cheapest plan of a register (part 1 of a job, by itself), worked out from the scope paper and the requests by themselves, slowly
-and in Python's whole numbers. It shares no code with the library; its answers are a second opinion, not a proof.
+and in Python's whole numbers. It shares no code with the library; its answers are a second opinion, not a proof. Of a range, `16`, the
+low coefficient is taken, so the cost that is printed is that with the low coefficients.
 
     tools/cheapest.py FILE              prints the lines of the register in FILE
     tools/cheapest.py --limit N FILE    the same with the visit limit N in place of the program's
@@ -58,7 +59,7 @@ class Search:
     def sum_at(self, undecided, fed):
         unfed = -1 << undecided & ~fed
         total = self.register.base
-        for mask, coefficient in self.register.terms:
+        for mask, coefficient, _ in self.register.terms:
             wholly_fed = mask & ~fed == 0
             none_unfed = mask & unfed == 0
             if wholly_fed or none_unfed and coefficient < 0:
@@ -100,10 +101,12 @@ def is_cheapest(data, expected):
         return True
     if len(register.choices) > EVERY:
         return True
-    plan = min(filter(register.fits, range(1 << len(register.choices))), key=register.cost, default=None)
+    lows = register.lows()
+    costs = ((register.total(plan, lows), plan) for plan in range(1 << len(register.choices)) if register.fits(plan))
+    cost, plan = min(costs, default=(None, None))
     if plan is None:
         return expected == NONE_FITS
-    return expected.startswith("".join(line + "\n" for line in register.feedings(plan)) + f"S {register.cost(plan)} ")
+    return expected.startswith("".join(line + "\n" for line in register.feedings(plan)) + f"S {cost} ")
 
 
 def has_more(expected):

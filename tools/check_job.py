@@ -26,6 +26,8 @@ class Refused(Exception):
 
 
 class Job:
+    """A job, read part by part. A term is a mask, its low coefficient and its high one, which are the same for a `12`."""
+
     def __init__(self, job):
         self.job, self.at, self.next, self.part = job, 0, 0, 1
         self.table, self.refusal = None, None
@@ -48,12 +50,13 @@ class Job:
         _, v = self.take(0x10)
         self.need(abs(v["cost"]) <= 1_000_000_000, 4)
         self.base, self.day, self.windows, self.choices, self.rows, self.terms = v["cost"], USUAL_DAY, [], [], [], []
+        self.ranged = False  # whether it has a `16`
         after_base = [0x18]  # what may stand only directly after `10`
         while True:
             before_terms = [] if self.terms else [0x14]
             before_rows = [] if self.terms or self.rows else [0x11]
             before_choices = [] if self.terms or self.rows or self.choices else [0x13]
-            byte, v = self.take(0x12, 0x1F, *after_base, *before_choices, *before_rows, *before_terms)
+            byte, v = self.take(0x12, 0x16, 0x1F, *after_base, *before_choices, *before_rows, *before_terms)
             after_base = []
             if byte == 0x18:
                 self.need(v["length"] in DAYS, 4)
@@ -81,12 +84,21 @@ class Job:
             elif byte == 0x12:
                 self.need(len(self.terms) < 256, 3)
                 self.need(1 <= abs(v["coefficient"]) <= 1_000_000, 4)
-                self.need(0 < v["mask"] < 1 << len(self.choices), 5)
-                self.need(not self.terms or self.terms[-1][0] < v["mask"], 7)
-                self.terms.append((v["mask"], v["coefficient"]))
+                self.term(v["mask"], v["coefficient"], v["coefficient"])
+            elif byte == 0x16:
+                self.need(len(self.terms) < 256, 3)
+                self.need(abs(v["low"]) <= 1_000_000 and abs(v["high"]) <= 1_000_000, 4)
+                self.term(v["mask"], v["low"], v["high"])
+                self.ranged = True
             else:
                 self.need(self.choices, 3)
                 return
+
+    def term(self, mask, low, high):
+        self.need(0 < mask < 1 << len(self.choices), 5)
+        self.need(low <= high, 6)
+        self.need(not self.terms or self.terms[-1][0] < mask, 7)
+        self.terms.append((mask, low, high))
 
     def scheme(self):
         self.sets = [1 << i for i in range(len(self.choices))]
@@ -188,7 +200,7 @@ class Job:
                 table[q][p] += times * c
 
         add(self.s, [(0, 0, self.base)])
-        for (l, r), (_, coefficient) in zip(self.splits, self.terms):
+        for (l, r), coefficient in zip(self.splits, self.coefficients()):
             add(self.s, [(0 if l == r else l + 1, r + 1, coefficient)])
         for times, form in self.multipliers:
             add(times, form)
@@ -210,7 +222,6 @@ class Job:
         _, v = self.take(0x40)
         self.need(v["fed"] < 1 << len(self.choices), 5)
         self.need(self.fits(v["fed"]), 15)
-        self.ended()
         self.fed = v["fed"]
 
     def ended(self):
@@ -221,18 +232,45 @@ class Job:
         """Whether the sum of the entries that a plan feeds is b, in each row."""
         return all(sum(a for j, a in enumerate(entries) if plan >> j & 1) == b for b, entries in self.rows)
 
+    def beside(self, plan):
+        """The coefficient of each term that counts beside a plan: the high one where it feeds the term's choices, else the low one."""
+        return [high if mask & ~plan == 0 else low for mask, low, high in self.terms]
+
+    def lows(self):
+        return [low for _, low, _ in self.terms]
+
+    def coefficients(self):
+        """The coefficients that the certificate is about. Without a `16` there is one for each term, whatever the plan."""
+        return self.beside(self.fed) if self.ranged else self.lows()
+
+    def total(self, plan, coefficients):
+        """What a plan costs with such coefficients."""
+        return self.base + sum(c for (mask, _, _), c in zip(self.terms, coefficients) if mask & ~plan == 0)
+
     def cost(self, plan):
-        return self.base + sum(c for mask, c in self.terms if mask & ~plan == 0)
+        return self.total(plan, self.beside(plan))
 
     def feedings(self, plan):
         """The lines of a plan's feedings."""
         return [f"F {t} {m}" for i, (t, m) in enumerate(self.choices) if plan >> i & 1]
 
+    def parts(self):
+        """The readers of the parts with their numbers, in the order in which they are read. The last two hang on the first."""
+        yield 1, self.register
+        yield 2, self.scheme
+        last = [(3, self.certificate), (4, self.plan)]
+        yield from reversed(last) if self.ranged else last
+
+    def whole(self):
+        """Reads a job to its end."""
+        for self.part, reader in self.parts():
+            reader()
+        self.ended()
+
     def listings(self):
         """The lines that the farm reads, and those that the supplier reads. Where the job is refused, the one line is kept too."""
         try:
-            for self.part, reader in enumerate([self.register, self.scheme, self.certificate, self.plan], 1):
-                reader()
+            self.whole()
         except Refused as refusal:
             number, _, position = refusal.args
             self.refusal = f"R {number} {position}"

@@ -56,8 +56,8 @@ class Given(Job):
         pass
 
     def with_certificate(self, target, sums, squares):
-        scale, end = encode(0x30, {"s": self.s, "T": target}), b"\x3F" + encode(0x40, {"fed": self.fed})
-        return self.front + scale + b"".join(commands(sums)) + b"".join(squares) + end
+        scale, plan = encode(0x30, {"s": self.s, "T": target}), b"" if self.ranged else encode(0x40, {"fed": self.fed})
+        return self.front + scale + b"".join(commands(sums)) + b"".join(squares) + b"\x3F" + plan
 
 
 def limit(byte):

@@ -8,17 +8,19 @@
     tools/job_text.py blank FILE       writes the job in FILE with 0 for each tank, minute, "from" and "to" to standard output
     tools/job_text.py plan REGISTER LINES    writes part 4, the plan that LINES names, to standard output; LINES may be - for standard input
 
-A line is a command: position, part, command byte, name, operands, and in parentheses what they mean. `make` looks only at the
-command byte and the operands, so positions need not be mended after a change, and in lines written by hand `-` may stand in their
-place; it passes over empty lines and lines that begin with `#`. A number may be decimal, hexadecimal (0x7) or binary (0b111). A
-square's entries are c for the constant and z0 to z63 for the variables, those of a row of the register z0 to z31 for the choices;
-those that are 0 are left out. A time is hours and minutes since the day began, 24:59 for the last minute of a day of 25 hours; it is
-left out where the minute is not one of the day, whose length is that of the `18` directly after `10`, or the usual one.
+A line is a command: position, part, command byte, name, operands, and in parentheses what they mean. `make` looks only at the command byte
+and the operands, so positions need not be mended after a change, and in lines written by hand `-` may stand in their place; it passes over
+empty lines and lines that begin with `#`. A number may be decimal, hexadecimal (0x7) or binary (0b111). A square's entries are c for the
+constant and z0 to z63 for the variables, those of a row of the register z0 to z31 for the choices; those that are 0 are left out. A range
+is a term with a low and a high coefficient; "at high" stands behind a plan with the ranges whose choices it feeds, of which the high one
+counts beside it. A time is hours and minutes since the day began, 24:59 for the last minute of a day of 25 hours; it is left out where the
+minute is not one of the day, whose length is that of the `18` directly after `10`, or the usual one.
 Where a file begins with a command of part 2, 3 or 4, only that is said which holds whatever register stands before it. A scheme, a
 certificate or a plan is explained in full behind its register (`cat my.register my.scheme > both`, and `show both`).
-From the first byte that is no command, or begins a command that is cut off, or stands after the plan, the bytes are shown as
-they are, after `raw`, and `blank` leaves them as they are. `register` and `cut` look only for the end of a part, not whether what
-stands before it is right. What stands behind part 3 is the fourth file, so the four files, one after the other, are the job.
+From the first byte that is no command, or begins a command that is cut off, or stands after the job's end, the bytes are shown as they
+are, after `raw`, and `blank` leaves them as they are. `register` and `cut` look only for the end of a part, not whether what stands before
+it is right. What stands behind part 3 is NAME.plan. Where part 1 has a range, the plan stands before part 3, and what stands behind it is
+NAME.certificate. So the four files, one after the other in the job's order of parts, are the job.
 
 LINES is what `cheapest` or `feedcheck` prints. Each line `F tank minute` feeds the choice of part 1 of REGISTER that has this tank and
 this minute; lines that begin with T, S or B, and empty ones, are passed over. Of the register `plan` looks only at the choices.
@@ -47,6 +49,7 @@ COMMANDS = {
     0x12: (1, "term", [("mask", U32), ("coefficient", I32)]),
     0x13: (1, "window", [("tank", U16), ("from", U16), ("to", U16)]),
     0x14: (1, "row", [("b", I16)] + [(name, I8) for name in ROW]),
+    0x16: (1, "range", [("mask", U32), ("low", I32), ("high", I32)]),
     0x18: (1, "day", [("length", U16)]),
     0x1F: (1, "end", []),
     0x21: (2, "product", [("l", U8), ("r", U8)]),
@@ -72,9 +75,11 @@ HEXADECIMAL = ("mask", "fed")
 HIDDEN = ("tank", "minute", "from", "to")
 # command byte: entries that are left out where they are 0
 ENTRIES = {0x14: ROW, 0x3A: SQUARE}
-# the commands that end parts 1 to 3, and the names that `cut` gives the files of the four parts
-ENDS = (0x1F, 0x2F, 0x3F)
-PARTS = ("register", "scheme", "certificate", "plan")
+# the parts in the order in which a job has them, without a range in part 1 and with one, and the command that ends each
+USUAL_ORDER, RANGED_ORDER = (1, 2, 3, 4), (1, 2, 4, 3)
+ENDS = {1: 0x1F, 2: 0x2F, 3: 0x3F, 4: 0x40}
+# the names that `cut` gives the files of the four parts
+PARTS = {1: "register", 2: "scheme", 3: "certificate", 4: "plan"}
 # the choices of a register, whose fed ones have a bit each in the plan's mask
 MOST_CHOICES = 32
 # what looks like a minus sign and is none in a number here
@@ -109,11 +114,19 @@ def encode(byte, values):
 
 
 def commands(job):
-    """The position and byte of each command, up to the first byte that is none, or begins one that is cut off, or stands after the plan."""
-    at = 0
+    """The position and byte of each command, up to the first byte that is none, or begins one that is cut off, or stands after the end of
+    the job, which is the plan, or, where a range was met, the end of part 3."""
+    at, last = 0, ENDS[USUAL_ORDER[-1]]
     while at < len(job) and job[at] in COMMANDS and at + size(job[at]) <= len(job):
         yield at, job[at]
-        at = len(job) if job[at] == 0x40 else at + size(job[at])
+        if job[at] == 0x16:
+            last = ENDS[RANGED_ORDER[-1]]
+        at = len(job) if job[at] == last else at + size(job[at])
+
+
+def order_of(job):
+    """The parts in the order in which a job has them."""
+    return RANGED_ORDER if any(byte == 0x16 for _, byte in commands(job)) else USUAL_ORDER
 
 
 def choices_of(mask):
@@ -148,12 +161,12 @@ def less(b):
 
 class Meaning:
     """What the commands so far have named: the day's length, 0 where it is none of those that a day may have, the windows, the rows, the
-    sets of the variables, the operands of the products, how many terms and splits; and the last command. Where the first command is none
-of part 1, the register is somewhere else, and nothing is said for which it is needed."""
+    sets of the variables, the operands of the products, the masks of the terms that are ranges, how many terms and splits; and the last
+    command. Where the first command is none of part 1, the register is somewhere else, and nothing is said for which it is needed."""
 
     def __init__(self):
         self.last, self.day, self.is_apart = None, USUAL_DAY, False
-        self.windows, self.rows, self.sets, self.products, self.terms, self.splits = [], [], [], {}, 0, 0
+        self.windows, self.rows, self.sets, self.products, self.ranges, self.terms, self.splits = [], [], [], {}, {}, 0, 0
 
     def outside(self, tank, minute):
         """Whether a tank has windows and a minute is in none of them."""
@@ -168,6 +181,11 @@ of part 1, the register is somewhere else, and nothing is said for which it is n
     def unfit(self, fed):
         """The rows that a plan doesn't fit."""
         return [k for k, (b, entries) in enumerate(self.rows) if sum(x for j, x in enumerate(entries) if fed >> j & 1) != b]
+
+    def at_high(self, fed):
+        """The ranges of which a plan feeds all choices."""
+        ranges = [str(term) for term, mask in self.ranges.items() if mask & ~fed == 0]
+        return f", terms {' '.join(ranges)} at high" if ranges else ""
 
     def row_form(self, v):
         """The form of `3B`."""
@@ -201,9 +219,12 @@ of part 1, the register is somewhere else, and nothing is said for which it is n
             time = f", {time_of(v['minute'])}" if v["minute"] < self.day else ""
             outside = ", in no window of its tank" if self.outside(v["tank"], v["minute"]) else ""
             return f"choice {len(self.sets) - 1}{time}{outside}"
-        if byte == 0x12:
+        if byte in (0x12, 0x16):
+            if byte == 0x16:
+                self.ranges[self.terms] = v["mask"]
             self.terms += 1
-            return f"term {self.terms - 1}: {choices_of(v['mask'])}"
+            misordered = ", low above high" if byte == 0x16 and v["low"] > v["high"] else ""
+            return f"term {self.terms - 1}: {choices_of(v['mask'])}{misordered}"
         if byte == 0x13:
             self.windows.append((v["tank"], v["from"], v["to"]))
             times = f", {time_of(v['from'])} to {time_of(v['to'])}" if v["from"] < v["to"] <= self.day else ""
@@ -234,7 +255,7 @@ of part 1, the register is somewhere else, and nothing is said for which it is n
         if byte == 0x3B:
             return "" if self.is_apart else self.row_form(v)
         if byte == 0x40:
-            return choices_of(v["fed"]) + "".join(f", does not fit row {k}" for k in self.unfit(v["fed"]))
+            return choices_of(v["fed"]) + self.at_high(v["fed"]) + "".join(f", does not fit row {k}" for k in self.unfit(v["fed"]))
         return ""
 
 
@@ -346,15 +367,18 @@ def make(lines):
 
 
 def cut(job):
-    """The four parts of a job, the fourth being all that stands behind part 3; fewer where commands of a part don't lead to its end."""
-    parts, start = [], 0
+    """The four parts of a job, in its order, the last being all that stands behind the third; fewer where commands of a part don't lead
+    to its end."""
+    order, parts, start = order_of(job), [], 0
     for at, byte in commands(job):
-        if len(parts) == len(ENDS) or COMMANDS[byte][0] != len(parts) + 1:
+        part = order[len(parts)]
+        if part == order[-1] or COMMANDS[byte][0] != part:
             break
-        if byte in ENDS:
-            parts.append(job[start:at + 1])
-            start = at + 1
-    return parts + [job[start:]] if len(parts) == len(ENDS) else parts
+        if byte == ENDS[part]:
+            end = at + size(byte)
+            parts.append(job[start:end])
+            start = end
+    return parts + [job[start:]] if len(parts) == len(order) - 1 else parts
 
 
 def register_of(job):
@@ -391,11 +415,12 @@ def first_part(file):
 def write_parts(file, name):
     if not name or name.endswith("/"):
         raise Misuse(f"NAME is to be what the names of four files begin with, and {f'ends with /: {name}' if name else 'is empty'}")
-    parts = cut(job_in(file))
-    if len(parts) < len(PARTS):
-        raise Trouble(f"{file}: part {len(parts) + 1} has no end")
-    for part, run_of_bytes in zip(PARTS, parts):
-        write(f"{name}.{part}", run_of_bytes)
+    job = job_in(file)
+    order, parts = order_of(job), cut(job)
+    if len(parts) < len(order):
+        raise Trouble(f"{file}: part {order[len(parts)]} has no end")
+    for part, run_of_bytes in zip(order, parts):
+        write(f"{name}.{PARTS[part]}", run_of_bytes)
     return b""
 
 

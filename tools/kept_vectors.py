@@ -7,8 +7,8 @@ Each line that does not hold is printed, by its file and its name. Where a reque
 that are printed then are those that the request alters.
 
 Judged are all lines of register.txt, scheme.txt, cost.txt, check.txt, job.txt, listing.txt, supplier.txt, search.txt and feedcheck.txt.
-There is no second opinion on what build, penalty and plain write. Of build.txt, penalty.txt and plain.txt what is refused in parts 1 and
-2, or for a table, is judged, and the other lines are counted as not judged. Other files are passed over.
+There is no second opinion on what build, penalty and plain write. Of build.txt, penalty.txt and plain.txt what is refused in the parts
+that the call reads, or for a table, is judged, and the other lines are counted as not judged. Other files are passed over.
 
 The exit status is 0 where all lines that are judged hold, else 1. Where something else is wrong it is 2, and one line on standard
 error says what.
@@ -22,7 +22,6 @@ from check_job import Job, Refused, farm, supplier, text
 from command_line import Trouble, expect, files, put, run
 from program_vectors import bytes_of, cases
 
-READERS = {1: Job.register, 2: Job.scheme, 3: Job.certificate, 4: Job.plan}
 ACCEPTED, SHORT, NO_SUPPLIER = (0, 0, 0), (11, 0, 0), (17, 0, 0)
 TABLE, SUPPLIERS, MOST = 4_225, 16, 2 ** 32 - 1
 # a number of a table and a byte of a buffer before a call
@@ -33,22 +32,34 @@ class NotJudged(Exception):
     pass
 
 
-def answered(job, parts):
-    """The job, and the refusal of the parts read, or zeros. A part is its number and, where it is a run of bytes by itself, these."""
+def answered(job, reading):
+    """The job, and the refusal of what is read of it, or zeros."""
     try:
-        for job.part, alone in parts:
-            if alone is not None:
-                job.job, job.next = bytes_of(alone), 0
-            READERS[job.part](job)
-            if alone is not None:
-                job.ended()
+        reading()
     except Refused as refused:
         return job, refused.args
     return job, ACCEPTED
 
 
-def opened(*parts):
-    return answered(Job(b""), list(enumerate(parts, 1)))
+def opened(runs):
+    """The job whose parts are runs of bytes by themselves, by their numbers, and its refusal or zeros. The parts that are given are read in
+    the job's order, each to the end of its run."""
+    job = Job(b"")
+
+    def read():
+        for job.part, reader in job.parts():
+            if job.part in runs:
+                job.job, job.next = bytes_of(runs[job.part]), 0
+                reader()
+                job.ended()
+
+    return answered(job, read)
+
+
+def beside(plan, runs):
+    """Some parts, and the plan too where the register has a `16`. Where it has none the plan is not looked at."""
+    job, answer = opened({1: runs[1]})
+    return {**runs, 4: plan} if answer == ACCEPTED and job.ranged else runs
 
 
 def numbers(lists):
@@ -74,16 +85,17 @@ def buffer_after(room, written=b""):
 
 
 def register(first):
-    job, answer = opened(first)
+    job, answer = opened({1: first})
     if answer != ACCEPTED:
-        return [*answer, 0, 0, 0, 0, 0, 0]
-    rows = [(b, *entries) for b, entries in job.rows]
-    lists = [*job.choices, *job.terms, [len(job.windows)], *job.windows, [job.day, len(rows)], *rows]
+        return [*answer, 0, 0, 0, 0, 0, 0, 0]
+    rows, terms = [(b, *entries) for b, entries in job.rows], [(mask, low) for mask, low, _ in job.terms]
+    lists = [*job.choices, *terms, [len(job.windows)], *job.windows, [job.day, len(rows)], *rows]
+    lists += [[int(job.ranged)], [high for _, _, high in job.terms]]
     return [*answer, job.base, len(job.choices), len(job.terms), *numbers(lists)]
 
 
 def scheme(first, second):
-    job, answer = opened(first, second)
+    job, answer = opened({1: first, 2: second})
     if answer != ACCEPTED:
         return [*answer, 0, 0, 0]
     products = [(*operands, job.sets[k]) for k, operands in job.products.items()]
@@ -91,19 +103,19 @@ def scheme(first, second):
 
 
 def build(first, room):
-    _, answer = opened(first)
+    _, answer = opened({1: first})
     if answer == ACCEPTED:
         raise NotJudged
     return [*answer, 0, buffer_after(int(room))]
 
 
 def cost(first, fourth):
-    job, answer = answered(Job(b""), [(1, first), (4, fourth)])
+    job, answer = opened({1: first, 4: fourth})
     return [*answer, job.cost(job.fed) if answer == ACCEPTED else 0]
 
 
 def penalty(first, second, length):
-    _, answer = opened(first, second) if int(length) >= TABLE else (None, SHORT)
+    _, answer = opened({1: first, 2: second}) if int(length) >= TABLE else (None, SHORT)
     if answer == ACCEPTED:
         raise NotJudged
     return [*answer, "same"]
@@ -113,13 +125,13 @@ def bound(job):
     return -(-job.T // job.s)
 
 
-def check(first, second, third, length):
-    job, answer = opened(first, second, third) if int(length) >= TABLE else (Job(b""), SHORT)
+def check(first, second, third, fourth, length):
+    job, answer = opened(beside(fourth, {1: first, 2: second, 3: third})) if int(length) >= TABLE else (Job(b""), SHORT)
     return [*answer, bound(job) if answer == ACCEPTED else 0, *table_after(job, int(length))]
 
 
-def plain(first, second, room):
-    _, answer = opened(first, second)
+def plain(first, second, fourth, room):
+    _, answer = opened(beside(fourth, {1: first, 2: second}))
     if answer == ACCEPTED:
         raise NotJudged
     return [*answer, 0, buffer_after(int(room))]
@@ -129,7 +141,8 @@ def job_call(given, length, number, accepted, refused):
     length, before = int(length), (int(accepted), int(refused))
     if int(number) >= SUPPLIERS:
         return [*NO_SUPPLIER, 0, 0, 0, *before, 0, "same"]
-    job, answer = answered(Job(bytes_of(given)), [(part, None) for part in READERS]) if length >= TABLE else (Job(b""), SHORT)
+    job = Job(bytes_of(given))
+    _, answer = answered(job, job.whole) if length >= TABLE else (job, SHORT)
     least, spent = (bound(job), job.cost(job.fed)) if answer == ACCEPTED else (0, 0)
     after = (before[0] + 1, before[1]) if answer == ACCEPTED else (before[0], before[1] + 1)
     after = tuple(min(count, MOST) for count in after)
@@ -165,8 +178,8 @@ CALLS = {
     "build": (2, build),
     "cost": (2, cost),
     "penalty": (3, penalty),
-    "check": (4, check),
-    "plain": (3, plain),
+    "check": (5, check),
+    "plain": (4, plain),
     "job": (5, job_call),
     "listing": (3, lambda *given: listing(farm, *given)),
     "supplier": (3, lambda *given: listing(supplier, *given)),

@@ -5,9 +5,11 @@ build.txt and plain.txt:
     tools/program_vectors.py FOLDER    FOLDER is crates/conformance/data, or another with the two files
 
 A line is a name, what the program reads, 1 where it is refused and else 0, and what it writes. The bytes of an accepted case are those of
-the call's vector; a refusal's line is worked out by check_job.py, since parts 1 and 2 stand in one run of bytes here. Cases whose buffer is
-short are left out: a program's is not. The jobs of FOLDER/examples are tried too; a whole job is more than these programs read.
+the call's vector; a refusal's line is worked out by check_job.py, since the parts stand in one run of bytes here: parts 1 and 2, and the
+plan behind them where the register has a `16`. Cases whose buffer is short are left out: a program's is not. The jobs of FOLDER/examples
+are tried too; a whole job is more than these programs read.
 """
+import itertools
 import pathlib
 import sys
 
@@ -29,18 +31,37 @@ def bytes_of(field):
     return b"" if field == "-" else bytes.fromhex(field)
 
 
-def refusal(given, *parts):
-    """The line of the refusal of parts at the front of a job and nothing behind them, None where they are right."""
+def of_scheme(part):
+    """Whether `build_scheme` reads a part."""
+    return part == 1
+
+
+def of_certificate(part):
+    """Whether `own_certificate` reads a part. Only with a `16` the plan stands before part 3, where the reading ends."""
+    return part != 3
+
+
+def refusal(given, is_read):
+    """The line of the refusal of a job's parts up to the first that is not read, with nothing behind them; None where they are right."""
     job = Job(given)
     try:
-        for job.part, read in enumerate(parts, 1):
-            read(job)
-        job.at = job.next
-        job.need(job.at == len(given), 12)
+        for job.part, reader in itertools.takewhile(lambda numbered: is_read(numbered[0]), job.parts()):
+            reader()
+        job.ended()
     except Refused as refused:
         number, _, position = refused.args
         return f"R {number} {position}\n".encode()
     return None
+
+
+def is_ranged(given):
+    """Whether a register stands at the front that has a `16`."""
+    job = Job(given)
+    try:
+        job.register()
+    except Refused:
+        return False
+    return job.ranged
 
 
 def line(name, given, refused, written):
@@ -48,28 +69,30 @@ def line(name, given, refused, written):
     return f"{name} {shown[0]} {int(refused)} {shown[1]}\n"
 
 
-def whole_jobs(folder, *parts):
+def whole_jobs(folder, is_read):
     """A whole job is refused, 12 where its parts at the front are right."""
     for path in sorted((folder / "examples").glob("*.job")):
-        yield line(path.stem, path.read_bytes(), True, refusal(path.read_bytes(), *parts))
+        yield line(path.stem, path.read_bytes(), True, refusal(path.read_bytes(), is_read))
 
 
 def schemes(folder):
     for name, register, _, number, _, position, count, buffer in cases(folder / "build.txt"):
         given, number = bytes_of(register), int(number)
-        refused = f"R {FULL} {position}\n".encode() if number == FULL else refusal(given, Job.register)
+        refused = f"R {FULL} {position}\n".encode() if number == FULL else refusal(given, of_scheme)
         if number != SHORT:
             yield line(name, given, refused is not None, refused or bytes_of(buffer)[:int(count)])
-    yield from whole_jobs(folder, Job.register)
+    yield from whole_jobs(folder, of_scheme)
 
 
 def certificates(folder):
-    for name, register, scheme, _, number, _, _, count, buffer in cases(folder / "plain.txt"):
+    for name, register, scheme, plan, _, number, _, _, count, buffer in cases(folder / "plain.txt"):
         given = bytes_of(register) + bytes_of(scheme)
-        refused = refusal(given, Job.register, Job.scheme)
+        if is_ranged(given):
+            given += bytes_of(plan)
+        refused = refusal(given, of_certificate)
         if refused or int(number) == 0:
             yield line(name, given, refused is not None, refused or bytes_of(buffer)[:int(count)])
-    yield from whole_jobs(folder, Job.register, Job.scheme)
+    yield from whole_jobs(folder, of_certificate)
 
 
 def main(words):

@@ -1,10 +1,11 @@
 #!/usr/bin/env python3
 """Tries tools/job_text.py: bytes to lines and back, and the lines of what `blank` writes, on every example, on every file of the folders
-given, and on damaged copies of five jobs, one without windows, one with them, one with a day's length too and two with a row: each
-front of it, each byte changed to eight others, each byte left out; and that the parts of what can be cut into four are the whole of it.
-Then the bytes that `blank` writes of some others, the lines of registers with windows, lengths and rows, right ones and others, of what
-names a row, and of parts apart from their register, where nothing is said that the whole job shows otherwise, lines that are no command
-and what is said of them, registers written by hand, the parts of jobs, and which bytes are a text.
+given, and on damaged copies of six jobs, one without windows, one with them, one with a day's length too, two with a row and one with
+ranges: each front of it, each byte changed to ten others, each byte left out; and that the parts of what can be cut into four are the
+whole of it. Then the bytes that `blank` writes of some others, the lines of registers with windows, lengths, rows and ranges, right ones
+and others, of what names a row, of plans before part 3, and of parts apart from their register, where nothing is said that the whole job
+shows otherwise, lines that are no command and what is said of them, registers written by hand, the parts of jobs, and which bytes are a
+text.
 
     tools/test_job_text.py [FOLDER ..]
 """
@@ -15,12 +16,12 @@ import sys
 sys.dont_write_bytecode = True
 
 from command_line import Trouble, files, run, tally
-from job_text import COMMANDS, ENDS, blank, commands, cut, is_text, lines_of, make, register_of, show
+from job_text import COMMANDS, ENDS, blank, commands, cut, is_text, lines_of, make, order_of, register_of, show
 
 EXAMPLES = pathlib.Path(__file__).resolve().parent.parent / "examples"
 
 # jobs whose damaged copies are tried, and whose part 1
-JOBS = ("example", "windows.night", "days.autumn", "raceway.four")
+JOBS = ("example", "windows.night", "days.autumn", "raceway.four", "prices.quoted")
 
 # runs of bytes, command by command, with the line of each
 SHOWN = [
@@ -143,6 +144,37 @@ SHOWN = [
         ("10 00000000", "00000  1  10 base      cost 0"),
         ("14 0100 01", "00005  -  raw  14 01 00 01"),
     ],
+    # ranges among terms: of numbers below and above 0, of the largest, of one number, misordered, out of range, without a choice; the
+    # plan before the certificate, with the ranges that it feeds; and a plan behind the certificate, where the job has ended
+    [
+        ("10 00000000", "00000  1  10 base      cost 0"),
+        ("11 0300 6801", "00005  1  11 choice    tank 3  minute 360  (choice 0, 06:00)"),
+        ("11 0300 5802", "00010  1  11 choice    tank 3  minute 600  (choice 1, 10:00)"),
+        ("16 01000000 FAFFFFFF 05000000", "00015  1  16 range     mask 0x00000001  low -6  high 5  (term 0: choices 0)"),
+        ("12 02000000 FCFFFFFF", "00028  1  12 term      mask 0x00000002  coefficient -4  (term 1: choices 1)"),
+        ("16 03000000 C0BDF0FF 40420F00", "00037  1  16 range     mask 0x00000003  low -1000000  high 1000000  (term 2: choices 0 1)"),
+        ("16 04000000 00000000 00000000", "00050  1  16 range     mask 0x00000004  low 0  high 0  (term 3: choices 2)"),
+        ("16 05000000 02000000 01000000", "00063  1  16 range     mask 0x00000005  low 2  high 1  (term 4: choices 0 2, low above high)"),
+        ("16 FFFFFFFF 00000080 FFFFFF7F", "00076  1  16 range     mask 0xFFFFFFFF  low -2147483648  high 2147483647"
+         f"  (term 5: choices {' '.join(map(str, range(32)))})"),
+        ("16 00000000 00000000 00000000", "00089  1  16 range     mask 0x00000000  low 0  high 0  (term 6: no choice)"),
+        ("1F", "00102  1  1F end"),
+        ("22 00 01", "00103  2  22 split     l 0  r 1  (term 0 = z0 z1: choices 0 1)"),
+        ("2F", "00106  2  2F end"),
+        ("40 05000000", "00107  4  40 plan      fed 0x00000005  (choices 0 2, terms 0 3 4 6 at high)"),
+        ("30 01000000 0000000000000000", "00112  3  30 scale     s 1  T 0  (bound 0)"),
+        ("3F", "00125  3  3F end"),
+        ("40 05000000", "00126  -  raw  40 05 00 00 00"),
+    ],
+    # a plan before the certificate that feeds no range and does not fit, and a range that is cut off
+    [
+        ("11 0300 6801", "00000  1  11 choice    tank 3  minute 360  (choice 0, 06:00)"),
+        ("14 0100 01" + 31 * "00", "00005  1  14 row       b 1  z0 1  (row 0: z0 = 1)"),
+        ("16 01000000 00000000 01000000", "00040  1  16 range     mask 0x00000001  low 0  high 1  (term 0: choices 0)"),
+        ("1F", "00053  1  1F end"),
+        ("40 00000000", "00054  4  40 plan      fed 0x00000000  (no choice, does not fit row 0)"),
+        ("16 01000000 00000000 010000", "00059  -  raw  16 01 00 00 00 00 00 00 00 01 00 00"),
+    ],
 ]
 
 NO_NUMBER = "is no number: decimal without zeros before it, 0x and hexadecimal, or 0b and binary"
@@ -162,6 +194,10 @@ NO_COMMANDS = [
     ("00005  1  14 row       b 2  z0", "z0 has no number"),
     ("00005  1  14 row       b 2  z32 1", "row has no operand z32"),
     ("00005  1  14 row       b 2  c 1", "row has no operand c"),
+    ("00015  1  16 range     mask 0x00000001  low -6", "high is missing"),
+    ("00015  1  16 range     mask 0x00000001  high 5", "low is missing"),
+    ("00015  1  16 range     mask 0x00000001  low -6  high", "high has no number"),
+    ("00015  1  16 range     mask 0x00000001  low -6  coefficient 5", "range has no operand coefficient"),
     ("00208  3  3B add       row 0  m 1", "i is missing"),
     ("00208  3  3B add       i 0  m 1", "row is missing"),
     ("00047  1  1F end       to 3", "end has no operand to"),
@@ -179,6 +215,8 @@ NO_COMMANDS = [
     ("00005  1  14 row       b 2  z0 -129", "z0 -129 is not within -128 and 127"),
     ("00005  1  14 row       b 32768  z0 1", "b 32768 is not within -32768 and 32767"),
     ("00005  1  12 term      mask 0x100000000  coefficient 1", "mask 0x100000000 is not within 0 and 4294967295"),
+    ("00015  1  16 range     mask 0x00000001  low -2147483649  high 5", "low -2147483649 is not within -2147483648 and 2147483647"),
+    ("00015  1  16 range     mask 0x00000001  low -6  high 2147483648", "high 2147483648 is not within -2147483648 and 2147483647"),
     ("00208  3  3B add       row -1  i 0  m 1", "row -1 is not within 0 and 255"),
     ("00208  3  3B add       row 256  i 0  m 1", "row 256 is not within 0 and 255"),
     ("-  3  30 scale  s 1  T 9223372036854775808", f"T {2 ** 63} is not within {-2 ** 63} and {2 ** 63 - 1}"),
@@ -242,9 +280,9 @@ ROW = bytes.fromhex("10 0A000000 11 0300 6801 11 0300 5802 11 0800 D002 14 0100 
 # and a choice that are cut off, a choice behind the plan, no bytes
 BLANK = [
     ("10 0A000000 18 DC05 13 0400 2805 A005 13 0700 0000 DC05 11 0400 2805 11 0800 DB05 14 0100 0101" + 30 * "00"
-     + "12 03000000 FDFFFFFF 1F 7E 11 0400 2705",
+     + "12 03000000 FDFFFFFF 16 04000000 01000000 02000000 1F 7E 11 0400 2705",
      "10 0A000000 18 DC05 13 0000 0000 0000 13 0000 0000 0000 11 0000 0000 11 0000 0000 14 0100 0101" + 30 * "00"
-     + "12 03000000 FDFFFFFF 1F 7E 11 0400 2705"),
+     + "12 03000000 FDFFFFFF 16 04000000 01000000 02000000 1F 7E 11 0400 2705"),
     ("11 0400 2705 13 0400 2805 A0", "11 0000 0000 13 0400 2805 A0"),
     ("11 0400 27", "11 0400 27"),
     ("40 03000000 11 0400 2705", "40 03000000 11 0400 2705"),
@@ -252,7 +290,8 @@ BLANK = [
 ]
 
 # bytes, and their parts as far as these have an end: the shortest ones, with nothing behind them and with bytes that are no plan, parts
-# in another order, an end too many, and an end cut off by a command that is none
+# in another order, an end too many, and an end cut off by a command that is none; and with a range, where part 4 stands before part 3
+RANGE, IN_LETTERS = "16 01000000 00000000 01000000", "16 01 00 00 00 00 00 00 00 01 00 00 00"
 CUT = [
     ("1F 2F 3F", ["1f", "2f", "3f", ""]),
     ("1F 2F 3F 7E 1F 2F", ["1f", "2f", "3f", "7e 1f 2f"]),
@@ -261,6 +300,12 @@ CUT = [
     ("1F 1F 2F 3F", ["1f"]),
     ("1F 2F 7E 3F", ["1f", "2f"]),
     ("1F 2F 40 00000000 3F", ["1f", "2f"]),
+    (f"{RANGE} 1F 2F 40 00000000 3F", [f"{IN_LETTERS} 1f", "2f", "40 00 00 00 00", "3f"]),
+    (f"{RANGE} 1F 2F 40 00000000 3F 7E", [f"{IN_LETTERS} 1f", "2f", "40 00 00 00 00", "3f 7e"]),
+    (f"{RANGE} 1F 2F 40 00000000", [f"{IN_LETTERS} 1f", "2f", "40 00 00 00 00", ""]),
+    (f"{RANGE} 1F 2F 40 000000", [f"{IN_LETTERS} 1f", "2f"]),
+    (f"{RANGE} 1F 2F 3F 40 00000000", [f"{IN_LETTERS} 1f", "2f"]),
+    (f"1F {RANGE} 2F 3F 40 00000000", ["1f"]),
     ("2F 3F", []),
     ("", []),
 ]
@@ -275,7 +320,7 @@ def damaged(job):
     for at in range(len(job)):
         yield job[:at]
         yield job[:at] + job[at + 1:]
-        for byte in (0x00, 0x11, 0x13, 0x14, 0x18, 0x3B, 0x3F, 0xFF):
+        for byte in (0x00, 0x11, 0x13, 0x14, 0x16, 0x18, 0x3B, 0x3F, 0x40, 0xFF):
             yield job[:at] + bytes([byte]) + job[at + 1:]
 
 
@@ -284,22 +329,22 @@ TEXTS = [b"-", b"# a register\n", b"\n\n  00000  1  10 base  cost 0\r\n", b"\xEF
 NO_TEXTS = [b"", b"\n", b"\x10", b"~", b"R 1 0\n", b"- \x00", b"- \xFF", b"-\x1F", WRITTEN.encode("utf-16")]
 
 
-def are_parts(parts):
+def are_parts(parts, order):
     """Whether each of the first three has commands of its part only, and the end of the part once, as its last command."""
-    for number, (part, end) in enumerate(zip(parts, ENDS), 1):
+    for number, part in list(zip(order, parts))[:3]:
         run_of_commands = [byte for _, byte in commands(part)]
-        if run_of_commands.index(end) != len(run_of_commands) - 1 or {COMMANDS[byte][0] for byte in run_of_commands} != {number}:
+        if run_of_commands.index(ENDS[number]) != len(run_of_commands) - 1 or {COMMANDS[byte][0] for byte in run_of_commands} != {number}:
             return False
     return True
 
 
-def said_alike(lines, number, part):
+def said_alike(lines, number, part, is_last):
     """Whether the lines of part 2, 3 or 4 apart from its register say nothing that the job's lines do not say of the same commands, but
     that the operands of products that are not known are `z_l` and `z_r`."""
     apart = show(part)
     if number == 1 or not apart or apart[0].split()[1] != str(number):
         return True
-    whole = lines[-len(apart):] if number == 4 else [line for line in lines if line.split()[1] == str(number)]
+    whole = lines[-len(apart):] if is_last else [line for line in lines if line.split()[1] == str(number)]
     for own, other in zip(apart, whole, strict=True):
         said = re.sub(r"z_[lr]", "z[0-9]+", re.escape(own.split("  (")[1][:-1])) if "  (" in own else ""
         if own[5:].split("  (")[0] != other[5:].split("  (")[0] or not re.search(said, other):
@@ -326,11 +371,12 @@ def main(folders):
         trials.append((f"not the same bytes: {name}", make(lines) == job))
         left = [re.sub(r"  (tank|minute|from|to) \d+", r"  \1 0", line) for line in operands_of(lines)]
         trials.append((f"not blank, or something else is: {name}", operands_of(show(blank(job))) == left))
-        parts = cut(job)
+        parts, order = cut(job), order_of(job)
         if len(parts) == 4 and "damaged" not in name:
-            trials.append((f"not so in the whole job: {name}", all(said_alike(lines, *it) for it in enumerate(parts, 1))))
+            alike = all(said_alike(lines, *it, it[0] == order[-1]) for it in zip(order, parts))
+            trials.append((f"not so in the whole job: {name}", alike))
         if len(parts) == 4:
-            trials.append((f"not the job, or not its parts: {name}", b"".join(parts) == job and are_parts(parts)))
+            trials.append((f"not the job, or not its parts: {name}", b"".join(parts) == job and are_parts(parts, order)))
     trials += [(f"not what is left: {job}", blank(bytes.fromhex(job)) == bytes.fromhex(left)) for job, left in BLANK]
     for shown in SHOWN:
         lines = show(bytes.fromhex("".join(part for part, _ in shown)))

@@ -2,8 +2,9 @@
 """Tries the bound in the relaxation, request R-8, in whole numbers. F is s times g with the null forms and row forms of a certificate,
 each m times, without its subtracted forms, its squares and T. A point is a whole number D of at least 1 and for each variable i a whole
 number y_i from 0 to D, with y_k <= y_l, y_k <= y_r and y_k >= y_l + y_r - D for each product k of l and r. At every point F, constants
-times D^2, linear terms times D, products and squares as they are, must be at least T * D^2. At a plan that fits (D = 1) it must be s
-times the cost. The first ten failures are printed, a value below the bound with D, y, both numbers and the job's bytes.
+times D^2, linear terms times D, products and squares as they are, must be at least T * D^2. At a plan that fits (D = 1) it must be s times
+the cost. With ranges all this is said of the coefficients that count beside the job's plan. The first ten failures are printed, a value
+below the bound with D, y, both numbers and the job's bytes.
 
 The certificates are those of the accepted jobs in `examples` and in the folders given, and others made at random for their registers
 and schemes, finished as tools/finish_certificate.py does it; accepted and refused are as tools/check_job.py answers. The points are
@@ -51,11 +52,12 @@ FORMS = {
     0x39: [(1, ""), (-1, "i")],
 }
 
-# statements that are wrong: three about the numbers at a point, two about plans, those that leave out a condition, which are tried with
+# statements that are wrong: four about the numbers at a point, two about plans, those that leave out a condition, which are tried with
 # certificates that have its command, and those of a check that adds what a command is to subtract
 LINEAR = "with linear terms times D^2"
 ROUNDED = "with s times T/s rounded up in place of T"
 MORE = "with T + 1 in place of T"
+LOW = "with the low coefficient of each range, also where the plan feeds its choices"
 ROWLESS = "without row forms"
 UNFIT = "with s times the cost at plans that do not fit too"
 LEFT_OUT = {
@@ -66,7 +68,7 @@ LEFT_OUT = {
     0x39: "without y_i <= D",
 }
 TURNED = {0x35: "with `35` added by the check", 0x36: "with `36` added by the check"}
-WRONG = [LINEAR, ROUNDED, MORE, ROWLESS, UNFIT, *LEFT_OUT.values(), *TURNED.values()]
+WRONG = [LINEAR, ROUNDED, MORE, LOW, ROWLESS, UNFIT, *LEFT_OUT.values(), *TURNED.values()]
 
 
 def places(*variables):
@@ -101,12 +103,14 @@ class Certificate:
             self.front = next(job[:at] for at, byte in commands(job) if byte == 0x30)
             self.commands = [(byte, operands(job, at)) for at, byte in commands(job) if byte in (*ADDED, *SUBTRACTED, SQUARE)]
             self.multipliers = [(byte, v) for byte, v in self.commands if byte != SQUARE]
-            self.terms = {monomial: c for monomial, c in self.polynomial().items() if c}
+            self.terms = {monomial: c for monomial, c in self.polynomial(check.coefficients()).items() if c}
+            self.lows = self.polynomial(check.lows())
 
-    def polynomial(self):
+    def polynomial(self, coefficients):
+        """F with such coefficients of the register's terms."""
         read = self.read
         terms = Counter({places(): read.s * read.base})
-        for (l, r), (_, coefficient) in zip(read.splits, read.terms):
+        for (l, r), coefficient in zip(read.splits, coefficients):
             terms[places(*{l, r})] += read.s * coefficient
         for byte, v in self.multipliers:
             if byte in ADDED:
@@ -122,6 +126,10 @@ class Certificate:
         """F at a point, which has D at place 0: constants are times D^2, linear terms times D, products and squares as they are."""
         return sum(c * point[p] * point[q] for (p, q), c in self.terms.items())
 
+    def low_value(self, point):
+        """The same with the low coefficient of each range."""
+        return sum(c * point[p] * point[q] for (p, q), c in self.lows.items())
+
     def linear(self, point):
         return sum(c * point[q] for (p, q), c in self.terms.items() if p == 0 < q)
 
@@ -131,7 +139,8 @@ class Certificate:
     def with_other(self, scale, target, others):
         """The bytes of a job with another certificate for the same register, scheme and plan."""
         front = self.front + encode(0x30, {"s": scale, "T": target})
-        return front + b"".join(encode(byte, v) for byte, v in others) + b"\x3F" + encode(0x40, {"fed": self.read.fed})
+        plan = b"" if self.read.ranged else encode(0x40, {"fed": self.read.fed})
+        return front + b"".join(encode(byte, v) for byte, v in others) + b"\x3F" + plan
 
     def is_refused_with_more(self):
         more = Job(self.with_other(self.read.s, self.read.T + 1, self.commands))
@@ -334,7 +343,7 @@ def made(alike, allowed, number, chance):
         multipliers = mixed(alike, scale, chance)
     else:
         scale = chance.choice((100, 9_973, 100_000))
-        multipliers = allowed.valley(min(10 ** 11, 100 * scale * sum(abs(c) for _, c in one.read.terms)), chance)
+        multipliers = allowed.valley(min(10 ** 11, 100 * scale * sum(map(abs, one.read.coefficients()))), chance)
     try:
         job, _ = finish(one.with_other(scale, 0, held(multipliers)))
     except Unfinished:
@@ -394,6 +403,7 @@ class Trial:
         self.refute(LINEAR, certificate, point, value + (square - point[0]) * certificate.linear(point), least)
         self.refute(ROUNDED, certificate, point, value, read.s * -(-read.T // read.s) * square)
         self.refute(MORE, certificate, point, value, (read.T + 1) * square)
+        self.refute(LOW, certificate, point, certificate.low_value(point), least)
 
     def plans(self, certificate, most):
         """Plans, all of a register with at most so many choices, else some, at D = 1."""
@@ -402,7 +412,7 @@ class Trial:
         for plan in every if len(read.choices) <= most else [read.fed, *self.chance.sample(every, 16)]:
             point = filling(read, plan, 1)
             self.judge(certificate, point)
-            value, cost = certificate.value(point), read.s * read.cost(plan)
+            value, cost = certificate.value(point), read.s * read.total(plan, read.coefficients())
             if read.fits(plan):
                 self.expect(value == cost, f"{certificate.name}: plan {plan:b}, {value} is not s times the cost, {cost}")
             else:

@@ -17,7 +17,7 @@ sys.dont_write_bytecode = True
 
 from check_job import Job, both, farm, rest, supplier, text
 from command_line import expect, run, tally
-from job_text import PARTS, TEXT, blank, cut, show
+from job_text import PARTS, TEXT, blank, cut, order_of, show
 
 ROOT = pathlib.Path(__file__).resolve().parent.parent
 EXAMPLES = ROOT / "examples"
@@ -54,7 +54,8 @@ def is_plan(register, plan, said):
     """Whether the bytes of a plan feed what the lines of a search say, at the cost that they say."""
     read, fed = Job(register), int.from_bytes(plan[1:], "little")
     read.register()
-    return len(plan) == 5 and plan[0] == 0x40 and read.feedings(fed) == said[:-1] and read.cost(fed) == int(said[-1].split()[1])
+    cost = read.total(fed, read.lows())
+    return len(plan) == 5 and plan[0] == 0x40 and read.feedings(fed) == said[:-1] and cost == int(said[-1].split()[1])
 
 
 class Trials:
@@ -129,27 +130,30 @@ class Trials:
         self.misuse(JOB_TEXT, "FILE is missing", "cut")
         self.misuse(JOB_TEXT, "NAME is missing", "cut", EXAMPLE)
         self.misuse(JOB_TEXT, "c is a word too many", "cut", "a", "b", "c")
-        names = [f"{self.folder}/cut.{part}" for part in PARTS]
         for path in sorted(EXAMPLES.glob("*.job")):
             job = path.read_bytes()
+            names = [f"{self.folder}/cut.{PARTS[part]}" for part in order_of(job)]
             if len(cut(job)) == len(PARTS):
                 self.call([JOB_TEXT, "cut", str(path), f"{self.folder}/cut"], 0)
                 self.expect(f"not the job: {path.name}", b"".join(bytes_in(name) for name in names) == job)
                 self.expect(f"not part 1: {path.name}", bytes_in(names[0]) == cut(job)[0])
+                plan, certificate = (bytes_in(f"{self.folder}/cut.{part}")[:1] for part in ("plan", "certificate"))
+                self.expect(f"not parts 4 and 3: {path.name}", plan == b"\x40" and certificate == b"\x30")
                 for name in names:
                     os.remove(name)
             else:
-                said = f"{path}: part {len(cut(job)) + 1} has no end"
+                said = f"{path}: part {order_of(job)[len(cut(job))]} has no end"
                 self.call([JOB_TEXT, "cut", str(path), f"{self.folder}/cut"], 2, said=said)
                 self.expect(f"a file was written: {path.name}", not any(map(os.path.exists, names)))
-        for file, part in ((REGISTER, 2), ("examples/example.bad-more.register", 2), ("examples/example.out", 1)):
+        behind = "examples/prices.quoted.bad-behind.job"
+        for file, part in ((REGISTER, 2), ("examples/example.bad-more.register", 2), ("examples/example.out", 1), (behind, 4)):
             self.call([JOB_TEXT, "cut", file, f"{self.folder}/cut"], 2, said=f"{file}: part {part} has no end")
         self.call([JOB_TEXT, "cut", self.lines, f"{self.folder}/cut"], 2, said=f"{self.lines}: {TEXT}")
         self.expect("a file was written", not any(map(os.path.exists, names)))
         self.call([JOB_TEXT, "cut", EXAMPLE, f"{self.folder}/no/cut"], 2, said=f"{self.folder}/no/cut.register: {MISSING}")
         for name, said in (("", "is empty"), (f"{self.folder}/", f"ends with /: {self.folder}/")):
             self.misuse(JOB_TEXT, f"NAME is to be what the names of four files begin with, and {said}", "cut", EXAMPLE, name)
-        hidden = [path for folder in (ROOT, pathlib.Path(self.folder)) for path in folder.iterdir() if path.name[1:] in PARTS]
+        hidden = [path for folder in (ROOT, pathlib.Path(self.folder)) for path in folder.iterdir() if path.name[1:] in PARTS.values()]
         self.expect(f"files were written: {hidden}", not hidden)
 
     def plan(self):
@@ -165,7 +169,8 @@ class Trials:
         for path in sorted(EXAMPLES.glob("*.out")):
             job = path.with_suffix(".job")
             if not path.read_bytes().startswith(b"R"):
-                self.call([JOB_TEXT, "plan", str(job), str(path)], 0, cut(job.read_bytes())[3])
+                parts = dict(zip(order_of(job.read_bytes()), cut(job.read_bytes())))
+                self.call([JOB_TEXT, "plan", str(job), str(path)], 0, parts[4])
         for path in sorted(EXAMPLES.glob("*.cheapest")):
             register, said = path.with_suffix(".register"), path.read_text().splitlines()
             if not said[0].startswith("R"):
@@ -251,6 +256,8 @@ class Trials:
         self.call([CHEAPEST, "--limit", "8", REGISTER], 1, b"R 14 0\n")
         self.call([CHEAPEST, EXAMPLE], 1, b"R 12 48\n")
         self.call([CHEAPEST, NONE_FITS], 1, b"R 16 0\n")
+        ranged = b"F 2 360\nF 2 720\nF 5 360\nF 5 720\nF 9 1080\nS 46 65\n"
+        self.call([CHEAPEST, "examples/prices.quoted.register"], 0, ranged)
         self.call([CHEAPEST, self.lines], 1, b"R 1 0\n", said=f"{self.lines}: {TEXT}")
         self.compare(CHEAPEST, "example.register", "example.cheapest")
 

@@ -4,6 +4,7 @@ use crate::generate;
 use crate::random::Random;
 use crate::timing::{self, Parts};
 use reference::certificate::{self, Certificate, Square, ENTRIES, MAX_SQUARES};
+use reference::plan::FEEDS_NONE;
 use reference::register::{self, Choice, Register, Term, MAX_CHOICES, USUAL_DAY};
 use reference::scheme::{self, Scheme, MAX_PRODUCTS};
 
@@ -27,7 +28,7 @@ pub fn inputs() -> Vec<Parts> {
     for _ in 0..INPUTS {
         let squares = (0..MAX_SQUARES).map(|_| square(&mut random)).collect();
         let mut certificate = Certificate { scale: 1, target: 0, multipliers: Vec::new(), squares, end: 0 };
-        generate::repair(&register, &scheme, &mut certificate);
+        generate::repair(&register, &scheme, FEEDS_NONE, &mut certificate);
         inputs.push([generate::register_commands(&register).concat(), scheme.bytes(), certificate.bytes()]);
     }
     inputs.iter().for_each(assert_full);
@@ -45,7 +46,7 @@ fn register_and_scheme(random: &mut Random) -> (Register, Scheme) {
     let mut sets: Vec<(u32, usize)> = scheme.sets.iter().copied().zip(0..).collect();
     sets.sort();
     scheme.splits = sets.iter().map(|&(_, variable)| (variable, variable)).collect();
-    let mut term = |mask| Term { mask, coefficient: random.within(1, 1_000_000) as i32, position: 0 };
+    let mut term = |mask| Term::known(mask, random.within(1, 1_000_000) as i32);
     let register = Register {
         base: 0,
         day_length: USUAL_DAY,

@@ -3,18 +3,20 @@
 use crate::random::Random;
 use reference::certificate::{self, Certificate, Multiplier, Square};
 use reference::register::{
-    Choice, Register, Row, Term, Window, DAY_LENGTHS, LONG_DAY, MAX_CHOICES, MAX_ROWS, MAX_ROW_TOTAL, MAX_TERMS, MAX_WINDOWS,
-    SHORT_DAY, USUAL_DAY,
+    Choice, Register, Row, Term, Window, DAY_LENGTHS, LONG_DAY, MAX_CHOICES, MAX_COEFFICIENT, MAX_ROWS, MAX_ROW_TOTAL, MAX_TERMS,
+    MAX_WINDOWS, SHORT_DAY, USUAL_DAY,
 };
 use reference::scheme::{Scheme, MAX_PRODUCTS};
-use reference::{builder, plain};
+use reference::{builder, plain, plan as plans};
 use std::collections::{BTreeMap, BTreeSet};
 
-/// The bytes of the four parts, each by itself, and those of a job.
+/// The bytes of the four parts, each by itself, those of a job, and those that the check and the plain certificate are lent as
+/// part 4.
 #[derive(Clone, Default)]
 pub struct Input {
     pub parts: [Vec<u8>; 4],
     pub job: Vec<u8>,
+    pub beside: Vec<u8>,
 }
 
 /// The commands of the four parts before they are damaged, with the counts of choices and variables.
@@ -38,6 +40,9 @@ pub fn input(random: &mut Random, seeds: &[Whole]) -> Input {
         let mut whole = seeds[random.below(seeds.len())].clone();
         if random.chance(20) {
             add_rows(random, &mut whole);
+        }
+        if random.chance(20) {
+            add_ranges(random, &mut whole);
         }
         whole
     } else {
@@ -73,7 +78,11 @@ pub fn whole(random: &mut Random, size: Size) -> Whole {
     register.windows = windows(random, &register);
     let plan = random.next() as u32 & register.all();
     register.rows = rows(random, register.choices.len(), plan);
-    let certificate = any_certificate(random, size, &register, &scheme);
+    ranges(random, &mut register);
+    // Now and then the certificate is one for another plan.
+    let (all, any) = (register.all(), random.next() as u32 & register.all());
+    let beside = if random.chance(6) { random.pick(&[plans::FEEDS_NONE, all, any]) } else { plan };
+    let certificate = any_certificate(random, size, &register, &scheme, beside);
     Whole {
         choices: register.choices.len(),
         variables: scheme.variables(),
@@ -86,19 +95,24 @@ pub fn whole(random: &mut Random, size: Size) -> Whole {
     }
 }
 
-/// The commands of a job whose first three parts can be read, to be damaged; `None` for any other.
+/// The commands of a job whose register, scheme and certificate can be read, and its plan where it stands before the certificate,
+/// to be damaged; `None` for any other.
 pub fn seed(job: &[u8]) -> Option<Whole> {
     let (register, at) = reference::register::read(job).ok()?;
     let rest = &job[at..];
     let (scheme, at) = reference::scheme::read(&register, rest).ok()?;
     let rest = &rest[at..];
-    let (certificate, at) = certificate::read(&register, &scheme, rest).ok()?;
-    let plan = rest[at..].to_vec();
-    let certificate = in_order(&certificate);
+    let (certificate, plan) = if register.has_range() {
+        let (_, at) = plans::read(&register, rest).ok()?;
+        (certificate::read(&register, &scheme, &rest[at..]).ok()?.0, &rest[..at])
+    } else {
+        let (certificate, at) = certificate::read(&register, &scheme, rest).ok()?;
+        (certificate, &rest[at..])
+    };
     Some(Whole {
         choices: register.choices.len(),
         variables: scheme.variables(),
-        parts: [register_commands(&register), scheme_commands(&scheme), certificate, vec![plan]],
+        parts: [register_commands(&register), scheme_commands(&scheme), in_order(&certificate), vec![plan.to_vec()]],
     })
 }
 
@@ -289,18 +303,80 @@ fn coefficients(random: &mut Random, masks: &[u32]) -> Vec<i32> {
     masks.iter().copied().map(of_mask).collect()
 }
 
+/// Makes terms known within ranges: in half of the registers none, else all, some, or one.
+fn ranges(random: &mut Random, register: &mut Register) {
+    let percent = match random.below(10) {
+        0..=4 => return,
+        5 => 100,
+        6 => 0,
+        _ => random.pick(&[10, 50, 80]),
+    };
+    let one = random.below(register.terms.len().max(1));
+    // The lows stay as they were, mostly, so that a search meets what `coefficients` made for it.
+    let lows_stay = random.chance(60);
+    for (t, term) in register.terms.iter_mut().enumerate() {
+        if t == one || random.chance(percent) {
+            let (low, high) = if lows_stay { range_from(random, term.low) } else { range_about(random, term.low) };
+            *term = Term { low, high, ranged: true, ..*term };
+        }
+    }
+}
+
+/// A range that begins with the coefficient: one number, two, up to 0, up to the limit, or up to any.
+fn range_from(random: &mut Random, low: i32) -> (i32, i32) {
+    let limit = MAX_COEFFICIENT as i32;
+    let any = random.within(low as i64, limit as i64) as i32;
+    (low, random.pick(&[low, low, (low + 1).min(limit), low.max(0), low.abs(), limit, any, any]))
+}
+
+/// A range that begins or ends with the coefficient or its negative, begins or ends at 0, or is 0 alone.
+fn range_about(random: &mut Random, coefficient: i32) -> (i32, i32) {
+    let limit = MAX_COEFFICIENT as i32;
+    let size = coefficient.abs();
+    let below = random.within(-limit as i64, coefficient as i64) as i32;
+    random.pick(&[
+        (coefficient, coefficient),
+        ((coefficient - 1).max(-limit), coefficient),
+        (below, coefficient),
+        (-limit, coefficient),
+        (-limit, limit),
+        (-size, size),
+        (0, size),
+        (-size, 0),
+        (0, 0),
+    ])
+}
+
+/// Ranges in place of some coefficients of a job.
+fn add_ranges(random: &mut Random, whole: &mut Whole) {
+    let commands = &mut whole.parts[0];
+    for at in places(commands, 0x12) {
+        if random.chance(50) {
+            with_range(random, &mut commands[at]);
+        }
+    }
+}
+
+/// Makes a `16` of a `12`.
+fn with_range(random: &mut Random, command: &mut Vec<u8>) {
+    let [mask, low] = [1, 5].map(|at| i32::from_le_bytes(command[at..at + 4].try_into().unwrap()));
+    let limit = MAX_COEFFICIENT as i32;
+    let (low, high) = if low.unsigned_abs() <= MAX_COEFFICIENT { range_from(random, low) } else { (low, limit) };
+    *command = term_command(&Term { mask: mask as u32, low, high, ranged: true, position: 0 });
+}
+
 fn base(random: &mut Random) -> i32 {
     let any = random.within(-1_000_000, 1_000_000) as i32;
     random.pick(&[0, 10, -10, 1_000_000_000, -1_000_000_000, any])
 }
 
-/// A register of masks, each once, in any order; on a day of the usual length, without windows or rows.
+/// A register of masks, each once, in any order; on a day of the usual length, without windows, rows or ranges.
 fn register_of(random: &mut Random, choice_count: usize, mut masks: Vec<u32>) -> Register {
     masks.sort();
     masks.dedup();
     masks.truncate(MAX_TERMS);
     let coefficients = coefficients(random, &masks);
-    let term = |(mask, coefficient)| Term { mask, coefficient, position: 0 };
+    let term = |(mask, coefficient)| Term::known(mask, coefficient);
     Register {
         base: base(random),
         day_length: USUAL_DAY,
@@ -393,16 +469,16 @@ pub fn products_first(random: &mut Random, size: Size) -> (Register, Scheme) {
     (register, scheme)
 }
 
-// Certificates.
+// Certificates, beside a plan.
 
-fn any_certificate(random: &mut Random, size: Size, register: &Register, scheme: &Scheme) -> Certificate {
+fn any_certificate(random: &mut Random, size: Size, register: &Register, scheme: &Scheme, plan: u32) -> Certificate {
     if scheme.splits.len() < register.terms.len() {
         return Certificate { scale: 1, target: 0, multipliers: Vec::new(), squares: Vec::new(), end: 0 };
     }
     match random.below(10) {
-        0 => plain::certificate(register, scheme),
+        0 => plain::certificate(register, scheme, plan),
         1 => {
-            let mut certificate = plain::certificate(register, scheme);
+            let mut certificate = plain::certificate(register, scheme, plan);
             certificate.target += random.within(-2, 2);
             certificate
         }
@@ -410,7 +486,7 @@ fn any_certificate(random: &mut Random, size: Size, register: &Register, scheme:
         3 => random_certificate(random, size, register, scheme, false),
         _ => {
             let mut certificate = random_certificate(random, size, register, scheme, true);
-            repair(register, scheme, &mut certificate);
+            repair(register, scheme, plan, &mut certificate);
             match random.below(4) {
                 0 => certificate.target += random.within(1, 3),
                 1 => certificate.target = (certificate.target - random.within(0, 1_000_000_000)).max(-certificate::MAX_TARGET),
@@ -510,11 +586,11 @@ fn square(random: &mut Random, variables: usize, reach: i64) -> Square {
 }
 
 /// Adds `31` commands that make each row but row 0 dominant, then takes the largest target that row 0 carries.
-pub fn repair(register: &Register, scheme: &Scheme, certificate: &mut Certificate) {
+pub fn repair(register: &Register, scheme: &Scheme, plan: u32, certificate: &mut Certificate) {
     let missing = |table: &reference::table::Table, i: usize| -> i64 {
         (0..table.side).filter(|&j| j != i).map(|j| table.at(i, j).abs()).sum::<i64>() - table.at(i, i)
     };
-    let table = certificate::residual(register, scheme, certificate);
+    let table = certificate::residual(register, scheme, plan, certificate);
     for i in 0..scheme.variables() {
         let m = missing(&table, i + 1);
         if m > 0 {
@@ -522,7 +598,7 @@ pub fn repair(register: &Register, scheme: &Scheme, certificate: &mut Certificat
             certificate.multipliers.push(Multiplier { kind: 0x31, names: [i, 0, 0, 0], m: m.min(certificate::MAX_MULTIPLIER) });
         }
     }
-    let table = certificate::residual(register, scheme, certificate);
+    let table = certificate::residual(register, scheme, plan, certificate);
     let lower = missing(&table, 0);
     let target = certificate.target - (lower.div_euclid(2) + lower.rem_euclid(2));
     certificate.target = target.clamp(-certificate::MAX_TARGET, certificate::MAX_TARGET);
@@ -575,9 +651,7 @@ pub fn register_commands(register: &Register) -> Vec<Vec<u8>> {
         commands.push(choice_command(choice));
     }
     commands.extend(register.rows.iter().map(row_command));
-    for term in &register.terms {
-        commands.push(command(0x12, &[&term.mask.to_le_bytes(), &term.coefficient.to_le_bytes()]));
-    }
+    commands.extend(register.terms.iter().map(term_command));
     commands.push(vec![0x1F]);
     commands
 }
@@ -596,6 +670,15 @@ fn window_command(window: &Window) -> Vec<u8> {
 
 fn row_command(row: &Row) -> Vec<u8> {
     command(0x14, &[&row.total.to_le_bytes(), &row.entries.map(|entry| entry as u8)])
+}
+
+fn term_command(term: &Term) -> Vec<u8> {
+    let [mask, low, high] = [term.mask.to_le_bytes(), term.low.to_le_bytes(), term.high.to_le_bytes()];
+    if term.ranged {
+        command(0x16, &[&mask, &low, &high])
+    } else {
+        command(0x12, &[&mask, &low])
+    }
 }
 
 pub fn scheme_commands(scheme: &Scheme) -> Vec<Vec<u8>> {
@@ -642,6 +725,7 @@ fn widths(byte: u8) -> Vec<usize> {
         0x12 => vec![4, 4],
         0x13 => vec![2, 2, 2],
         0x14 => [vec![2], vec![1; MAX_CHOICES]].concat(),
+        0x16 => vec![4, 4, 4],
         0x18 => vec![2],
         0x21 | 0x22 => vec![1, 1],
         0x30 => vec![4, 8],
@@ -654,9 +738,9 @@ fn widths(byte: u8) -> Vec<usize> {
     }
 }
 
-const COMMANDS: [u8; 25] = [
-    0x10, 0x11, 0x12, 0x13, 0x14, 0x18, 0x1F, 0x21, 0x22, 0x2F, 0x30, 0x31, 0x32, 0x33, 0x34, 0x35, 0x36, 0x37, 0x38, 0x39, 0x3A,
-    0x3B, 0x3F, 0x40, 0x00,
+const COMMANDS: [u8; 26] = [
+    0x10, 0x11, 0x12, 0x13, 0x14, 0x16, 0x18, 0x1F, 0x21, 0x22, 0x2F, 0x30, 0x31, 0x32, 0x33, 0x34, 0x35, 0x36, 0x37, 0x38, 0x39,
+    0x3A, 0x3B, 0x3F, 0x40, 0x00,
 ];
 
 // Damage.
@@ -672,20 +756,48 @@ fn damaged(random: &mut Random, mut whole: Whole) -> Input {
     for (bytes, commands) in input.parts.iter_mut().zip(&whole.parts) {
         *bytes = commands.concat();
     }
-    input.job = input.parts.concat();
+    // Where there is a range, a job has its plan before its certificate; now and then the order is the other one.
+    let plan_first = whole.parts[0].iter().any(|command| command[0] == 0x16) != random.chance(5);
     if random.chance(20) {
         let part = random.below(4);
         damage_bytes(random, &mut input.parts[part]);
-        input.job = input.parts.concat();
     }
+    input.job = in_job_order(&input.parts, plan_first).concat();
     if random.chance(15) {
         damage_bytes(random, &mut input.job);
     }
     // A job that stops where a part would begin.
     if random.chance(2) {
-        input.job = input.parts[..random.below(4)].concat();
+        input.job = in_job_order(&input.parts, plan_first)[..random.below(4)].concat();
     }
+    input.beside = plan_beside(random, &input.parts, whole.choices);
     input
+}
+
+fn in_job_order(parts: &[Vec<u8>; 4], plan_first: bool) -> [&[u8]; 4] {
+    let [register, scheme, certificate, plan] = parts.each_ref().map(|part| &part[..]);
+    if plan_first {
+        [register, scheme, plan, certificate]
+    } else {
+        [register, scheme, certificate, plan]
+    }
+}
+
+/// What the check and the plain certificate are lent as part 4: mostly the plan, else another, none, one with bytes behind it, one
+/// that is damaged, or the certificate.
+fn plan_beside(random: &mut Random, parts: &[Vec<u8>; 4], n: usize) -> Vec<u8> {
+    let [_, _, certificate, plan] = parts;
+    let mut plan = plan.clone();
+    match random.below(20) {
+        0 => plan.clear(),
+        1 | 2 => damage_plan(random, &mut plan, n),
+        3 if random.chance(50) => plan.extend(certificate),
+        3 => plan.push(random.next() as u8),
+        4 => damage_bytes(random, &mut plan),
+        5 if random.chance(30) => plan = certificate.clone(),
+        _ => {}
+    }
+    plan
 }
 
 /// Changes the commands of a part in one way.
@@ -697,8 +809,10 @@ fn damage_commands(random: &mut Random, whole: &mut Whole, part: usize) {
         return;
     }
     let percent = if rows > 0 { 35 } else { 4 };
+    let ranged = !places(commands, 0x16).is_empty();
     match part {
         0 if random.chance(percent) => return damage_rows(random, commands, n),
+        0 if random.chance(if ranged { 40 } else { 5 }) => return damage_ranges(random, commands, n),
         2 if random.chance(percent) => return damage_row_forms(random, commands, rows, all),
         3 if random.chance(40) => return damage_plan(random, &mut commands[0], n),
         _ => {}
@@ -774,7 +888,7 @@ fn damage_commands(random: &mut Random, whole: &mut Whole, part: usize) {
             let length = length_of(commands);
             match more[0] {
                 0x11 => more[3..5].copy_from_slice(&(length - 1).to_le_bytes()),
-                0x12 => more[1..5].copy_from_slice(&(((1u64 << n) - 1) as u32).to_le_bytes()),
+                0x12 | 0x16 if more.len() > 4 => more[1..5].copy_from_slice(&(((1u64 << n) - 1) as u32).to_le_bytes()),
                 0x13 => more = window_command(&Window { tank: 9_999, from: length - 1, to: length }),
                 0x21 => more[1..3].copy_from_slice(&[random.below(all) as u8, all as u8 - 1]),
                 _ => {}
@@ -1016,6 +1130,112 @@ fn wrong_row(random: &mut Random, row: &mut [u8], n: usize) {
             let any = random.next() as i16;
             let total = random.pick(&[near, near, near, i16::MAX, i16::MIN, near.swap_bytes(), any]);
             row[1..3].copy_from_slice(&total.to_le_bytes());
+        }
+    }
+}
+
+/// Changes a range, makes one where there was none or the reverse, or puts one elsewhere, in one way.
+fn damage_ranges(random: &mut Random, commands: &mut Vec<Vec<u8>>, n: usize) {
+    let (known, ranged) = (places(commands, 0x12), places(commands, 0x16));
+    let all = u32::MAX >> (MAX_CHOICES - n);
+    let any = random.next() as u32 & all;
+    let about = coefficient(random);
+    let (low, high) = range_about(random, about);
+    let mut fresh = Term { mask: random.pick(&[1, all, any]), low, high, ranged: true, position: 0 };
+    let term_end = commands.iter().rposition(|command| matches!(command[0], 0x11..=0x16)).map_or(0, |at| at + 1);
+    let Some(&at) = ranged.get(random.below(ranged.len().max(1))) else {
+        // No range yet: one in place of a coefficient, or one more.
+        match known.get(random.below(known.len().max(1))) {
+            Some(&at) if random.chance(60) => with_range(random, &mut commands[at]),
+            _ => {
+                let anywhere = random.below(commands.len() + 1);
+                commands.insert(random.pick(&[anywhere, term_end, term_end]), term_command(&fresh));
+            }
+        }
+        return;
+    };
+    let kind = random.pick(&[0x10, 0x11, 0x12, 0x13, 0x14, 0x18, 0x1F]);
+    match random.below(18) {
+        // One thing wrong, or up to three.
+        0..=4 => wrong_range(random, &mut commands[at], n),
+        // Low and high exchanged; the high one below the low, at it, or one above.
+        5 | 6 => commands[at][5..].rotate_left(4),
+        7 => {
+            let low = i32::from_le_bytes(commands[at][5..9].try_into().unwrap());
+            let high = low.wrapping_add(random.pick(&[-1, 0, 1]));
+            commands[at][9..].copy_from_slice(&high.to_le_bytes());
+        }
+        // A coefficient in its place, or in place of each range; a range in place of a coefficient.
+        8 => known_again(&mut commands[at]),
+        9 => ranged.iter().for_each(|&at| known_again(&mut commands[at])),
+        10 => {
+            if let Some(&at) = known.get(random.below(known.len().max(1))) {
+                with_range(random, &mut commands[at]);
+            }
+        }
+        // A term of the same mask, of either kind, before it or after it.
+        11 => {
+            let mut again = commands[at].clone();
+            if random.chance(50) {
+                known_again(&mut again);
+            }
+            commands.insert(at + random.below(2), again);
+        }
+        // Exchanged with another term.
+        12 => {
+            let terms = [known, ranged].concat();
+            commands.swap(at, random.pick(&terms));
+        }
+        // One more, or this one, first, after the last command of a kind, or anywhere. At times it is cut off there.
+        13 | 14 => {
+            let range = if random.chance(50) { commands.remove(at) } else { term_command(&fresh) };
+            let anywhere = random.below(commands.len() + 1);
+            let after = commands.iter().rposition(|command| command[0] == kind).map_or(anywhere, |at| at + 1);
+            let place = random.pick(&[0, anywhere, after, after]);
+            commands.insert(place, range);
+            if random.chance(20) {
+                let length = 1 + random.below(commands[place].len() - 1);
+                commands[place].truncate(length);
+                commands.truncate(place + 1);
+            }
+        }
+        // A command of another kind once more, directly after it.
+        15 => {
+            if let Some(command) = commands.iter().rfind(|command| command[0] == kind).cloned() {
+                commands.insert(at + 1, command);
+            }
+        }
+        // One more term after the last, of all choices: past the limit where the register is full.
+        _ => {
+            fresh.mask = all;
+            let mut more = term_command(&fresh);
+            if random.chance(30) {
+                known_again(&mut more);
+            } else if random.chance(50) {
+                wrong_range(random, &mut more, n);
+            }
+            commands.insert(term_end, more);
+        }
+    }
+}
+
+/// Makes a `12` of a `16`: its coefficient is the low.
+fn known_again(command: &mut Vec<u8>) {
+    command[0] = 0x12;
+    command.truncate(9);
+}
+
+/// Makes a range wrong in one way, or in up to three, or puts its numbers at their limits; n is the number of choices.
+fn wrong_range(random: &mut Random, range: &mut [u8], n: usize) {
+    let limit = MAX_COEFFICIENT as i32;
+    for _ in 0..1 + random.below(3) {
+        let near = random.pick(&[limit, limit + 1, limit + 1, -limit, -limit - 1, -limit - 1, i32::MIN, i32::MAX, 0]);
+        let past = (1u64 << n) as u32 | random.pick(&[0, 1]);
+        match random.below(4) {
+            0 => range[1..5].copy_from_slice(&random.pick(&[0, past, past, 1, 1]).to_le_bytes()),
+            1 => range[5..9].copy_from_slice(&near.to_le_bytes()),
+            2 => range[9..13].copy_from_slice(&near.to_le_bytes()),
+            _ => range[5..13].rotate_left(4),
         }
     }
 }

@@ -6,12 +6,13 @@
 //! The folders have jobs, `*.job`, of which a part of the inputs is made. Exit status 1: a difference, or a refusal number that
 //! the scope gives a call or a command and that no input led to, or a length of the day or a number of rows that no accepted
 //! register had, or no accepted certificate with `3B`, or a supplier of whom no job was accepted or none refused, or something else
-//! that `report_suppliers` or `report_listings` asks for.
+//! that `report_ranges`, `report_suppliers` or `report_listings` asks for.
 
 use compare::generate::{input, seed, with_other_places, Input, Whole};
 use compare::random::Random;
 use feedcheck::raw;
-use reference::register::{Register, LONG_DAY, MAX_CHOICES, MAX_ROWS, SHORT_DAY, USUAL_DAY};
+use reference::plan::FEEDS_NONE;
+use reference::register::{Register, Term, LONG_DAY, MAX_CHOICES, MAX_COEFFICIENT, MAX_ROWS, SHORT_DAY, USUAL_DAY};
 use reference::search::Found;
 use reference::table::NUMBERS as TABLE_NUMBERS;
 use reference::{Answer, Counters, Refusal, Tally, SUPPLIERS};
@@ -25,8 +26,8 @@ const CALLS: [(&str, &[u8]); 11] = [
     ("cost", &[1, 2, 3, 4, 5, 6, 7, 12, 13, 15]),
     ("search", &[1, 2, 3, 4, 5, 6, 7, 12, 13, 14, 16]),
     ("penalty", &[1, 2, 3, 4, 5, 6, 7, 8, 11, 12, 13]),
-    ("check", &[1, 2, 3, 4, 5, 6, 7, 8, 9, 11, 12, 13]),
-    ("plain", &[1, 2, 3, 4, 5, 6, 7, 8, 11, 12, 13]),
+    ("check", &[1, 2, 3, 4, 5, 6, 7, 8, 9, 11, 12, 13, 15]),
+    ("plain", &[1, 2, 3, 4, 5, 6, 7, 8, 11, 12, 13, 15]),
     ("job", &[1, 2, 3, 4, 5, 6, 7, 8, 9, 11, 12, 13, 15, 17]),
     ("listing", &[11]),
     ("supplier_listing", &[11]),
@@ -39,12 +40,13 @@ type Listing<A> = fn(&[u8], &mut [i64], &mut [u8]) -> A;
 const NUMBERS: usize = 18;
 
 /// Each command, by its part and byte, with the refusal numbers that the scope gives it there; 1 where it stands out of place.
-const COMMANDS: [(u8, u8, &[u8]); 24] = [
+const COMMANDS: [(u8, u8, &[u8]); 25] = [
     (1, 0x10, &[1, 2, 4]),
     (1, 0x11, &[1, 2, 3, 4, 7, 13]),
     (1, 0x12, &[1, 2, 3, 4, 5, 7]),
     (1, 0x13, &[1, 2, 3, 4, 6, 7]),
     (1, 0x14, &[1, 2, 3, 4, 5]),
+    (1, 0x16, &[1, 2, 3, 4, 5, 6, 7]),
     (1, 0x18, &[1, 2, 4]),
     (1, 0x1F, &[1, 3]),
     (2, 0x21, &[1, 2, 3, 5, 6, 8]),
@@ -68,6 +70,23 @@ const COMMANDS: [(u8, u8, &[u8]); 24] = [
 
 /// The lengths of the day, and whether `18` says them.
 const DAYS: [(u16, bool); 4] = [(USUAL_DAY, false), (SHORT_DAY, true), (USUAL_DAY, true), (LONG_DAY, true)];
+
+/// For calls on a register with a range, by the part that is refused, 0 where it is none: the numbers that the scope gives them there.
+/// A plan that stands before a certificate is never refused 12 in a job.
+const WITH_RANGE: [(&str, u8, &[u8]); 8] = [
+    ("check", 0, &[0]),
+    ("check", 3, &[1, 2, 3, 4, 5, 6, 8, 9, 12]),
+    ("check", 4, &[1, 2, 5, 12, 15]),
+    ("plain", 0, &[0, 11]),
+    ("plain", 4, &[1, 2, 5, 12, 15]),
+    ("job", 0, &[0]),
+    ("job", 3, &[1, 2, 3, 4, 5, 6, 8, 9, 12]),
+    ("job", 4, &[1, 2, 5, 15]),
+];
+
+/// What a range may be.
+const RANGES: [&str; 7] =
+    ["one number", "from 0", "up to 0", "0 alone", "about 0", "from the lower limit", "up to the upper limit"];
 
 /// What a job refused 17 would be of a supplier that is there.
 const NOT_THERE: [&str; 3] = ["accepted otherwise", "refused otherwise", "lent a short table"];
@@ -99,6 +118,14 @@ struct Comparison {
     /// How many jobs were accepted that have rows, and how many certificates that have a `3B`.
     fitting: u64,
     row_forms: u64,
+    /// How many accepted registers have a range of each kind, by `RANGES`, and how many have other terms beside ranges.
+    ranges: [u64; 7],
+    both_kinds: u64,
+    /// Of registers with a range: per call and refused part, how often each number was answered.
+    with_range: BTreeMap<(&'static str, u8), [u64; NUMBERS]>,
+    /// How many accepted certificates would fall short beside the plan that feeds none or all; and for how many the part 4 that was
+    /// lent could not be read, since no term came as a range.
+    beside: [u64; 2],
     /// How many jobs of each supplier were accepted, and refused; and how many of all these left a counter at its limit.
     suppliers: [[u64; 2]; SUPPLIERS],
     at_limit: [u64; 2],
@@ -210,6 +237,9 @@ impl Comparison {
             *self.days.entry((answer.register.day_length, part1[5] == 0x18)).or_default() += 1;
             self.rows[answer.register.rows] += 1;
         }
+        if let Ok(register) = reference::register(part1) {
+            self.count_ranges(&register);
+        }
         self.count_answer("register", answer.number, library == answer, input, || format!("{library:?} {answer:?}"));
 
         let library = raw::scheme(part1, part2);
@@ -225,8 +255,8 @@ impl Comparison {
             "plain",
             input,
             1_294,
-            |buffer| raw::plain(part1, part2, buffer),
-            |buffer| reference::plain(part1, part2, buffer),
+            |buffer| raw::plain(part1, part2, &input.beside, buffer),
+            |buffer| reference::plain(part1, part2, &input.beside, buffer),
         );
         self.compare_job(input);
         self.jobs.push(input.job.clone());
@@ -254,6 +284,9 @@ impl Comparison {
         let answer = written(reference(theirs));
         let same = library == answer && buffer.same();
         self.count_answer(call, answer.number, same, input, || format!("{library:?} {answer:?} buffers {}", buffer.same()));
+        if call == "plain" && has_range(alone(&input.parts[0])) {
+            self.count_with_range(call, answer.part, answer.number);
+        }
     }
 
     fn compare_cost(&mut self, input: &Input) {
@@ -325,15 +358,47 @@ impl Comparison {
         let [part1, part2, part3, _] = &input.parts;
         let mut table = self.table();
         let (ours, theirs) = table.both();
-        let library = raw::check(part1, part2, part3, ours);
-        let (refusal, value) = split(reference::check(part1, part2, part3, theirs), 0);
+        let library = raw::check(part1, part2, part3, &input.beside, ours);
+        let (refusal, value) = split(reference::check(part1, part2, part3, &input.beside, theirs), 0);
         let answer = raw::CheckAnswer { number: refusal.number, part: refusal.part, position: refusal.position, bound: value };
         let same = library == answer && table.same();
         self.count_answer("check", answer.number, same, input, || format!("{library:?} {answer:?} tables {}", table.same()));
+        let parts = [part1, part2, part3, &input.beside];
         if refusal.part != 0 {
-            self.count_command(refusal, &input.parts[refusal.part as usize - 1]);
+            self.count_command(refusal, parts[refusal.part as usize - 1]);
         }
-        self.row_forms += (refusal.number == 0 && has_row_form(part1, part2, part3)) as u64;
+        if has_range(alone(part1)) {
+            self.count_with_range("check", refusal.part, refusal.number);
+        }
+        if refusal.number == 0 {
+            self.count_certificate(parts.map(|part| &part[..]));
+        }
+    }
+
+    /// Counts an accepted certificate by what it has, and by the plan beside which it was accepted.
+    fn count_certificate(&mut self, [part1, part2, part3, part4]: [&[u8]; 4]) {
+        let (register, _) = reference::register::read(part1).expect("an accepted register");
+        let (scheme, _) = reference::scheme::read(&register, part2).expect("an accepted scheme");
+        let (certificate, _) = reference::certificate::read(&register, &scheme, part3).expect("an accepted certificate");
+        self.row_forms += certificate.multipliers.iter().any(|multiplier| multiplier.kind == 0x3B) as u64;
+        let carried = |plan| reference::certificate::residual(&register, &scheme, plan, &certificate).dominant();
+        if register.has_range() {
+            self.beside[0] += !(carried(FEEDS_NONE) && carried(register.all())) as u64;
+        } else {
+            self.beside[1] += reference::plan::read(&register, part4).is_err() as u64;
+        }
+    }
+
+    fn count_ranges(&mut self, register: &Register) {
+        let ranges = || register.terms.iter().filter(|term| term.ranged);
+        for (kind, count) in self.ranges.iter_mut().enumerate() {
+            *count += ranges().any(|range| kinds_of_range(range)[kind]) as u64;
+        }
+        self.both_kinds += (register.has_range() && ranges().count() < register.terms.len()) as u64;
+    }
+
+    fn count_with_range(&mut self, call: &'static str, part: u8, number: u8) {
+        self.with_range.entry((call, part)).or_default()[number as usize] += 1;
     }
 
     /// A supplier, mostly one that is there.
@@ -375,6 +440,9 @@ impl Comparison {
         if answer.number == 0 {
             let (register, _) = reference::register::read(&input.job).expect("the register of an accepted job");
             self.fitting += !register.rows.is_empty() as u64;
+        }
+        if has_range(reference::register::read(&input.job).ok().map(|(register, _)| register)) {
+            self.count_with_range("job", answer.part, answer.number);
         }
         self.count_supplier(&input.job, supplier, length, &before, answer.number);
         let same = library == answer && table.same();
@@ -521,8 +589,10 @@ impl Comparison {
         }
         println!("accepted jobs with rows: {}; accepted certificates with 3B: {}", self.fitting, self.row_forms);
         missing += (self.fitting == 0) as usize + (self.row_forms == 0) as usize;
-        missing += self.report_suppliers() + self.report_listings();
-        println!("commands refused by the check, and those of part 4 by the cost (--: no byte there, or bytes after the end)");
+        missing += self.report_ranges() + self.report_suppliers() + self.report_listings();
+        println!(
+            "commands refused by the check, and those of part 4 by the cost too (--: no byte there, or bytes after the end)"
+        );
         for ((part, byte), numbers) in &self.commands {
             let byte = byte.map_or("--".to_string(), |byte| format!("{byte:02X}"));
             let known = *part as usize <= 4 && numbers[2..].iter().any(|&count| count > 0) || byte == "--";
@@ -536,6 +606,28 @@ impl Comparison {
             let numbers = self.commands.get(&(part, Some(byte))).copied().unwrap_or_default();
             for number in expected.iter().filter(|&&number| numbers[number as usize] == 0) {
                 println!("command {byte:02X}: refusal {number} did not occur");
+                missing += 1;
+            }
+        }
+        missing
+    }
+
+    /// Prints what was counted of ranges; how much of it did not occur.
+    fn report_ranges(&self) -> usize {
+        println!("accepted registers with a range of a kind");
+        RANGES.iter().zip(self.ranges).for_each(|(kind, count)| println!("{kind}: {count}"));
+        println!("accepted registers with ranges and known coefficients: {}", self.both_kinds);
+        println!("accepted certificates that fall short beside the plan that feeds none or all: {}", self.beside[0]);
+        println!("accepted certificates of registers without a range, lent a part 4 that can't be read: {}", self.beside[1]);
+        println!("answers on registers with a range, by the part that is refused (0: none)");
+        let mut missing = zeros(&self.ranges) + zeros(&[self.both_kinds]) + zeros(&self.beside);
+        for (call, part, expected) in WITH_RANGE {
+            let numbers = self.with_range.get(&(call, part)).copied().unwrap_or_default();
+            print!("{call:8}{part:>8}");
+            numbers.iter().for_each(|count| print!("{count:>8}"));
+            println!();
+            for &number in expected.iter().filter(|&&number| numbers[number as usize] == 0) {
+                println!("{call} with a range: number {number} in part {part} did not occur");
                 missing += 1;
             }
         }
@@ -631,12 +723,27 @@ fn split<T>(answer: Answer<T>, zero: T) -> (Refusal, T) {
     }
 }
 
-/// Whether an accepted certificate has a `3B`.
-fn has_row_form(part1: &[u8], part2: &[u8], part3: &[u8]) -> bool {
-    let (register, _) = reference::register::read(part1).expect("an accepted register");
-    let (scheme, _) = reference::scheme::read(&register, part2).expect("an accepted scheme");
-    let (certificate, _) = reference::certificate::read(&register, &scheme, part3).expect("an accepted certificate");
-    certificate.multipliers.iter().any(|multiplier| multiplier.kind == 0x3B)
+/// The register that these bytes are, if they are one.
+fn alone(part1: &[u8]) -> Option<Register> {
+    reference::register(part1).ok()
+}
+
+fn has_range(register: Option<Register>) -> bool {
+    register.is_some_and(|register| register.has_range())
+}
+
+/// What a range is, as in `RANGES`.
+fn kinds_of_range(range: &Term) -> [bool; 7] {
+    let (low, high, limit) = (range.low, range.high, MAX_COEFFICIENT as i32);
+    [
+        low == high,
+        low == 0 && high > 0,
+        low < 0 && high == 0,
+        low == 0 && high == 0,
+        low < 0 && high > 0,
+        low == -limit,
+        high == limit,
+    ]
 }
 
 fn written(answer: Answer<usize>) -> raw::WriterAnswer {
@@ -654,6 +761,8 @@ fn register_answer(answer: Answer<reference::register::Register>) -> raw::Regist
         minutes: [0; 32],
         masks: [0; 256],
         coefficients: [0; 256],
+        highs: [0; 256],
+        ranged: [false; 256],
         windows: 0,
         window_tanks: [0; 64],
         window_froms: [0; 64],
@@ -674,7 +783,9 @@ fn register_answer(answer: Answer<reference::register::Register>) -> raw::Regist
         }
         for (t, term) in register.terms.iter().enumerate() {
             record.masks[t] = term.mask;
-            record.coefficients[t] = term.coefficient;
+            record.coefficients[t] = term.low;
+            record.highs[t] = term.high;
+            record.ranged[t] = term.ranged;
         }
         record.windows = register.windows.len();
         for (w, window) in register.windows.iter().enumerate() {
@@ -738,6 +849,10 @@ fn main() {
         rows: [0; MAX_ROWS + 1],
         fitting: 0,
         row_forms: 0,
+        ranges: [0; 7],
+        both_kinds: 0,
+        with_range: BTreeMap::new(),
+        beside: [0; 2],
         suppliers: [[0; 2]; SUPPLIERS],
         at_limit: [0; 2],
         not_there: [0; 3],

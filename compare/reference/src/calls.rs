@@ -1,7 +1,7 @@
 //! The eleven calls.
 
 use crate::search::{self as searches, Found, NotFound};
-use crate::wire::{alone, Fault};
+use crate::wire::{alone, Fault, Read};
 use crate::{builder, certificate, plain as own, plan as plans, register as registers, scheme as schemes, table};
 
 /// A refusal's number, part and position.
@@ -91,23 +91,28 @@ pub fn penalty(part1: &[u8], part2: &[u8], lent: &mut [i64]) -> Answer<()> {
     Ok(())
 }
 
-pub fn check(part1: &[u8], part2: &[u8], part3: &[u8], lent: &mut [i64]) -> Answer<i64> {
+pub fn check(part1: &[u8], part2: &[u8], part3: &[u8], part4: &[u8], lent: &mut [i64]) -> Answer<i64> {
     long_enough(lent)?;
     let (register, scheme) = register_and_scheme(part1, part2)?;
-    let (bound, end) = check_part(&register, &scheme, part3, lent).map_err(|fault| Refusal::of(3, fault))?;
-    alone(part3, Ok((bound, end))).map_err(|fault| Refusal::of(3, fault))
+    let plan = plan_beside(&register, part4)?;
+    alone(part3, check_part(&register, &scheme, plan, part3, lent)).map_err(|fault| Refusal::of(3, fault))
+}
+
+/// The plan beside which a certificate stands. Part 4 is looked at only where a term came as a range; elsewhere the coefficients
+/// are the same beside every plan.
+fn plan_beside(register: &registers::Register, part4: &[u8]) -> Answer<u32> {
+    if register.has_range() {
+        alone(part4, plans::read(register, part4)).map_err(|fault| Refusal::of(4, fault))
+    } else {
+        Ok(plans::FEEDS_NONE)
+    }
 }
 
 /// Reads the certificate at the front of the bytes, leaves R in the table once `3F` is reached, and refuses 9 where a row falls
 /// short. The bound and the position past the certificate.
-fn check_part(
-    register: &registers::Register,
-    scheme: &schemes::Scheme,
-    bytes: &[u8],
-    lent: &mut [i64],
-) -> Result<(i64, usize), Fault> {
+fn check_part(register: &registers::Register, scheme: &schemes::Scheme, plan: u32, bytes: &[u8], lent: &mut [i64]) -> Read<i64> {
     let (certificate, end) = certificate::read(register, scheme, bytes)?;
-    let residual = certificate::residual(register, scheme, &certificate);
+    let residual = certificate::residual(register, scheme, plan, &certificate);
     residual.write(lent);
     if !residual.dominant() {
         return Err(Fault { number: 9, position: certificate.end });
@@ -115,9 +120,10 @@ fn check_part(
     Ok((certificate.bound(), end))
 }
 
-pub fn plain(part1: &[u8], part2: &[u8], buffer: &mut [u8]) -> Answer<usize> {
+pub fn plain(part1: &[u8], part2: &[u8], part4: &[u8], buffer: &mut [u8]) -> Answer<usize> {
     let (register, scheme) = register_and_scheme(part1, part2)?;
-    write(&own::certificate(&register, &scheme).bytes(), buffer)
+    let plan = plan_beside(&register, part4)?;
+    write(&own::certificate(&register, &scheme, plan).bytes(), buffer)
 }
 
 pub fn job(bytes: &[u8], lent: &mut [i64], supplier: u8, mut tally: Tally) -> (Answer<Outcome>, Tally) {
@@ -134,13 +140,45 @@ fn whole_job(bytes: &[u8], lent: &mut [i64]) -> Answer<(Outcome, registers::Regi
     long_enough(lent)?;
     let (register, start2) = registers::read(bytes).map_err(|fault| later(1, 0, fault))?;
     let (scheme, length) = schemes::read(&register, &bytes[start2..]).map_err(|fault| later(2, start2, fault))?;
-    let start3 = start2 + length;
-    let (bound, length) = check_part(&register, &scheme, &bytes[start3..], lent).map_err(|fault| later(3, start3, fault))?;
-    let start4 = start3 + length;
-    let read = plans::read(&register, &bytes[start4..]);
-    let plan = alone(&bytes[start4..], read).map_err(|fault| later(4, start4, fault))?;
+    let rest = start2 + length;
+    let (bound, plan) = if register.has_range() {
+        plan_and_certificate(&register, &scheme, bytes, rest, lent)?
+    } else {
+        certificate_and_plan(&register, &scheme, bytes, rest, lent)?
+    };
     let cost = plans::cost(&register, plan);
     Ok((Outcome { bound, cost, gap: cost - bound }, register, plan))
+}
+
+/// The bound and the plan of a job whose certificate starts here and whose plan follows.
+fn certificate_and_plan(
+    register: &registers::Register,
+    scheme: &schemes::Scheme,
+    job: &[u8],
+    start3: usize,
+    lent: &mut [i64],
+) -> Answer<(i64, u32)> {
+    let read = check_part(register, scheme, plans::FEEDS_NONE, &job[start3..], lent);
+    let (bound, length) = read.map_err(|fault| later(3, start3, fault))?;
+    let start4 = start3 + length;
+    let read = plans::read(register, &job[start4..]);
+    let plan = alone(&job[start4..], read).map_err(|fault| later(4, start4, fault))?;
+    Ok((bound, plan))
+}
+
+/// The same where a term came as a range: the plan starts here, and the certificate follows.
+fn plan_and_certificate(
+    register: &registers::Register,
+    scheme: &schemes::Scheme,
+    job: &[u8],
+    start4: usize,
+    lent: &mut [i64],
+) -> Answer<(i64, u32)> {
+    let (plan, length) = plans::read(register, &job[start4..]).map_err(|fault| later(4, start4, fault))?;
+    let start3 = start4 + length;
+    let read = check_part(register, scheme, plan, &job[start3..], lent);
+    let bound = alone(&job[start3..], read).map_err(|fault| later(3, start3, fault))?;
+    Ok((bound, plan))
 }
 
 /// A fault of a part that starts in the middle of a job.

@@ -139,10 +139,10 @@ fn square(scheme: &Scheme, command: &Command) -> Result<Square, Fault> {
     Ok(Square { weight, entries })
 }
 
-/// The table R.
-pub fn residual(register: &Register, scheme: &Scheme, certificate: &Certificate) -> Table {
+/// The table R, with the coefficients beside the plan.
+pub fn residual(register: &Register, scheme: &Scheme, plan: u32, certificate: &Certificate) -> Table {
     let mut table = Table::new(scheme.variables());
-    add_function(register, scheme, certificate.scale as i64, &mut table);
+    add_function(register, scheme, plan, certificate.scale as i64, &mut table);
     table.add_constant(-certificate.target);
     for multiplier in &certificate.multipliers {
         add_multiplier(register, scheme, multiplier, &mut table);

@@ -5,10 +5,11 @@ use crate::register::Register;
 use crate::scheme::{add_function, Scheme};
 use crate::table::Table;
 
-pub fn certificate(register: &Register, scheme: &Scheme) -> Certificate {
+/// The certificate for the coefficients beside the plan.
+pub fn certificate(register: &Register, scheme: &Scheme, plan: u32) -> Certificate {
     let count = scheme.variables();
     let mut g = Table::new(count);
-    add_function(register, scheme, 1, &mut g);
+    add_function(register, scheme, plan, 1, &mut g);
     let mut multipliers = Vec::new();
     let mut add = |kind, i, m| {
         if m != 0 {

@@ -3,6 +3,9 @@
 use crate::register::Register;
 use crate::wire::{Commands, Read};
 
+/// The plan that feeds no choice. Every term names one, so beside this plan each has its low.
+pub const FEEDS_NONE: u32 = 0;
+
 pub fn read(register: &Register, bytes: &[u8]) -> Read<u32> {
     let mut commands = Commands::new(bytes);
     let command = commands.next(|byte| (byte == 0x40).then_some(4))?;
@@ -12,7 +15,8 @@ pub fn read(register: &Register, bytes: &[u8]) -> Read<u32> {
     Ok((plan, commands.at))
 }
 
+/// The cost, with the high of each term that the plan feeds.
 pub fn cost(register: &Register, plan: u32) -> i64 {
-    let terms = register.terms.iter().filter(|term| term.mask & plan == term.mask);
-    register.base as i64 + terms.map(|term| term.coefficient as i64).sum::<i64>()
+    let terms = register.terms.iter().filter(|term| term.fed(plan));
+    register.base as i64 + terms.map(|term| term.high as i64).sum::<i64>()
 }

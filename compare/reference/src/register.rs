@@ -1,6 +1,6 @@
 //! Part 1, the register.
 
-use crate::wire::{Commands, Read};
+use crate::wire::{Command, Commands, Read};
 use std::ops::RangeInclusive;
 
 pub const MAX_WINDOWS: usize = 64;
@@ -55,12 +55,42 @@ impl Row {
     }
 }
 
+/// The largest coefficient, either sign; of a range both ends.
+pub const MAX_COEFFICIENT: u32 = 1_000_000;
+
+/// A term's coefficient is known, or known to be within a range.
 #[derive(Clone, Copy, Debug, PartialEq, Eq)]
 pub struct Term {
     pub mask: u32,
-    pub coefficient: i32,
+    /// The least that the coefficient may be.
+    pub low: i32,
+    /// The most, the low once more where the coefficient is known.
+    pub high: i32,
+    /// Whether it came as a range, `16`.
+    pub ranged: bool,
     /// Where its command stands; the builder's refusal names it.
     pub position: usize,
+}
+
+impl Term {
+    /// A term whose coefficient is known.
+    pub fn known(mask: u32, coefficient: i32) -> Term {
+        Term { mask, low: coefficient, high: coefficient, ranged: false, position: 0 }
+    }
+
+    /// Whether the plan feeds all choices that the term names.
+    pub fn fed(&self, plan: u32) -> bool {
+        self.mask & plan == self.mask
+    }
+
+    /// The coefficient beside a plan: the high where the plan feeds the term's choices, else the low.
+    pub fn beside(&self, plan: u32) -> i32 {
+        if self.fed(plan) {
+            self.high
+        } else {
+            self.low
+        }
+    }
 }
 
 #[derive(Clone, Debug, PartialEq, Eq)]
@@ -78,6 +108,11 @@ impl Register {
     /// The mask of all choices.
     pub fn all(&self) -> u32 {
         ((1u64 << self.choices.len()) - 1) as u32
+    }
+
+    /// Whether a term came as a range.
+    pub fn has_range(&self) -> bool {
+        self.terms.iter().any(|term| term.ranged)
     }
 
     /// Whether the plan fits every row.
@@ -109,6 +144,7 @@ pub fn read(bytes: &[u8]) -> Read<Register> {
             0x12 => Some(8),
             0x13 if no_choice_yet && no_row_yet => Some(6),
             0x14 if no_term_yet => Some(2 + MAX_CHOICES),
+            0x16 => Some(12),
             0x18 if previous == 0x10 => Some(2),
             0x1F => Some(0),
             _ => None,
@@ -123,13 +159,15 @@ pub fn read(bytes: &[u8]) -> Read<Register> {
                 command.refuse(13, !register.may_feed(tank, minute))?;
                 register.choices.push(Choice { tank, minute });
             }
-            0x12 => {
-                let (mask, coefficient) = (command.u32(0), command.i32(4));
+            0x12 | 0x16 => {
+                let term = term(&command);
                 command.refuse(3, register.terms.len() == MAX_TERMS)?;
-                command.refuse(4, coefficient == 0 || coefficient.unsigned_abs() > 1_000_000)?;
-                command.refuse(5, mask == 0 || mask & !register.all() != 0)?;
-                command.refuse(7, register.terms.last().is_some_and(|last| last.mask >= mask))?;
-                register.terms.push(Term { mask, coefficient, position: command.position });
+                let out_of_range = [term.low, term.high].iter().any(|end| end.unsigned_abs() > MAX_COEFFICIENT);
+                command.refuse(4, out_of_range || !term.ranged && term.low == 0)?;
+                command.refuse(5, term.mask == 0 || term.mask & !register.all() != 0)?;
+                command.refuse(6, term.low > term.high)?;
+                command.refuse(7, register.terms.last().is_some_and(|last| last.mask >= term.mask))?;
+                register.terms.push(term);
             }
             0x13 => {
                 let (tank, from, to) = (command.u16(0), command.u16(2), command.u16(4));
@@ -159,4 +197,11 @@ pub fn read(bytes: &[u8]) -> Read<Register> {
             }
         }
     }
+}
+
+/// What a `12` or a `16` says, right or wrong.
+fn term(command: &Command) -> Term {
+    let ranged = command.byte == 0x16;
+    let (low, high) = (command.i32(4), command.i32(if ranged { 8 } else { 4 }));
+    Term { mask: command.u32(0), low, high, ranged, position: command.position }
 }

@@ -1,5 +1,6 @@
 //! Part 2, the scheme, and the function g that it writes the cost as.
 
+use crate::plan::FEEDS_NONE;
 use crate::register::Register;
 use crate::table::Table;
 use crate::wire::{Commands, Read};
@@ -95,11 +96,11 @@ pub fn read(register: &Register, bytes: &[u8]) -> Read<Scheme> {
     }
 }
 
-/// Adds s times g to the table.
-pub fn add_function(register: &Register, scheme: &Scheme, s: i64, table: &mut Table) {
+/// Adds s times g, with the coefficients beside the plan, to the table.
+pub fn add_function(register: &Register, scheme: &Scheme, plan: u32, s: i64, table: &mut Table) {
     table.add_constant(s * register.base as i64);
     for (term, &(l, r)) in register.terms.iter().zip(&scheme.splits) {
-        let coefficient = s * term.coefficient as i64;
+        let coefficient = s * term.beside(plan) as i64;
         if l == r {
             table.add_linear(l, coefficient);
         } else {
@@ -108,7 +109,7 @@ pub fn add_function(register: &Register, scheme: &Scheme, s: i64, table: &mut Ta
     }
 }
 
-/// The table of the penalty form h.
+/// The table of the penalty form h, which takes the lows.
 pub fn penalty(register: &Register, scheme: &Scheme) -> Table {
     let (n, count) = (scheme.choices, scheme.variables());
     // The products that each variable leads down to, itself among them, as a mask over all variables.
@@ -118,14 +119,14 @@ pub fn penalty(register: &Register, scheme: &Scheme) -> Table {
         used[k] = 1 << k | used[l] | used[r];
     }
     let mut table = Table::new(count);
-    add_function(register, scheme, 1, &mut table);
+    add_function(register, scheme, FEEDS_NONE, 1, &mut table);
     for k in n..count {
         let weight: i64 = register
             .terms
             .iter()
             .zip(&scheme.splits)
             .filter(|(_, &(l, r))| (used[l] | used[r]) & 1 << k != 0)
-            .map(|(term, _)| (term.coefficient as i64).abs())
+            .map(|(term, _)| (term.low as i64).abs())
             .sum();
         let (l, r) = scheme.operands(k);
         table.add_linear(k, 3 * weight);

@@ -1,4 +1,5 @@
-//! The search for the cheapest plan that fits.
+//! The search for the cheapest plan that fits. Where a coefficient is known within a range it takes the low, and so
+//! does the cost that it ends with.
 //!
 //! Choices are decided from the highest number down, unfed first. A partial plan is given by how many choices are undecided (the
 //! lowest ones) and by those that are decided unfed; the rest is decided fed. Its sum is that of base cost, coefficients of terms
@@ -23,16 +24,17 @@ pub enum NotFound {
     NoneFits,
 }
 
-/// The search. Only full plans that fit are met; one that doesn't is a visit that changes nothing. The sum is carried from one partial plan to the next: with a choice
-/// that is decided unfed it loses the negative terms that name the choice, with one that is decided fed it wins the positive
-/// terms of which this was the last undecided choice, in both cases only those that name no choice decided unfed before.
+/// The search. Only full plans that fit are met; one that doesn't is a visit that changes nothing. The sum is carried from one
+/// partial plan to the next: with a choice that is decided unfed it loses the negative terms that name the choice, with one that is
+/// decided fed it wins the positive terms of which this was the last undecided choice, in both cases only those that name no choice
+/// decided unfed before.
 pub fn search(register: &Register, limit: u32) -> Result<Found, NotFound> {
     let mut lost: [List; MAX_CHOICES] = Default::default();
     let mut won: [List; MAX_CHOICES] = Default::default();
     let mut sum = register.base as i64;
     for term in &register.terms {
-        if term.coefficient < 0 {
-            sum += term.coefficient as i64;
+        if term.low < 0 {
+            sum += term.low as i64;
             let mut named = term.mask;
             while named != 0 {
                 lost[named.trailing_zeros() as usize].push(term);
@@ -98,7 +100,7 @@ impl List {
         }
         let (masks, coefficients) = self.blocks.last_mut().unwrap();
         masks[lane] = term.mask;
-        coefficients[lane] = term.coefficient;
+        coefficients[lane] = term.low;
         self.terms += 1;
     }
 
@@ -143,10 +145,10 @@ impl WordForWord<'_> {
         let undecided = self.register.all() & !fed & !unfed;
         let mut sum = self.register.base as i64;
         for term in &self.register.terms {
-            let wholly_decided_fed = term.mask & fed == term.mask;
+            let wholly_decided_fed = term.fed(fed);
             let open = term.mask & undecided != 0 && term.mask & unfed == 0;
-            if wholly_decided_fed || open && term.coefficient < 0 {
-                sum += term.coefficient as i64;
+            if wholly_decided_fed || open && term.low < 0 {
+                sum += term.low as i64;
             }
         }
         if self.best.is_some_and(|(_, cost)| sum >= cost) {

@@ -1,11 +1,11 @@
-//! The search against the rule taken word for word, and against the costs of all plans, on random registers, some with rows.
+//! The search against the rule taken word for word, and against the costs of all plans, on random registers, some with rows, some with
+//! ranges, whose lows count.
 
 #[allow(dead_code)]
 #[path = "../../src/random.rs"]
 mod random;
 
 use random::Random;
-use reference::plan;
 use reference::register::{Choice, Register, Row, Term, MAX_CHOICES, MAX_ROWS, USUAL_DAY};
 use reference::search::{search, word_for_word, NotFound};
 
@@ -28,7 +28,7 @@ fn register(random: &mut Random, n: usize, terms: usize) -> Register {
     masks.truncate(256);
     let reach = random.pick(&[1, 1, 2, 5, 1_000_000]);
     let signs = random.pick(&[&[1, -1][..], &[1, -1], &[1], &[-1], &[1, 1, 1, -1]]);
-    let term = |mask| Term { mask, coefficient: random.within(1, reach) as i32 * random.pick(signs), position: 0 };
+    let term = |mask| Term::known(mask, random.within(1, reach) as i32 * random.pick(signs));
     let terms = masks.into_iter().map(term).collect();
     let choices = (1..=n as u16).map(|tank| Choice { tank, minute: 0 }).collect();
     let base = random.within(-1_000_000_000, 1_000_000_000) as i32;
@@ -52,6 +52,23 @@ fn rows(random: &mut Random, n: usize) -> Vec<Row> {
     (0..count).map(row).collect()
 }
 
+/// Makes some terms known within a range that begins where their coefficient was, or at 0.
+fn ranges(random: &mut Random, register: &mut Register) {
+    for term in &mut register.terms {
+        if random.chance(60) {
+            term.low = random.pick(&[term.low, term.low, term.low, 0]);
+            term.high = random.within(term.low as i64, 1_000_000) as i32;
+            term.ranged = true;
+        }
+    }
+}
+
+/// What a plan costs where each coefficient is the least that it may be.
+fn low_cost(register: &Register, plan: u32) -> i64 {
+    let fed = register.terms.iter().filter(|term| term.mask & !plan == 0);
+    register.base as i64 + fed.map(|term| term.low as i64).sum::<i64>()
+}
+
 /// Whether a plan fits, said again.
 fn fits(register: &Register, plan: u32) -> bool {
     let sum = |row: &Row| (0..MAX_CHOICES).map(|j| (plan >> j & 1) as i64 * row.entries[j] as i64).sum::<i64>();
@@ -68,11 +85,14 @@ fn of_all_plans() {
         if case % 2 == 1 {
             register.rows = rows(&mut random, n);
         }
+        if case % 3 == 1 {
+            ranges(&mut random, &mut register);
+        }
         let found = search(&register, u32::MAX);
         assert_eq!(found, word_for_word(&register, u32::MAX), "{register:?}");
         // Of equal costs `min` takes the smaller plan.
         let plans = (0..1 << n).filter(|&plan| fits(&register, plan));
-        let least = plans.map(|plan| (plan::cost(&register, plan), plan)).min();
+        let least = plans.map(|plan| (low_cost(&register, plan), plan)).min();
         let answer = least.map(|_| found.expect("a plan that fits"));
         assert_eq!(answer.map(|found| (found.cost, found.plan)), least, "{register:?}");
         // Where no plan fits nothing is left, and the visits are all that there are.
@@ -98,13 +118,16 @@ fn larger() {
         if case % 3 == 0 {
             register.rows = rows(&mut random, register.choices.len());
         }
+        if case % 4 == 1 {
+            ranges(&mut random, &mut register);
+        }
         let limit = random.pick(&[100, 1_000, 20_000]);
         let found = search(&register, limit);
         assert_eq!(found, word_for_word(&register, limit), "{register:?}");
         ended += (found != Err(NotFound::PastLimit)) as u32;
         if let Ok(found) = found {
             assert!(fits(&register, found.plan));
-            assert_eq!(plan::cost(&register, found.plan), found.cost);
+            assert_eq!(low_cost(&register, found.plan), found.cost);
             assert_eq!(search(&register, found.visits), Ok(found));
             assert_eq!(search(&register, found.visits - 1), Err(NotFound::PastLimit));
         }
@@ -117,7 +140,7 @@ fn larger() {
 fn no_branch_left() {
     for n in 1..=16 {
         let choices = (1..=n as u16).map(|tank| Choice { tank, minute: 0 }).collect();
-        let terms = (0..n).map(|i| Term { mask: 1 << i, coefficient: -(1 << i), position: 0 }).collect();
+        let terms = (0..n).map(|i| Term::known(1 << i, -(1 << i))).collect();
         let register = Register { base: 0, day_length: USUAL_DAY, windows: Vec::new(), choices, rows: Vec::new(), terms };
         let found = search(&register, u32::MAX).unwrap();
         assert_eq!((found.plan, found.cost, found.visits), (register.all(), -(register.all() as i64), (2 << n) - 1));
@@ -129,7 +152,7 @@ fn no_branch_left() {
 fn last_plan_fits() {
     for n in 1..=16 {
         let choices = (1..=n as u16).map(|tank| Choice { tank, minute: 0 }).collect();
-        let terms = (0..n).map(|i| Term { mask: 1 << i, coefficient: 1 << i, position: 0 }).collect();
+        let terms = (0..n).map(|i| Term::known(1 << i, 1 << i)).collect();
         let mut row = Row { total: n as i16, entries: [0; MAX_CHOICES] };
         row.entries[..n as usize].fill(1);
         let register = Register { base: 0, day_length: USUAL_DAY, windows: Vec::new(), choices, rows: vec![row], terms };

@@ -90,17 +90,20 @@ fn register() {
             return false;
         }
         match answer {
-            Err(_) => [0; 6].iter().all(|&zero| zero == f.number()),
+            Err(_) => [0; 7].iter().all(|&zero| zero == f.number()),
             Ok(register) => {
                 let counts = [register.base as i64, register.choices.len() as i64, register.terms.len() as i64];
                 let choices = register.choices.iter().flat_map(|choice| [choice.tank as i64, choice.minute as i64]);
-                let terms = register.terms.iter().flat_map(|term| [term.mask as i64, term.coefficient as i64]);
+                let terms = register.terms.iter().flat_map(|term| [term.mask as i64, term.low as i64]);
                 let windows = register.windows.iter().flat_map(|window| [window.tank, window.from, window.to].map(i64::from));
                 let windows = std::iter::once(register.windows.len() as i64).chain(windows);
                 let rest = [register.day_length as i64, register.rows.len() as i64];
                 let of_row = |row: &Row| std::iter::once(row.total as i64).chain(row.entries.map(i64::from)).collect::<Vec<_>>();
                 let rows = register.rows.iter().flat_map(of_row);
-                let mut numbers = counts.into_iter().chain(choices).chain(terms).chain(windows).chain(rest).chain(rows);
+                let highs = register.terms.iter().map(|term| term.high as i64);
+                let ranges = std::iter::once(register.has_range() as i64).chain(highs);
+                let mut numbers =
+                    counts.into_iter().chain(choices).chain(terms).chain(windows).chain(rest).chain(rows).chain(ranges);
                 numbers.all(|number| number == f.number())
             }
         }
@@ -169,9 +172,9 @@ fn penalty() {
 #[test]
 fn check() {
     each("check.txt", |f| {
-        let (register, scheme, certificate) = (f.bytes(), f.bytes(), f.bytes());
+        let (register, scheme, certificate, plan) = (f.bytes(), f.bytes(), f.bytes(), f.bytes());
         let mut table = vec![77; f.number() as usize];
-        let (refusal, bound) = split(reference::check(&register, &scheme, &certificate, &mut table));
+        let (refusal, bound) = split(reference::check(&register, &scheme, &certificate, &plan, &mut table));
         refusal == f.refusal() && bound == f.number() && f.table(&table)
     });
 }
@@ -179,9 +182,9 @@ fn check() {
 #[test]
 fn plain() {
     each("plain.txt", |f| {
-        let (register, scheme) = (f.bytes(), f.bytes());
+        let (register, scheme, plan) = (f.bytes(), f.bytes(), f.bytes());
         let mut buffer = vec![0xAA; f.number() as usize];
-        let (refusal, count) = split(reference::plain(&register, &scheme, &mut buffer));
+        let (refusal, count) = split(reference::plain(&register, &scheme, &plan, &mut buffer));
         refusal == f.refusal() && count as i64 == f.number() && buffer == f.bytes()
     });
 }

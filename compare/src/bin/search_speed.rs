@@ -39,7 +39,7 @@ fn generated(random: &mut Random, terms: usize, degree: u32) -> Vec<u8> {
         }
     }
     masks.sort();
-    let term = |mask| Term { mask, coefficient: (random.within(1, 1_000_000) * random.pick(&[1, -1])) as i32, position: 0 };
+    let term = |mask| Term::known(mask, (random.within(1, 1_000_000) * random.pick(&[1, -1])) as i32);
     let terms = masks.into_iter().map(term).collect();
     let choices = (1..=MAX_CHOICES as u16).map(|tank| Choice { tank, minute: 0 }).collect();
     let register = Register { base: 0, day_length: USUAL_DAY, windows: Vec::new(), choices, rows: Vec::new(), terms };

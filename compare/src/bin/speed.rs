@@ -8,6 +8,7 @@ use compare::generate::{self, Size};
 use compare::random::Random;
 use compare::timing::{self, spread, Parts};
 use reference::certificate::{self, Certificate, MAX_MULTIPLIERS, MAX_SQUARES};
+use reference::plan::FEEDS_NONE;
 use reference::register::{self, Choice, Register, Term, USUAL_DAY};
 use reference::scheme::{self, Scheme};
 use reference::table::NUMBERS;
@@ -19,14 +20,14 @@ fn full_certificates(count: usize) -> Vec<Parts> {
     while found.len() < count {
         let (register, scheme) = generate::products_first(&mut random, Size::Full);
         let mut certificate = generate::random_certificate(&mut random, Size::Full, &register, &scheme, true);
-        generate::repair(&register, &scheme, &mut certificate);
+        generate::repair(&register, &scheme, FEEDS_NONE, &mut certificate);
         if full(&register, &scheme, &certificate) {
             let parts = [
                 generate::register_commands(&register).concat(),
                 generate::scheme_commands(&scheme).concat(),
                 generate::certificate_commands(&mut random, &certificate).concat(),
             ];
-            if reference::check(&parts[0], &parts[1], &parts[2], &mut [0; NUMBERS]).is_ok() {
+            if reference::check(&parts[0], &parts[1], &parts[2], &[], &mut [0; NUMBERS]).is_ok() {
                 found.push(parts);
             }
         }
@@ -68,8 +69,8 @@ fn race_check(what: &str, runs: usize, inputs: &[Parts]) {
         &format!("{what}, the table not cleared before a call"),
         runs,
         inputs,
-        |parts| feedcheck::check(&parts[0], &parts[1], &parts[2], &mut table),
-        |parts| reference::check(&parts[0], &parts[1], &parts[2], &mut other),
+        |parts| feedcheck::check(&parts[0], &parts[1], &parts[2], &[], &mut table),
+        |parts| reference::check(&parts[0], &parts[1], &parts[2], &[], &mut other),
     );
     race(
         &format!("{what}, the table cleared before each call"),
@@ -77,11 +78,11 @@ fn race_check(what: &str, runs: usize, inputs: &[Parts]) {
         inputs,
         |parts| {
             table.fill(0);
-            feedcheck::check(&parts[0], &parts[1], &parts[2], &mut table)
+            feedcheck::check(&parts[0], &parts[1], &parts[2], &[], &mut table)
         },
         |parts| {
             other.fill(0);
-            reference::check(&parts[0], &parts[1], &parts[2], &mut other)
+            reference::check(&parts[0], &parts[1], &parts[2], &[], &mut other)
         },
     );
 }
@@ -118,7 +119,7 @@ fn deep_scheme() -> [Vec<u8>; 2] {
         windows: Vec::new(),
         choices: (1..33).map(|tank| Choice { tank, minute: 0 }).collect(),
         rows: Vec::new(),
-        terms: splits.iter().map(|&(mask, _, _)| Term { mask, coefficient: 1_000_000, position: 0 }).collect(),
+        terms: splits.iter().map(|&(mask, _, _)| Term::known(mask, 1_000_000)).collect(),
     };
     [generate::register_commands(&register).concat(), generate::scheme_commands(&scheme).concat()]
 }

@@ -9,8 +9,8 @@ fn main() {
     let (mut table, mut other) = (vec![0; NUMBERS], vec![0; NUMBERS]);
     let [ours, theirs] = timing::run(
         &inputs,
-        |parts| feedcheck::check(&parts[0], &parts[1], &parts[2], &mut table),
-        |parts| reference::check(&parts[0], &parts[1], &parts[2], &mut other),
+        |parts| feedcheck::check(&parts[0], &parts[1], &parts[2], &[], &mut table),
+        |parts| reference::check(&parts[0], &parts[1], &parts[2], &[], &mut other),
     );
     println!("{ours} {theirs}");
 }

@@ -1,7 +1,7 @@
 //! Checks a supplier's job with the farm's own register in place of the job's part 1. Prints bound, cost and gap at the farm's own
-//! costs, windows, rows and day's length; or the refusal, with part and position in the job. Says where the job's part 1 is not
-//! byte for byte the farm's register. Exit status 0: accepted, 1: refused, 2: no answer, since the words are wrong, a file can't be
-//! read, or the farm's register is itself refused.
+//! costs, ranges, windows, rows and day's length; or the refusal, with part and position in the job. Says where the job's part 1 is
+//! not byte for byte the farm's register. Exit status 0: accepted, 1: refused, 2: no answer, since the words are wrong, a file can't
+//! be read, or the farm's register is itself refused.
 
 use feedcheck::{Outcome, Refusal};
 use std::path::{Path, PathBuf};
@@ -9,14 +9,35 @@ use std::process::ExitCode;
 
 /// The job with the farm's register, which is accepted, as its part 1. Positions are those of the job as the supplier sent it.
 pub fn check(own: &[u8], job: &[u8]) -> Result<Outcome, Refusal> {
-    let mut table = vec![0; feedcheck::TABLE_NUMBERS];
     let part_2 = end_of(feedcheck::register(job), 0, job)?;
-    let part_3 = end_of(feedcheck::scheme(own, &job[part_2..]), part_2, job)?;
-    let scheme = &job[part_2..part_3];
-    let part_4 = end_of(feedcheck::check(own, scheme, &job[part_3..], &mut table), part_3, job)?;
+    let end = end_of(feedcheck::scheme(own, &job[part_2..]), part_2, job)?;
+    let scheme = &job[part_2..end];
+    if feedcheck::register(own)?.has_range() {
+        plan_first(own, scheme, job, end)
+    } else {
+        plan_last(own, scheme, job, end)
+    }
+}
+
+/// Parts 3 and 4 of a job whose register has no range. The check then looks at no plan.
+fn plan_last(own: &[u8], scheme: &[u8], job: &[u8], part_3: usize) -> Result<Outcome, Refusal> {
+    let mut table = vec![0; feedcheck::TABLE_NUMBERS];
+    let part_4 = end_of(feedcheck::check(own, scheme, &job[part_3..], &[], &mut table), part_3, job)?;
     let cost = feedcheck::cost(own, &job[part_4..]).map_err(|refusal| in_job(refusal, part_4))?;
     // A refused answer has no bound, so the certificate is checked again without the plan behind it.
-    let bound = feedcheck::check(own, scheme, &job[part_3..part_4], &mut table)?;
+    let bound = feedcheck::check(own, scheme, &job[part_3..part_4], &[], &mut table)?;
+    Ok(Outcome { bound, cost, gap: cost - bound })
+}
+
+/// Parts 4 and 3 of a job whose register has a range. The plan chooses the coefficients that the certificate is of.
+fn plan_first(own: &[u8], scheme: &[u8], job: &[u8], part_4: usize) -> Result<Outcome, Refusal> {
+    let mut table = vec![0; feedcheck::TABLE_NUMBERS];
+    let part_3 = end_of(feedcheck::cost(own, &job[part_4..]), part_4, job)?;
+    let plan = &job[part_4..part_3];
+    let checked = feedcheck::check(own, scheme, &job[part_3..], plan, &mut table);
+    let bound = checked.map_err(|refusal| in_job(refusal, part_3))?;
+    // A refused answer has no cost, so the plan is read again without the certificate behind it.
+    let cost = feedcheck::cost(own, plan)?;
     Ok(Outcome { bound, cost, gap: cost - bound })
 }
 

@@ -3,13 +3,18 @@
 //! A supplier sends a farm a job, a file of four parts, whose bytes `docs/FORMAT.md` explains:
 //!
 //! - The **register**, part 1: what the farm may do and what it costs. Its choices, each a tank and a minute at which the tank may
-//!   be fed; its terms, each a set of choices and a coefficient that is added to the cost where all of them are fed; its windows,
-//!   rows and day's length.
+//!   be fed; its terms, each a set of choices and a coefficient that is added to the cost where all of them are fed, or a range of
+//!   coefficients, a low and a high one; its windows, rows and day's length.
 //! - The **scheme**, part 2: further variables, each the product of two others, and for each term the two variables whose product
 //!   it is. So the cost becomes a polynomial of degree 2.
 //! - The **certificate**, part 3: whole numbers which show that no plan that fits costs less than a bound.
 //! - The **plan**, part 4: which choices are fed. It costs the register's base cost and the coefficients of all terms whose choices
-//!   are all fed. It fits where the total of each row comes out; without rows every plan fits.
+//!   are all fed, of a range the high one. It fits where the total of each row comes out; without rows every plan fits.
+//!
+//! Where a term has a **range**, the plan chooses the coefficients: of each range the high one where it feeds all choices of the
+//! term, else the low one. Cost, bound, gap and our own certificate are of the coefficients that the plan chooses; so [`check`] and
+//! [`plain`] are given the plan too, and in a job part 4 stands between parts 2 and 3. With a gap of 0 no plan that fits is cheaper
+//! than this one, whatever the coefficients are within their ranges. [`search`] and [`penalty`] take the low coefficients.
 //!
 //! A job brings a register of its own: that it is accepted does not say that this is the farm's. `examples/own_register.rs` checks
 //! a job with the farm's own, and `docs/LINKING.md` explains it.
@@ -76,10 +81,10 @@ pub const MAX_PLAIN: usize = 1_294;
 pub const MAX_LISTING: usize = 4_096;
 
 /// No job of more bytes is accepted.
-pub const MAX_JOB: usize = 26_037;
+pub const MAX_JOB: usize = 27_061;
 
 /// A longer job is answered as its first so many bytes are.
-pub const MAX_JOB_READ: usize = 26_166;
+pub const MAX_JOB_READ: usize = 27_195;
 
 /// The number of an answer of [`raw`] where nothing is refused.
 pub const ACCEPTED: u8 = 0;
@@ -151,8 +156,9 @@ impl Refusal {
 
 impl std::error::Error for Refusal {}
 
-/// The plan that a search found (bit i is set when choice i is fed), its cost, and the number of partial plans visited, the empty
-/// one, full ones and those left at once included; with n choices never more than 2 to the power (n + 1), less 1.
+/// The plan that a search found (bit i is set when choice i is fed), its cost with the low coefficients of ranges, and the number
+/// of partial plans visited, the empty one, full ones and those left at once included; with n choices never more than 2 to the
+/// power (n + 1), less 1.
 #[derive(Clone, Copy, Debug, PartialEq, Eq)]
 pub struct Found {
     pub plan: u32,
@@ -160,8 +166,10 @@ pub struct Found {
     pub visits: u32,
 }
 
-/// What an accepted job comes to: the bound, below which no plan that fits the register's rows costs, the cost of its plan, and the
-/// gap, the cost less the bound. It is 0 or more, and no plan that fits is cheaper by more than the gap.
+/// What an accepted job comes to: the bound, below which no plan that fits the register's rows costs, the cost of its plan, and
+/// the gap, the cost less the bound. It is 0 or more, and no plan that fits is cheaper by more than the gap. Where there are
+/// ranges these are with the coefficients that the plan chooses, and where the gap is 0, no plan that fits is cheaper with any
+/// coefficients within the ranges.
 #[derive(Clone, Copy, Debug, PartialEq, Eq)]
 pub struct Outcome {
     pub bound: i64,
@@ -183,8 +191,8 @@ pub fn register(register: &[u8]) -> Result<Register, Refusal> {
     result(answer.number, answer.part, answer.position, answer.register)
 }
 
-/// Reads a scheme of a register. Parts 2 to 4 of a job are refused 12 in part 2 with the position at which part 3 begins, if part 2
-/// is right.
+/// Reads a scheme of a register. Part 2 of a job with all that stands behind it is refused 12 in part 2 with the position at which
+/// the next part begins, if part 2 is right: part 3 or, where the register has a range, part 4.
 pub fn scheme(register: &[u8], scheme: &[u8]) -> Result<Scheme, Refusal> {
     let answer = raw::scheme(register, scheme);
     result(answer.number, answer.part, answer.position, answer.scheme)
@@ -197,15 +205,16 @@ pub fn build(register: &[u8], buffer: &mut [u8]) -> Result<usize, Refusal> {
     result(answer.number, answer.part, answer.position, answer.count)
 }
 
-/// The cost of a plan. Refused 15 where the plan does not fit the register's rows.
+/// The cost of a plan, of a range with the high coefficient. Refused 15 where the plan does not fit the register's rows. Parts 4
+/// and 3 of a job with ranges are refused 12 in part 4 with the position at which part 3 begins, if part 4 is right.
 pub fn cost(register: &[u8], plan: &[u8]) -> Result<i64, Refusal> {
     let answer = raw::cost(register, plan);
     result(answer.number, answer.part, answer.position, answer.cost)
 }
 
-/// Finds a plan that fits the register's rows and costs at most any other that fits, of equals the smallest number. Refused 14
-/// where that takes more visits than the limit; it stops there, so the limit bounds the time of the call. As many as the limit
-/// are accepted. Refused 16 where no plan fits; 14 comes before it.
+/// Finds a plan that fits the register's rows and costs at most any other that fits, of equals the smallest number; costs are those
+/// with the low coefficients of ranges. Refused 14 where that takes more visits than the limit; it stops there, so the limit bounds
+/// the time of the call. As many as the limit are accepted. Refused 16 where no plan fits; 14 comes before it.
 pub fn search(register: &[u8], limit: u32) -> Result<Found, Refusal> {
     let answer = raw::search(register, limit);
     let found = Found { plan: answer.plan, cost: answer.cost, visits: answer.visits };
@@ -215,7 +224,7 @@ pub fn search(register: &[u8], limit: u32) -> Result<Found, Refusal> {
 /// Leaves the penalty form in the table, a function of the scheme's variables for solvers that take no conditions. Where every
 /// product is 1 just where both its operands are, the function is the cost of the plan that feeds the choices which are 1; its least
 /// value over all 0s and 1s is the least cost. Where the register has rows, the least value over those whose choices fit is the
-/// least cost of the plans that fit.
+/// least cost of the plans that fit. Costs are those with the low coefficients of ranges.
 ///
 /// The table has, row by row, (N + 1)² numbers for N variables, the choices and then the products: with y_0 = 1 and y_{i + 1} the
 /// variable i, the function is half of the sum of all numbers, that of row i and column j times y_i · y_j. Numbers behind these stay
@@ -225,24 +234,27 @@ pub fn penalty(register: &[u8], scheme: &[u8], table: &mut [i64]) -> Result<(), 
     result(answer.number, answer.part, answer.position, ())
 }
 
-/// Checks a certificate: the bound, below which no plan that fits the register's rows costs. R, what the certificate leaves over
-/// (docs/SUPPLIERS.md), is left in the table where the certificate's end command is reached, also where it is refused 9 there or 12
-/// behind it. Refused 9 where in some row of R the number on the diagonal is less than the absolute values of the others together.
-pub fn check(register: &[u8], scheme: &[u8], certificate: &[u8], table: &mut [i64]) -> Result<i64, Refusal> {
-    let answer = raw::check(register, scheme, certificate, table);
+/// Checks a certificate: the bound, below which no plan that fits the register's rows costs. Where the register has a range the
+/// plan chooses the coefficients: it is read before the certificate, and refused as by [`cost`]. Where it has none the plan's
+/// bytes are not looked at, and may be `&[]`. R, what the certificate leaves over (docs/SUPPLIERS.md), is left in the table where
+/// the certificate's end command is reached, also where it is refused 9 there or 12 behind it. Refused 9 where in some row of R
+/// the number on the diagonal is less than the absolute values of the others together.
+pub fn check(register: &[u8], scheme: &[u8], certificate: &[u8], plan: &[u8], table: &mut [i64]) -> Result<i64, Refusal> {
+    let answer = raw::check(register, scheme, certificate, plan, table);
     result(answer.number, answer.part, answer.position, answer.bound)
 }
 
-/// Writes a certificate that takes no solver: how many bytes were written to the front of the buffer. It is always accepted; its
-/// bound is often far below the least cost.
-pub fn plain(register: &[u8], scheme: &[u8], buffer: &mut [u8]) -> Result<usize, Refusal> {
-    let answer = raw::plain(register, scheme, buffer);
+/// Writes a certificate that takes no solver, for a plan that is looked at as by [`check`]: how many bytes were written to the front
+/// of the buffer. It is always accepted with this plan; its bound is often far below the least cost.
+pub fn plain(register: &[u8], scheme: &[u8], plan: &[u8], buffer: &mut [u8]) -> Result<usize, Refusal> {
+    let answer = raw::plain(register, scheme, plan, buffer);
     result(answer.number, answer.part, answer.position, answer.count)
 }
 
-/// A whole job of this supplier, 0 to 15, and the supplier's pair of the tally moved on; every other pair stays. Refused 15 where
-/// the plan does not fit the register's rows. Refused 17, before anything else, where there is no such supplier; tally and table
-/// then stay as they were. R is left in the table as by [`check`], also where the job is refused in part 4.
+/// A whole job of this supplier, 0 to 15, and the supplier's pair of the tally moved on; every other pair stays. Where the
+/// register has a range its parts stand in the order 1, 2, 4, 3. Refused 15 where the plan does not fit the register's rows.
+/// Refused 17, before anything else, where there is no such supplier; tally and table then stay as they were. R is left in the
+/// table where the end command of part 3 is reached, also where the job is refused 9 there or behind it.
 pub fn job(job: &[u8], table: &mut [i64], supplier: u8, tally: &mut Tally) -> Result<Outcome, Refusal> {
     let answer = raw::job(job, table, supplier, *tally);
     *tally = answer.tally;
@@ -250,9 +262,9 @@ pub fn job(job: &[u8], table: &mut [i64], supplier: u8, tally: &mut Tally) -> Re
     result(answer.number, answer.part, answer.position, outcome)
 }
 
-/// Writes the farm's lines of a job: for each choice `T`, its number, tank and minute, for each choice that the plan feeds `F`, tank
-/// and minute, and then `B`, bound, cost and gap; of a refused job the one line `R`, number and position, which is no refusal of this
-/// call. How many bytes were written to the front of the buffer.
+/// Writes the farm's lines of a job: for each choice `T`, its number, tank and minute, for each choice that the plan feeds `F`,
+/// tank and minute, and then `B`, bound, cost and gap; of a refused job the one line `R`, number and position, which is no refusal
+/// of this call. How many bytes were written to the front of the buffer.
 pub fn listing(job: &[u8], table: &mut [i64], buffer: &mut [u8]) -> Result<usize, Refusal> {
     let answer = raw::listing(job, table, buffer);
     result(answer.number, answer.part, answer.position, answer.count)

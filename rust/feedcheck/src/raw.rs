@@ -13,8 +13,10 @@ use crate::{MAX_CHOICES, MAX_PRODUCTS, MAX_ROWS, MAX_TERMS, MAX_WINDOWS, ROW_ENT
 ///   beginning; every minute is below day_length, and no window ends after it.
 /// - Choice number i is of the tank tanks\[i\], 1 to 9,999, at the minute minutes\[i\]. There is at least one choice. Choices rise by
 ///   tank and then by minute.
-/// - Term number t is of each choice i for which bit i of masks\[t\] is set, at least one; its coefficient coefficients\[t\] is
-///   -1,000,000 to 1,000,000 and not 0. Masks rise.
+/// - Term number t is of each choice i for which bit i of masks\[t\] is set, at least one. Masks rise. Where ranged\[t\] is
+///   false its coefficient is coefficients\[t\], which is not 0, and highs\[t\] is the same number. Where ranged\[t\] is true the term
+///   has a range, from coefficients\[t\] to highs\[t\]; each may be 0, and they may be equal. Coefficients, low and high, are
+///   -1,000,000 to 1,000,000.
 /// - Window number w is of the tank window_tanks\[w\]: window_froms\[w\] is its first minute, window_tos\[w\] the first minute after
 ///   it. Where a tank has no window, every minute of the day is allowed. Windows rise by tank and then by first minute; they may
 ///   overlap.
@@ -32,6 +34,8 @@ pub struct Register {
     pub minutes: [u16; MAX_CHOICES],
     pub masks: [u32; MAX_TERMS],
     pub coefficients: [i32; MAX_TERMS],
+    pub highs: [i32; MAX_TERMS],
+    pub ranged: [bool; MAX_TERMS],
     pub windows: usize,
     pub window_tanks: [u16; MAX_WINDOWS],
     pub window_froms: [u16; MAX_WINDOWS],
@@ -39,6 +43,14 @@ pub struct Register {
     pub rows: usize,
     pub row_totals: [i16; MAX_ROWS],
     pub row_entries: [i8; MAX_ROWS * ROW_ENTRIES],
+}
+
+impl Register {
+    /// Whether a term has a range, be its two coefficients equal. The plan of a job then stands before the certificate, and
+    /// [`check`](crate::check) and [`plain`](crate::plain) read the plan that they are given.
+    pub fn has_range(&self) -> bool {
+        self.ranged[..self.terms].contains(&true)
+    }
 }
 
 /// What a scheme says. Variables 0 to n - 1 are the register's n choices, and variable n + k is product number k: 1 where both its
@@ -109,7 +121,7 @@ pub struct CostAnswer {
     pub cost: i64,
 }
 
-/// Bit i of the plan is set where choice i is fed.
+/// Bit i of the plan is set where choice i is fed. The cost is that with the low coefficients where there are ranges.
 #[derive(Clone, Copy, Debug, PartialEq, Eq)]
 #[repr(C)]
 pub struct SearchAnswer {
@@ -184,6 +196,8 @@ mod linked {
             scheme_length: usize,
             certificate: *const u8,
             certificate_length: usize,
+            plan: *const u8,
+            plan_length: usize,
             table: *mut i64,
             table_length: usize,
         ) -> CheckAnswer;
@@ -192,6 +206,8 @@ mod linked {
             register_length: usize,
             scheme: *const u8,
             scheme_length: usize,
+            plan: *const u8,
+            plan_length: usize,
             buffer: *mut u8,
             buffer_length: usize,
         ) -> WriterAnswer;
@@ -255,7 +271,7 @@ pub fn penalty(register: &[u8], scheme: &[u8], table: &mut [i64]) -> PenaltyAnsw
     }
 }
 
-pub fn check(register: &[u8], scheme: &[u8], certificate: &[u8], table: &mut [i64]) -> CheckAnswer {
+pub fn check(register: &[u8], scheme: &[u8], certificate: &[u8], plan: &[u8], table: &mut [i64]) -> CheckAnswer {
     unsafe {
         linked::feedcheck_check(
             register.as_ptr(),
@@ -264,19 +280,23 @@ pub fn check(register: &[u8], scheme: &[u8], certificate: &[u8], table: &mut [i6
             scheme.len(),
             certificate.as_ptr(),
             certificate.len(),
+            plan.as_ptr(),
+            plan.len(),
             table.as_mut_ptr(),
             table.len(),
         )
     }
 }
 
-pub fn plain(register: &[u8], scheme: &[u8], buffer: &mut [u8]) -> WriterAnswer {
+pub fn plain(register: &[u8], scheme: &[u8], plan: &[u8], buffer: &mut [u8]) -> WriterAnswer {
     unsafe {
         linked::feedcheck_plain(
             register.as_ptr(),
             register.len(),
             scheme.as_ptr(),
             scheme.len(),
+            plan.as_ptr(),
+            plan.len(),
             buffer.as_mut_ptr(),
             buffer.len(),
         )

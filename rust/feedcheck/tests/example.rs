@@ -20,6 +20,7 @@ fn register() {
     assert_eq!(register.minutes[..4], [480, 720, 480, 0]);
     assert_eq!(register.masks[..4], [1, 2, 7, 0]);
     assert_eq!(register.coefficients[..4], [-6, -4, 5, 0]);
+    assert_eq!((register.highs, register.ranged), (register.coefficients, [false; feedcheck::MAX_TERMS]));
 }
 
 #[test]
@@ -73,11 +74,11 @@ fn penalty() {
 #[test]
 fn check() {
     let mut table = vec![77; feedcheck::TABLE_NUMBERS];
-    assert_eq!(feedcheck::check(&REGISTER, &SCHEME, &CERTIFICATE, &mut table), Ok(0));
+    assert_eq!(feedcheck::check(&REGISTER, &SCHEME, &CERTIFICATE, &[], &mut table), Ok(0));
     assert!(table[..36].iter().all(|&number| number == 0));
     let mut higher = CERTIFICATE;
     higher[5] = 1;
-    let refusal = feedcheck::check(&REGISTER, &SCHEME, &higher, &mut table).unwrap_err();
+    let refusal = feedcheck::check(&REGISTER, &SCHEME, &higher, &[], &mut table).unwrap_err();
     assert_eq!((refusal.number, refusal.part, refusal.position), (9, 3, 43));
     assert_eq!(table[0], -2);
 }
@@ -87,9 +88,9 @@ fn plain() {
     let mut scheme = [0; 13];
     feedcheck::build(&REGISTER, &mut scheme).unwrap();
     let mut buffer = [0; feedcheck::MAX_PLAIN];
-    let count = feedcheck::plain(&REGISTER, &scheme, &mut buffer).unwrap();
+    let count = feedcheck::plain(&REGISTER, &scheme, &[], &mut buffer).unwrap();
     let mut table = vec![0; feedcheck::TABLE_NUMBERS];
-    assert_eq!(feedcheck::check(&REGISTER, &scheme, &buffer[..count], &mut table), Ok(-6));
+    assert_eq!(feedcheck::check(&REGISTER, &scheme, &buffer[..count], &[], &mut table), Ok(-6));
 }
 
 fn whole() -> Vec<u8> {

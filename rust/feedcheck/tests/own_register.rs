@@ -114,3 +114,23 @@ fn another_part_1() {
     higher[35 + 69] = 1;
     assert_eq!(program::check(&own, &higher), refused(Refusal::FALLS_SHORT, 3, 35 + 107));
 }
+
+/// The farm's register has a range where the part 1 that the supplier sent has none, and the other way round: the parts stand in
+/// another order. Where both have one they stand in the same.
+#[test]
+fn ranges() {
+    let (own, job) = (example("example.register"), example("example.job"));
+    let range = [&[0x16, 1, 0, 0, 0][..], &(-6i32).to_le_bytes(), &(-6i32).to_le_bytes()].concat();
+    let ranged = [&own[..20], &range, &own[29..]].concat();
+    assert_eq!(program::check(&ranged, &job), refused(Refusal::NO_COMMAND, 4, 64));
+    let supplier = [&ranged[..], &job[48..64], &job[108..], &job[64..108]].concat();
+    assert_eq!(program::check(&ranged, &supplier), Ok(Outcome { bound: 0, cost: 0, gap: 0 }));
+    assert_eq!(program::check(&own, &supplier), refused(Refusal::NO_COMMAND, 3, 68));
+    assert_eq!(program::check(&ranged, &supplier[..73]), refused(Refusal::CUT_SHORT, 3, 73));
+    assert_eq!(program::check(&ranged, &[&supplier[..], &[0]].concat()), refused(Refusal::PAST_END, 3, 117));
+    let mut higher = supplier;
+    higher[73 + 5] = 1;
+    assert_eq!(program::check(&ranged, &higher), refused(Refusal::FALLS_SHORT, 3, 116));
+    higher[69] = 8;
+    assert_eq!(program::check(&ranged, &higher), refused(Refusal::NOT_THERE, 4, 68));
+}

@@ -108,13 +108,13 @@ fn place() {
     assert_eq!(refused(feedcheck::register(&[&FRONT[..5], &row(0, &[]), &FRONT[5..10]].concat())), (1, 1, 40));
 }
 
-/// The rows stand at the end of the record, so that every other field is where it was.
+/// The rows stand at the end of the record.
 #[test]
 fn record() {
-    assert_eq!((size_of::<raw::RegisterAnswer>(), size_of::<raw::Register>()), (2_888, 2_872));
-    assert_eq!((offset_of!(raw::Register, windows), offset_of!(raw::Register, window_tos)), (2_200, 2_464));
-    assert_eq!(offset_of!(raw::Register, rows), 2_592);
-    assert_eq!((offset_of!(raw::Register, row_totals), offset_of!(raw::Register, row_entries)), (2_600, 2_616));
+    assert_eq!((size_of::<raw::RegisterAnswer>(), size_of::<raw::Register>()), (4_168, 4_152));
+    assert_eq!((offset_of!(raw::Register, windows), offset_of!(raw::Register, window_tos)), (3_480, 3_744));
+    assert_eq!(offset_of!(raw::Register, rows), 3_872);
+    assert_eq!((offset_of!(raw::Register, row_totals), offset_of!(raw::Register, row_entries)), (3_880, 3_896));
 }
 
 #[test]
@@ -151,17 +151,17 @@ fn search() {
 #[test]
 fn check() {
     let mut table = vec![77; feedcheck::TABLE_NUMBERS];
-    assert_eq!(feedcheck::check(&twice(), &scheme(), &certificate(20), &mut table), Ok(10));
+    assert_eq!(feedcheck::check(&twice(), &scheme(), &certificate(20), &[], &mut table), Ok(10));
     assert!(table[..36].iter().all(|&number| number == 0));
-    assert_eq!(refused(feedcheck::check(&twice(), &scheme(), &certificate(21), &mut table)), (9, 3, 147));
+    assert_eq!(refused(feedcheck::check(&twice(), &scheme(), &certificate(21), &[], &mut table)), (9, 3, 147));
     // With the row left out, or another in its place, the row that `3B` names is not there, or the certificate falls short.
-    assert_eq!(refused(feedcheck::check(&register(&[]), &scheme(), &certificate(20), &mut table)), (5, 3, 13));
+    assert_eq!(refused(feedcheck::check(&register(&[]), &scheme(), &certificate(20), &[], &mut table)), (5, 3, 13));
     let other = register(&[row(1, &[1, 1, 1, 1])]);
-    assert_eq!(refused(feedcheck::check(&other, &scheme(), &certificate(20), &mut table)), (9, 3, 147));
+    assert_eq!(refused(feedcheck::check(&other, &scheme(), &certificate(20), &[], &mut table)), (9, 3, 147));
 
     let mut form = |names: &[u8], m| {
         let bytes = [add(&[0x30, 2, 0, 0, 0], 0), add(names, m)].concat();
-        refused(feedcheck::check(&twice(), &scheme(), &bytes, &mut table))
+        refused(feedcheck::check(&twice(), &scheme(), &bytes, &[], &mut table))
     };
     assert_eq!(form(&[0x3B, 0, 4], 1_000_000_000), (2, 3, 24));
     assert_eq!(form(&[0x3B, 0, 4], 1_000_000_001), (4, 3, 13));
@@ -176,7 +176,7 @@ fn places() {
     let mut table = vec![0; feedcheck::TABLE_NUMBERS];
     let bytes = [add(&[0x30, 1, 0, 0, 0], -1_000), add(&[0x3B, 0, 1], 3), vec![0x3F]].concat();
     let register = [&FRONT[..], &row(2, &[5, -7, 0, 11]), &[0x1F]].concat();
-    assert_eq!(refused(feedcheck::check(&register, &[0x2F], &bytes, &mut table)), (9, 3, 24));
+    assert_eq!(refused(feedcheck::check(&register, &[0x2F], &bytes, &[], &mut table)), (9, 3, 24));
     let expected = [[2_040, 0, -6, 0, 0, 0], [0, 0, 15, 0, 0, 0], [-6, 15, -42, 0, 33, 0], [0; 6], [0, 0, 33, 0, 0, 0], [0; 6]];
     assert_eq!(table[..36], expected.concat());
 }
@@ -191,10 +191,10 @@ fn rows_not_looked_at() {
         feedcheck::penalty(&self::register(&[]), &scheme(), &mut other).unwrap();
         assert_eq!(table, other);
         let (mut buffer, mut without) = ([0; feedcheck::MAX_PLAIN], [0; feedcheck::MAX_PLAIN]);
-        let count = feedcheck::plain(&register, &scheme(), &mut buffer).unwrap();
-        assert_eq!(feedcheck::plain(&self::register(&[]), &scheme(), &mut without), Ok(count));
+        let count = feedcheck::plain(&register, &scheme(), &[], &mut buffer).unwrap();
+        assert_eq!(feedcheck::plain(&self::register(&[]), &scheme(), &[], &mut without), Ok(count));
         assert_eq!(buffer, without);
-        assert!(feedcheck::check(&register, &scheme(), &buffer[..count], &mut table).unwrap() <= 8);
+        assert!(feedcheck::check(&register, &scheme(), &buffer[..count], &[], &mut table).unwrap() <= 8);
     }
 }
 
