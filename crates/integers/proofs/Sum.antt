@@ -2,10 +2,10 @@
 use mathlib.Core.Path.{◌≡◌, refl, sym, ◌∙◌, ap, ap₂, subst}
 use mathlib.Core.Bool.{Bool, true, false, cond}
 use mathlib.Core.List.{List, [], ◌∷◌, ◌++◌, map, flat_map}
-use Prim.Native.Nat.{ℕ, zero, suc, ◌+◌, ◌*◌, ◌≤◌, ◌<◌}
+use Prim.Native.Nat.{ℕ, zero, suc, min, ◌+◌, ◌-◌, ◌*◌, ◌≤◌, ◌<◌}
 use native.Mathlib.Omega.{arith}
-use native.Mathlib.Decide.{ℕ_discrete}
-use native.Mathlib.Nat.{add-zero, add-suc, zero-mul, suc-mul}
+use native.Mathlib.Decide.{ℕ_discrete, dec_lt}
+use native.Mathlib.Nat.{add-zero, add-suc, zero-mul, suc-mul, min-eq_left, min-eq_right}
 use lib.Dec.{T, eqb, eqb→eq, eqb_refl}
 use lib.ListN.{length}
 use lib.IntN.{ℤ, pos, neg_ℤ, ◌+ℤ◌, ◌-ℤ◌, ◌*ℤ◌, nat_abs, +ℤ_assoc, +ℤ_comm, +ℤ_idl, +ℤ_idr, *ℤ-zero, *ℤ_comm, neg_ℤ-+ℤ}
@@ -95,6 +95,23 @@ unfolding sum_below
 sum_below_first zero f = +ℤ_comm (pos 0) (f 0)
 sum_below_first (suc n) f =
     ap (λ x. x +ℤ f (suc n)) (sum_below_first n f) ∙ +ℤ_assoc (f 0) (sum_below n (λ i. f (suc i))) (f (suc n))
+
+-- what f is from k on does not count where it is 0
+
+sum_below_past : (k m : ℕ) (f : ℕ → ℤ) → ((i : ℕ) → k ≤ i → f i ≡ pos 0) → sum_below (k + m) f ≡ sum_below k f
+unfolding sum_below
+sum_below_past k zero f h = rw add-zero
+sum_below_past k (suc m) f h = rw (add-suc, h (k + m) (omega arith)) (+ℤ_idr _ ∙ sum_below_past k m f h)
+
+pub sum_below_min : (n k : ℕ) (f : ℕ → ℤ) → ((i : ℕ) → k ≤ i → f i ≡ pos 0) → sum_below (min n k) f ≡ sum_below n f
+sum_below_min n k f h = go (dec_lt n k)
+  where
+    go : Dec (n < k) → sum_below (min n k) f ≡ sum_below n f
+    go (yes l) = let below : n ≤ k = omega arith in rw (min-eq_left below)
+    go (no d) =
+        let above : k ≤ n = omega arith in
+        let all : k + (n - k) ≡ n = omega arith in
+        rw (min-eq_right above) (sym (sum_below_past k (n - k) f h) ∙ ap (λ m. sum_below m f) all)
 
 pub except_same : (k : ℕ) (f : ℕ → ℤ) → except k f k ≡ pos 0
 unfolding except

@@ -2,7 +2,7 @@
 use mathlib.Core.Path.{◌≡◌, refl, sym, ◌∙◌, ap, ap₂}
 use mathlib.Core.Bool.{Bool, true, false, cond, ◌&&◌}
 use mathlib.Core.Logic.{◌↔◌}
-use Prim.Native.Nat.{ℕ, zero, suc, ◌+◌, ◌*◌, ◌≤◌, ◌<◌}
+use Prim.Native.Nat.{ℕ, zero, suc, min, ◌+◌, ◌*◌, ◌≤◌, ◌<◌}
 use native.Mathlib.Numerals.{add-one}
 use native.Mathlib.Omega.{arith}
 use lib.IntN.{ℤ, pos, nat_abs, ◌+ℤ◌}
@@ -11,7 +11,7 @@ use Rattle.std.proofs.lemmas.Bool.Decides.{Decides-int_eq}
 use Rattle.integers.specs.Lists.{all_below}
 use Rattle.integers.specs.Sum.{sum_below}
 use Rattle.integers.proofs.Lists.{T_true, all_below_at, all_below_by}
-use Rattle.integers.proofs.Sum.{sum_below_cong, nat_abs-sum}
+use Rattle.integers.proofs.Sum.{sum_below_cong, sum_below_min, nat_abs-sum}
 use Rattle.sets.specs.Sets.{is_member, set_of}
 use Rattle.sets.proofs.Sets.{member_set_of}
 use Rattle.register.specs.declared.Register.{Register}
@@ -45,6 +45,15 @@ fed_sum_small n entry plan c h = nat_abs-sum n c _ (λ j l. go (is_member j plan
 pub fed_sum_cong : (n : ℕ) (entry entry' : ℕ → ℤ) (plan : ℕ) → ((j : ℕ) → j < n → entry j ≡ entry' j) → fed_sum n entry plan ≡ fed_sum n entry' plan
 unfolding fed_sum
 fed_sum_cong n entry entry' plan h = sum_below_cong n _ _ (λ j l. ap (λ x. cond (is_member j plan) x (pos 0)) (h j l))
+
+-- up to the lower of two bounds, where the entries are 0 from one of them on
+pub fed_sum_min : (n k : ℕ) (entry : ℕ → ℤ) (plan : ℕ) → ((j : ℕ) → k ≤ j → entry j ≡ pos 0) → fed_sum (min n k) entry plan ≡ fed_sum n entry plan
+unfolding fed_sum
+fed_sum_min n k entry plan h = sum_below_min n k (λ j. cond (is_member j plan) (entry j) (pos 0)) (λ j l. rw (h j l) (none (is_member j plan)))
+  where
+    none : (b : Bool) → cond b (pos 0) (pos 0) ≡ pos 0
+    none true = refl
+    none false = refl
 
 -- of the set of the choices with a property
 pub fed_sum-set : (n : ℕ) (entry : ℕ → ℤ) (z : ℕ → Bool) → fed_sum n entry (set_of n z) ≡ sum_below n (λ j. cond (z j) (entry j) (pos 0))

@@ -9,3 +9,4 @@ pub mod Bounds
 pub mod Prefix
 pub mod Fits
 pub mod BeforeRows
+pub mod BeforeWide

@@ -10,17 +10,17 @@ use Rattle.wire.specs.Rows.{Progress, size_of}
 use Rattle.wire.proofs.Prefix.{Limited, limited, read_prefix, end_within}
 use Rattle.register.specs.declared.Register.{Register}
 use Rattle.register.specs.Register as R
-use Rattle.plan.specs.Format.{plan_row, plan_part, plan_in_job}
+use Rattle.plan.specs.Format.{wide_plan_row, plan_part, plan_in_job}
 
--- a plan is one command
+-- a plan is one command, and `41` the longer one
 unfoldable pub plan_longest : ℕ
-plan_longest = size_of (plan_row R.fresh)
+plan_longest = size_of (wide_plan_row R.fresh)
 
 module _ (reg : Register) where
   -- the only command stands at the start
-  limits : Limited (plan_part reg) (λ p at. at ≡ 0) 0 5 5
+  limits : Limited (plan_part reg) (λ p at. at ≡ 0) 0 9 (λ p. 9)
   unfolding total
-  limits = limited 0 _ (omega arith) refl (λ p at r. omega arith) (record { small = omega arith; moves = λ p at xs r e h. omega arith } ▹ tt)
+  limits = limited 0 _ (omega arith) refl (λ p at r. omega arith) (record { small = omega arith; moves = λ p at xs r e h. omega arith } ▹ record { small = omega arith; moves = λ p at xs r e h. omega arith } ▹ tt)
 
   pub plan_prefix : (K : ℕ) (s : List ℕ) → plan_longest ≤ K → plan_in_job reg (take K s) ≡ plan_in_job reg s
   unfolding plan_in_job plan_longest total

@@ -1,11 +1,20 @@
--- What the cost call answers, by what reading leads to.
-use Rattle.std.specs.Prelude.{ℕ, List, ℤ, pos}
+-- What the cost call answers, by what reading leads to; and what the code has of the plan's command.
+use Rattle.std.specs.Prelude.{ℕ, cond, eqb, List, [], ◌∷◌, get_or, ℤ, pos}
+use Rattle.wire.specs.Number.{nat_at}
 use Rattle.wire.specs.Outcome.{Outcome, accepts, given, and_then, answer_by}
 use Rattle.register.specs.Opening.{open_register}
 use Rattle.plan.specs.declared.CostAnswer.{CostAnswer}
 use Rattle.plan.specs.Plan.{cost}
 use Rattle.plan.specs.Chosen.{chosen}
 use Rattle.plan.specs.Format.{plan_by_itself}
+
+-- the bytes of the plan's commands
+abbrev pub plan_bytes : List ℕ
+plan_bytes = 0x40 ∷ 0x41 ∷ []
+
+-- the plan that the command at the front says
+abbrev pub plan_said : List ℕ → ℕ
+plan_said s = nat_at (cond (eqb (get_or s 0 0) 0x41) 8 4) s 1
 
 -- number, part and position of a refusal, other fields 0; or zeros and the cost
 

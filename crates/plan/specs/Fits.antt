@@ -1,4 +1,4 @@
--- Whether a plan fits the rows of a register, each an entry for every choice and a total.
+-- Whether a plan fits the rows of a register, each an entry for every choice, which is 0 from choice 32 on, and a total.
 use Rattle.std.specs.Prelude.{ℕ, ◌<◌, ◌≡◌, Bool, cond, List, ℤ, pos}
 use Rattle.std.specs.Ordering.{int_eq}
 use Rattle.integers.specs.Lists.{all_below}

@@ -1,4 +1,4 @@
--- The plan's command, `40`, with a register.
+-- The plan's commands, `40` and `41`, with a register. One of them is the plan.
 use Rattle.std.specs.Prelude.{ℕ, ◌^◌, Bool, true, not, List, [], ◌∷◌, leb}
 use Rattle.wire.specs.Checks.{Check, check}
 use Rattle.wire.specs.Part.{Part, Reading, read_part, by_itself}
@@ -10,7 +10,7 @@ use Rattle.plan.specs.Fits.{fits}
 unfoldable pub plan_checks : (n plan : ℕ) → (fitting : Bool) → List Check
 plan_checks n plan fitting = check 5 (leb (2 ^ n) plan) ∷ check 15 (not fitting) ∷ []
 
--- `40`: a set of choices as four bytes, one bit each; nothing follows it
+-- `40`: a set of choices as four bytes, one bit each, so it names choices 0 to 31 only; nothing follows it
 abbrev pub plan_row : Register → Row ℕ
 plan_row reg = record {
   byte = 0x40;
@@ -21,8 +21,12 @@ plan_row reg = record {
   last = true;
 }
 
+-- `41`: as eight bytes, and in all else as `40` is
+abbrev pub wide_plan_row : Register → Row ℕ
+wide_plan_row reg = record (plan_row reg) { byte = 0x41; widths = 8 ∷ [] }
+
 abbrev pub plan_rows : Register → List (Row ℕ)
-plan_rows reg = plan_row reg ∷ []
+plan_rows reg = plan_row reg ∷ wide_plan_row reg ∷ []
 
 abbrev pub plan_part : Register → Part (Progress ℕ)
 plan_part reg = part_of 0 (plan_rows reg)

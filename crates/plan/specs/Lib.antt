@@ -1,5 +1,5 @@
 -- Part 4 of the job file, whether a plan fits rows, the coefficients that a plan chooses, and its cost; and how a plan was read before
--- there were rows.
+-- there were rows, and before `41`.
 pub mod Plan
 pub mod Fits
 pub mod Chosen
@@ -8,3 +8,4 @@ pub mod Format
 pub mod Encoding
 pub mod Answer
 pub mod BeforeRows
+pub mod BeforeWide

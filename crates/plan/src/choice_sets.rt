@@ -5,7 +5,7 @@ ghost use Rattle.sets.specs.Sets.{is_member, is_subset};
 
 // A set has choice i.
 #[tactic(auto, unfolding(sets::specs::Sets::is_member))]
-pub fn has(set: u32, i: usize) -> bool
+pub fn has(set: u64, i: usize) -> bool
     requires { i < max_choices }
     ensures { result ≡ is_member i set }
 {
@@ -14,14 +14,14 @@ pub fn has(set: u32, i: usize) -> bool
 
 // A set has every choice of a mask.
 #[tactic(auto, unfolding(sets::specs::Sets::is_subset))]
-pub fn within(mask: u32, set: u32) -> bool
+pub fn within(mask: u64, set: u64) -> bool
     ensures { result ≡ is_subset mask set }
 {
     set & mask == mask
 }
 
 // An amount where a set has every choice of a mask, and else 0.
-pub fn where_within(mask: u32, set: u32, amount: i32) -> i32
+pub fn where_within(mask: u64, set: u64, amount: i32) -> i32
     ensures { result ≡ cond (is_subset mask set) amount (pos 0) }
 {
     if within(mask, set) { amount } else { 0 }

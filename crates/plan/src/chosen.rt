@@ -8,7 +8,7 @@ use super::choice_sets::within;
 use register::Register;
 
 // The coefficient of a term that a plan chooses: high where it feeds all choices of the term, else low.
-fn chosen_of(register: &Register, plan: u32, term: usize) -> i32
+fn chosen_of(register: &Register, plan: u64, term: usize) -> i32
     requires { term < max_terms }
     ensures { result ≡ chosen register.now plan term }
 {
@@ -20,7 +20,7 @@ fn chosen_of(register: &Register, plan: u32, term: usize) -> i32
 }
 
 // The same register with these coefficients as its low ones.
-pub fn under(mut register: Register, plan: u32) -> Register
+pub fn under(mut register: Register, plan: u64) -> Register
     requires { Within register }
     ensures { result ≡ under register plan }
 {

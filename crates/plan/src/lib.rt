@@ -2,19 +2,20 @@
 
 #![tactic(auto)]
 
-ghost use Rattle.std.specs.Prelude.{◌≡◌, ◌<◌, ◌≤◌, eqb, length, get_or};
-ghost use Rattle.wire.specs.Number.{nat_at};
-ghost use Rattle.wire.specs.Checks.{command_checks, refusal};
+ghost use Rattle.std.specs.Prelude.{◌≡◌, ◌<◌, ◌≤◌, true, length, get_or};
+ghost use Rattle.wire.specs.Checks.{refusal};
+ghost use Rattle.wire.specs.Part.{size, checks_at};
 ghost use Rattle.wire.specs.Outcome.{added_by};
 ghost use Rattle.wire.specs.Results.{number_of, number_in, reading_of, outcome_of};
-ghost use Rattle.wire.specs.Rows.{size_of};
+ghost use Rattle.wire.specs.Rows.{is_among};
+ghost use Rattle.register.specs.declared.Register.{Register};
 ghost use Rattle.register.specs.Limits.{max_choices, max_rows};
 ghost use Rattle.register.specs.Valid.{Within};
 ghost use Rattle.plan.specs.Plan.{cost};
 ghost use Rattle.plan.specs.Chosen.{chosen};
 ghost use Rattle.plan.specs.Fits.{fits};
-ghost use Rattle.plan.specs.Format.{plan_checks, plan_row, plan_in_job};
-ghost use Rattle.plan.specs.Answer.{refused_cost, cost_outcome, cost_answer};
+ghost use Rattle.plan.specs.Format.{plan_part, plan_in_job};
+ghost use Rattle.plan.specs.Answer.{plan_bytes, plan_said, refused_cost, cost_outcome, cost_answer};
 
 pub mod choice_sets;
 pub mod chosen;
@@ -49,26 +50,58 @@ impl CostAnswer {
     }
 }
 
-// How many bytes the command has: its own byte and the plan.
+// How many bytes a command has: its own byte and the plan.
+
 const PLAN_SIZE: usize = 1 + 4;
+
+const WIDE_PLAN_SIZE: usize = 1 + 8;
+
+// A command is a plan.
+fn is_plan(command: u8) -> bool
+    ensures { result ≡ is_among command plan_bytes }
+{
+    (command == 0x40) | (command == 0x41)
+}
+
+// The bytes of a command.
+fn command_size(command: u8) -> usize
+    ensures { (reg : Register) → result ≡ size (plan_part reg) command }
+{
+    match command {
+        0x40 => PLAN_SIZE,
+        0x41 => WIDE_PLAN_SIZE,
+        _ => 1,
+    }
+}
+
+// The plan that the command at the front of a run of bytes says.
+fn plan_said(bytes: &[u8]) -> u64
+    requires room { (reg : Register) → size (plan_part reg) (get_or bytes.now 0 0) ≤ length bytes.now }
+    requires plan { is_among (get_or bytes.now 0 0) plan_bytes ≡ true }
+    ensures { result ≡ plan_said bytes.now }
+{
+    if bytes[0] == 0x41 {
+        u64::read(bytes, 1)
+    } else {
+        u64::from(u32::read(bytes, 1))
+    }
+}
 
 // The checks of the plan at the front of a run of bytes.
 fn plan_refusal(bytes: &[u8], register: &Register) -> Result<(), Refusal>
     requires bytes_nonzero { 0 < length bytes.now }
     requires choices_within { register.now.choices ≤ max_choices }
     requires rows_within { register.now.rows ≤ max_rows }
-    ensures { number_in result ≡ refusal (command_checks (eqb (get_or bytes.now 0 0) 0x40) (length bytes.now) (size_of (plan_row register.now))
-        (plan_checks register.now.choices (nat_at 4 bytes.now 1) (fits register.now (nat_at 4 bytes.now 1)))) }
+    ensures { number_in result ≡ refusal (checks_at (plan_part register.now) bytes.now (plan_part register.now).start 0) }
 {
-    check_command(bytes[0] == 0x40, bytes.len(), PLAN_SIZE)?;
-    let plan = u32::read(bytes, 1);
-    let absent = 1u64 << register.choices <= u64::from(plan);
-    refuse_if(absent, Refusal::NotThere)?;
+    check_command(is_plan(bytes[0]), bytes.len(), command_size(bytes[0]))?;
+    let plan = plan_said(bytes);
+    refuse_if(1u64 << register.choices <= plan, Refusal::NotThere)?;
     refuse_if(!fits_rows(register, plan), Refusal::Misfit)
 }
 
 // The plan at the front of a run of bytes.
-pub fn read_plan(bytes: &[u8], register: Register) -> Result<Read<u32>, Refused>
+pub fn read_plan(bytes: &[u8], register: Register) -> Result<Read<u64>, Refused>
     requires choices_within { register.choices ≤ max_choices }
     requires rows_within { register.rows ≤ max_rows }
     ensures { reading_of result ≡ added_by (λ plan. plan) (plan_in_job register bytes.now) }
@@ -81,8 +114,8 @@ pub fn read_plan(bytes: &[u8], register: Register) -> Result<Read<u32>, Refused>
     }
     match plan_refusal(bytes, &register) {
         Ok(()) => Ok(Read {
-            value: u32::read(bytes, 1),
-            end: PLAN_SIZE,
+            value: plan_said(bytes),
+            end: command_size(bytes[0]),
         }),
         Err(refusal) => Err(Refused {
             refusal,
@@ -92,7 +125,7 @@ pub fn read_plan(bytes: &[u8], register: Register) -> Result<Read<u32>, Refused>
 }
 
 // The cost of a plan: the base cost and what each term adds, which is high where the term has a range.
-pub fn cost_of(register: Register, plan: u32) -> i64
+pub fn cost_of(register: Register, plan: u64) -> i64
     requires { Within register }
     ensures { result ≡ cost (chosen register plan) register plan }
 {

@@ -16,22 +16,22 @@ fn entry_where(fed: bool, entry: i8) -> i32
     if fed { i32::from(entry) } else { 0 }
 }
 
-// The sum of a row's entries at the choices that a plan feeds.
-fn fed_sum(register: &Register, row: usize, plan: u32) -> i32
+// The sum of a row's entries at the choices that a plan feeds. A row has none for choices from 32 on.
+fn fed_sum(register: &Register, row: usize, plan: u64) -> i32
     requires row_lt_max_rows { row < max_rows }
     requires choices_within { register.now.choices ≤ max_choices }
     ensures { result ≡ fed_sum register.now.choices (row_entry register.now row) plan }
 {
     let start = row * Register::ROW_ENTRIES;
     let mut sum = 0;
-    for j in 0..register.choices {
+    for j in 0..register.choices.min(Register::ROW_ENTRIES) {
         sum += entry_where(has(plan, j), register.row_entries[start + j]);
     }
     sum
 }
 
 // A plan fits the rows of a register: in each the fed entries come to the row's total.
-pub fn fits_rows(register: &Register, plan: u32) -> bool
+pub fn fits_rows(register: &Register, plan: u64) -> bool
     requires choices_within { register.now.choices ≤ max_choices }
     requires rows_within { register.now.rows ≤ max_rows }
     ensures { result ≡ fits register.now plan }

@@ -35,7 +35,7 @@ pub header_says : (B : Type 0) (r : Register) (cs : List Command) → Header r c
 header_says B r cs h =
     optional_map (Only (λ c. c ≡ base_command r.base)) (Only (BaseWhere B r)) (r.day_length ≡ usual_day) (λ c. c ≡ length_command r.day_length) (LengthWhere B r) (λ ds. only_map (λ c. c ≡ base_command r.base) (BaseWhere B r) (λ c f. (rw f, λ b. f))) (λ c f. (rw f, λ b. f)) h
 
-means : Means Done Valid Commands 0x1F
+means : Means Done Valid Commands (λ b. b ≡ 0x1F)
 means = ends_means Valid HeaderWhere kinds end_command Header header_said header_says
 
 pub commands_accepted : (r : Register) (cs : List Command) → Valid r → Commands r cs → Accepts register_part register_part.start cs (reached (last_from 0 cs) r)

@@ -21,7 +21,7 @@ use Rattle.register.specs.Limits.{usual_day}
 use Rattle.register.specs.Register.{fresh}
 use Rattle.register.specs.Format.{choice_checks, choice_row, window_checks, window_row, register_rows, register_part, register_in_job, register_by_itself}
 use Rattle.register.specs.Encoding.{SaysLength, SaysRow, SaysRange}
-use Rattle.register.specs.BeforeRows.{term_row_before_rows, end_row_before_rows, rows_before_rows, part_before_rows, in_job_before_rows}
+use Rattle.register.specs.BeforeRows.{term_row_before_rows, wide_term_row_before_rows, end_row_before_rows, rows_before_rows, part_before_rows, in_job_before_rows}
 use Rattle.register.specs.BeforeLengths.{choice_checks_before_lengths, window_checks_before_lengths, rows_before_lengths, part_before_lengths, in_job_before_lengths, by_itself_before_lengths}
 use Rattle.register.proofs.DayLengths.{length_said}
 use Rattle.register.proofs.BeforeRows.{as_before_rows_in_job}
@@ -33,7 +33,7 @@ unfolding row_of
 first_base b =
     by_bytes (λ b. register_part.here register_part.start b ≡ true → b ≡ 0x10) register_rows b
     (λ n h. absurd (false≢true (ap (λ row. is_among 0 row.follows) (sym (no_row_lem register_rows b n)) ∙ h)))
-    ((λ h. refl) ▹ (λ h. absurd (false≢true h)) ▹ (λ h. absurd (false≢true h)) ▹ (λ h. absurd (false≢true h)) ▹ (λ h. absurd (false≢true h)) ▹ (λ h. absurd (false≢true h)) ▹ (λ h. absurd (false≢true h)) ▹ (λ h. absurd (false≢true h)) ▹ tt)
+    ((λ h. refl) ▹ (λ h. absurd (false≢true h)) ▹ (λ h. absurd (false≢true h)) ▹ (λ h. absurd (false≢true h)) ▹ (λ h. absurd (false≢true h)) ▹ (λ h. absurd (false≢true h)) ▹ (λ h. absurd (false≢true h)) ▹ (λ h. absurd (false≢true h)) ▹ (λ h. absurd (false≢true h)) ▹ tt)
 
 starts_base : (s : List ℕ) {p : Progress Register} {end : ℕ} → register_in_job s ≡ accepted p end → get_or s 0 0 ≡ 0x10
 unfolding register_in_job read_part
@@ -93,7 +93,7 @@ module _ (s : List ℕ) (none : SaysLength s → ⊥) where
     none_alike b n =
         neither part_before_rows part_before_lengths Reach
         (ap (λ row. is_among p.previous row.follows) (no_row_lem rows_before_rows b n))
-        (ap (λ row. is_among p.previous row.follows) (no_row_lem rows_before_lengths b (n.0 ▹ n.1.0 ▹ n.1.1.0 ▹ n.1.1.1.0 ▹ n.1.1.1.1.1)))
+        (ap (λ row. is_among p.previous row.follows) (no_row_lem rows_before_lengths b (n.0 ▹ n.1.0 ▹ n.1.1.0 ▹ n.1.1.1.0 ▹ n.1.1.1.1.0 ▹ n.1.1.1.1.1.1)))
 
     -- a choice has a minute of the usual day, and a window ends with it at the latest
     alike : AlikeAt (get_or s at 0)
@@ -104,6 +104,7 @@ module _ (s : List ℕ) (none : SaysLength s → ⊥) where
         ▹ (λ e. later_alike 0x11 (omega arith) (λ e. omega arith) (moved_row choice_row) (rw (ne_eqb p.previous 0x18 r.no_length, or-false)) (λ t e. false≢true (rw e at t)) (λ u xs. rw u) (λ xs. refl))
         ▹ (λ e. later_alike 0x12 (omega arith) (λ e. omega arith) (moved_row term_row_before_rows) (rw (ne_eqb p.previous 0x18 r.no_length, or-false)) (λ t e. false≢true (rw e at t)) (λ u xs. refl) (λ xs. refl))
         ▹ (λ e. later_alike 0x13 (omega arith) (λ e. omega arith) (moved_row window_row) (rw (ne_eqb p.previous 0x18 r.no_length, or-false)) (λ t e. false≢true (rw e at t)) (λ u xs. rw u) (λ xs. refl))
+        ▹ (λ e. later_alike 0x15 (omega arith) (λ e. omega arith) (moved_row wide_term_row_before_rows) (rw (ne_eqb p.previous 0x18 r.no_length, or-false)) (λ t e. false≢true (rw e at t)) (λ u xs. refl) (λ xs. refl))
         ▹ length_alike
         ▹ (λ e. later_alike 0x1F (omega arith) (λ e. omega arith) (moved_row end_row_before_rows) (rw (ne_eqb p.previous 0x18 r.no_length, or-false)) (λ t e. false≢true (rw e at t)) (λ u xs. refl) (λ xs. refl))
         ▹ tt) refl

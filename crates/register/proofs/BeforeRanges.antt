@@ -46,7 +46,7 @@ pub agree : (p : Progress Register) (at c : ℕ) → Reach p at → (c ≡ 0x16 
 unfolding row_of
 agree =
     agree_before register_rows 0x16 Unranged
-    ((λ d r xs u. u) ▹ (λ d r xs u. u) ▹ (λ d r xs. plain r _) ▹ (λ d r xs u. u) ▹ (λ d r xs u. u) ▹ (λ d. absurd (d refl)) ▹ (λ d r xs u. u) ▹ (λ d r xs u. u) ▹ tt)
+    ((λ d r xs u. u) ▹ (λ d r xs u. u) ▹ (λ d r xs. plain r _) ▹ (λ d r xs u. u) ▹ (λ d r xs u. u) ▹ (λ d r xs. plain r _) ▹ (λ d. absurd (d refl)) ▹ (λ d r xs u. u) ▹ (λ d r xs u. u) ▹ tt)
 
 -- bytes that say a range have a byte `16`
 pub range_byte : (s : List ℕ) → SaysRange s → HasByte 0x16 s

@@ -37,7 +37,7 @@ starts = record { not_read = λ e. omega arith; none = refl }
 -- they agree but at a `14` that may stand
 pub agree : (p : Progress Register) (at c : ℕ) → Reach p at → (c ≡ 0x14 → row_may_stand p ≡ false) → Alike part_before_ranges part_before_rows Reach p at c
 unfolding row_of
-agree = agree_before rows_before_ranges 0x14 Rowless ((λ d r xs w. w) ▹ (λ d r xs w. w) ▹ (λ d r xs w. w) ▹ (λ d r xs w. w) ▹ (λ d. absurd (d refl)) ▹ (λ d r xs w. w) ▹ (λ d r xs w. w) ▹ tt)
+agree = agree_before rows_before_ranges 0x14 Rowless ((λ d r xs w. w) ▹ (λ d r xs w. w) ▹ (λ d r xs w. w) ▹ (λ d r xs w. w) ▹ (λ d. absurd (d refl)) ▹ (λ d r xs w. w) ▹ (λ d r xs w. w) ▹ (λ d r xs w. w) ▹ tt)
 
 -- bytes that say a row have a byte `14`
 pub row_byte : (s : List ℕ) → SaysRow s → HasByte 0x14 s

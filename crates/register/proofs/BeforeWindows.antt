@@ -19,7 +19,7 @@ use Rattle.register.specs.declared.Register.{Register}
 use Rattle.register.specs.Register.{fresh}
 use Rattle.register.specs.Format.{register_in_job, register_by_itself}
 use Rattle.register.specs.Encoding.{SaysLength, SaysRow, SaysRange}
-use Rattle.register.specs.BeforeLengths.{choice_row_before_lengths, term_row_before_lengths, end_row_before_lengths, choice_checks_before_lengths, rows_before_lengths, part_before_lengths, in_job_before_lengths}
+use Rattle.register.specs.BeforeLengths.{choice_row_before_lengths, term_row_before_lengths, wide_term_row_before_lengths, end_row_before_lengths, choice_checks_before_lengths, rows_before_lengths, part_before_lengths, in_job_before_lengths}
 use Rattle.register.specs.BeforeWindows.{choice_checks_before_windows, rows_before_windows, part_before_windows, in_job_before_windows, by_itself_before_windows}
 use Rattle.register.proofs.BeforeLengths.{as_before_lengths_in_job}
 
@@ -78,9 +78,10 @@ module _ (s : List ℕ) (none : get_or s 5 0 ≡ 0x13 → ⊥) where
         by_bytes (λ b. get_or s at 0 ≡ b → AlikeAt b) rows_before_lengths (get_or s at 0) (λ n e. none_alike (get_or s at 0) n)
         ((λ e. base_alike)
         ▹ (λ e. later_alike 0x11 (omega arith) (λ e. omega arith) (moved_row choice_row_before_lengths) (rw (ne_eqb p.previous 0x13 r.no_window, or-false)) (λ xs. (rw (ap (λ w. w.0) r.windows), refl)))
-        ▹ (λ e. later_alike 0x12 (omega arith) (λ e. omega arith) (moved_row term_row_before_lengths) (rw (ne_eqb p.previous 0x13 r.no_window, or-false)) (λ xs. (refl, refl)))
+        ▹ (λ e. later_alike 0x12 (omega arith) (λ e. omega arith) (moved_row term_row_before_lengths) (rw (ne_eqb p.previous 0x13 r.no_window)) (λ xs. (refl, refl)))
         ▹ window_alike
-        ▹ (λ e. later_alike 0x1F (omega arith) (λ e. omega arith) (moved_row end_row_before_lengths) (rw (ne_eqb p.previous 0x13 r.no_window, or-false)) (λ xs. (refl, refl)))
+        ▹ (λ e. later_alike 0x15 (omega arith) (λ e. omega arith) (moved_row wide_term_row_before_lengths) (rw (ne_eqb p.previous 0x13 r.no_window)) (λ xs. (refl, refl)))
+        ▹ (λ e. later_alike 0x1F (omega arith) (λ e. omega arith) (moved_row end_row_before_lengths) (rw (ne_eqb p.previous 0x13 r.no_window)) (λ xs. (refl, refl)))
         ▹ tt) refl
 
   both : (in_job_before_lengths s ≡ in_job_before_windows s) × Ended Reach (in_job_before_lengths s)

@@ -95,6 +95,7 @@ module _ (s : List ℕ) where
         ▹ other_moves 0x12 (omega arith) (λ z. omega arith) refl (λ xs. refl)
         ▹ other_moves 0x13 (omega arith) (λ z. omega arith) refl (λ xs. refl)
         ▹ other_moves 0x14 (omega arith) (λ z. omega arith) refl (λ xs. refl)
+        ▹ other_moves 0x15 (omega arith) (λ z. omega arith) refl (λ xs. refl)
         ▹ other_moves 0x16 (omega arith) (λ z. omega arith) refl (λ xs. refl)
         ▹ length_moves
         ▹ other_moves 0x1F (omega arith) (λ z. omega arith) refl (λ xs. refl)

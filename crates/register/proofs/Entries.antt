@@ -12,12 +12,14 @@ use lib.Seq.{sets, get_or-set_same, set-get_or}
 use lib.IntN.{ℤ, pos, nat_abs}
 use mir.Syntax.{w8}
 use mir.Val.{SFits}
+use borrow.Author.Tests.{lt-ltb, le-ltb}
+use Rattle.integers.specs.Lists.{join_below}
 use Rattle.integers.proofs.Join.{join_cong}
 use Rattle.integers.proofs.Blocks.{ones_at, ones_are, sets_other, sets_in, column_block, column_unblock, sets_back}
 use Rattle.integers.proofs.Entries.{below_or_last, each_more, kept_set, column_none, column_empty, column_more, column_less, set_back, table_none, table_more, table_less}
 use Rattle.register.specs.declared.Register.{Register}
 use Rattle.register.specs.Limits.{max_choices, max_terms, max_windows, max_rows, row_entries, max_base, usual_day, long_day}
-use Rattle.register.specs.Register.{tank, minute, mask, coefficient, high, is_range, window_tank, window_from, window_to, row_total, row_entry, fresh, set_base, set_length, set_choices, set_terms, set_windows, set_rows, with_base, with_length, with_choice, with_entry, with_window, with_row}
+use Rattle.register.specs.Register.{tank, minute, mask, coefficient, high, is_range, window_tank, window_from, window_to, entry_in, row_total, row_entry, fresh, set_base, set_length, set_choices, set_terms, set_windows, set_rows, with_base, with_length, with_choice, with_entry, with_window, with_row}
 use Rattle.register.specs.Answer.{NoFall}
 use Rattle.register.specs.Valid.{DayLength, FeedingRow, Within, Choices, Terms, Windows, Rows, MayFeed, window_at}
 use Rattle.register.specs.Encoding.{row_list}
@@ -303,6 +305,14 @@ module _ (r : Register) (w : Within r) (k : ℕ) (e : r.windows ≡ suc k) where
 
 -- ---- rows: the entries of a register with one more, and of one with one less
 
+-- an entry is in the list for the first choices, and 0 for every other
+
+pub entry_there : (es : List ℤ) (k j : ℕ) → j < row_entries → entry_in es k j ≡ get_or es (k * row_entries + j) (pos 0)
+entry_there es k j l = rw (lt-ltb j row_entries l)
+
+pub entry_past : (es : List ℤ) (k j : ℕ) → row_entries ≤ j → entry_in es k j ≡ pos 0
+entry_past es k j l = rw (le-ltb j row_entries l)
+
 -- a row with the same total and entries
 same_row : {n : ℕ} {b c : ℤ} {f g : ℕ → ℤ} → c ≡ b → ((j : ℕ) → j < row_entries → g j ≡ f j) → FeedingRow n b f → FeedingRow n c g
 same_row e h k = record {
@@ -321,10 +331,10 @@ module _ (r : Register) (w : Within r) (b : ℤ) (es : List ℤ) (long : length 
   q = r.rows
 
   entry_kept : (i j : ℕ) → i < q → j < row_entries → row_entry (with_row r b es) i j ≡ row_entry r i j
-  entry_kept i j l h = sets_other (pos 0) es r.row_entries (q * row_entries) (i * row_entries + j) (inl (omega arith))
+  entry_kept i j l h = entry_there _ i j h ∙ sets_other (pos 0) es r.row_entries (q * row_entries) (i * row_entries + j) (inl (omega arith)) ∙ sym (entry_there r.row_entries i j h)
 
   entry_new : q < max_rows → (j : ℕ) → j < row_entries → row_entry (with_row r b es) q j ≡ get_or es j (pos 0)
-  entry_new l j h = sets_in (pos 0) es r.row_entries (q * row_entries) j (omega arith) (omega (arith, w.rows.entries.room))
+  entry_new l j h = entry_there _ q j h ∙ sets_in (pos 0) es r.row_entries (q * row_entries) j (omega arith) (omega (arith, w.rows.entries.room))
 
   total_kept : (i : ℕ) → i < q → row_total (with_row r b es) i ≡ row_total r i
   total_kept i l = kept_set r.row_totals q b (pos 0) i l
@@ -360,7 +370,7 @@ module _ (r : Register) (w : Within r) (k : ℕ) (e : r.rows ≡ suc k) where
   enough = omega (arith, w.rows.few)
 
   entry_less : (i j : ℕ) → i < k → j < row_entries → row_entry r i j ≡ row_entry (less_row r k) i j
-  entry_less i j l h = sym (sets_other (pos 0) (replicate row_entries (pos 0)) r.row_entries (k * row_entries) (i * row_entries + j) (inl (omega arith)))
+  entry_less i j l h = entry_there r.row_entries i j h ∙ sym (entry_there _ i j h ∙ sets_other (pos 0) (replicate row_entries (pos 0)) r.row_entries (k * row_entries) (i * row_entries + j) (inl (omega arith)))
 
   total_less : (i : ℕ) → i < k → row_total r i ≡ row_total (less_row r k) i
   total_less i l = sym (kept_set r.row_totals k (pos 0) (pos 0) i l)
@@ -369,7 +379,9 @@ module _ (r : Register) (w : Within r) (k : ℕ) (e : r.rows ≡ suc k) where
   row_less i l = rw (← total_less i l) (ap (λ es. (row_total r i, es)) (join_cong row_entries _ _ (λ j h. ap (λ x. x ∷ []) (entry_less i j l h))))
 
   pub row_back : with_row (less_row r k) (row_total r k) (row_list r k) ≡ r
-  row_back = same_rows r (sym e) (set_back r.row_totals k (pos 0)) (sets_back (pos 0) r.row_entries (k * row_entries) row_entries (omega (arith, enough, w.rows.entries.room)))
+  row_back =
+      let block : row_list r k ≡ join_below row_entries (λ j. get_or r.row_entries (k * row_entries + j) (pos 0) ∷ []) = join_cong row_entries _ _ (λ j l. ap (λ x. x ∷ []) (entry_there r.row_entries k j l)) in
+      rw block (same_rows r (sym e) (set_back r.row_totals k (pos 0)) (sets_back (pos 0) r.row_entries (k * row_entries) row_entries (omega (arith, enough, w.rows.entries.room))))
 
   pub row_next : Within (less_row r k) × NextRow r.choices k (row_total r k) (λ j. get_or (row_list r k) j (pos 0))
   row_next = (

@@ -2,7 +2,7 @@
 -- can be taken back.
 use Prim.Native.Nat.{ℕ, suc, ◌-◌, ◌^◌, ◌<◌, ◌≤◌}
 use native.Mathlib.Omega.{arith}
-use mathlib.Core.Path.{◌≡◌, refl, sym, ◌∙◌, ap}
+use mathlib.Core.Path.{◌≡◌, refl, sym, ◌∙◌, ap, subst}
 use mathlib.Core.Logic.{◌⊎◌, inl, inr, ⊎_elim}
 use mathlib.Core.Bool.{Bool, true, false, false≢true}
 use mathlib.Core.List.{List, [], ◌∷◌, ◌++◌}
@@ -25,10 +25,10 @@ use Rattle.wire.proofs.Accepting.{reached, Grows, Back, Laws}
 use Rattle.wire.proofs.Ends.{Ends}
 use Rattle.register.specs.declared.Register.{Register}
 use Rattle.register.specs.Limits.{row_entries, max_base, usual_day}
-use Rattle.register.specs.Register.{tank, minute, mask, coefficient, high, is_range, window_tank, window_from, window_to, row_total, row_entry, fresh, with_base, with_length, with_choice, with_entry, with_window, with_row}
-use Rattle.register.specs.Format.{base_row, choice_row, term_row, window_row, row_row, entries_of, range_row, length_row, end_row, base_checks, length_checks, register_rows, register_part}
+use Rattle.register.specs.Register.{tank, minute, mask, coefficient, high, is_range, window_tank, window_from, window_to, row_total, row_entry, fresh, with_base, with_length, with_choice, with_term, with_entry, with_window, with_row}
+use Rattle.register.specs.Format.{base_row, choice_row, term_row, window_row, row_row, entries_of, wide_term_row, range_row, length_row, end_row, base_checks, term_checks, length_checks, register_rows, register_part}
 use Rattle.register.specs.Valid.{DayLength, Within, Valid, window_at}
-use Rattle.register.specs.Encoding.{base_command, length_command, choice_command, term_command, range_command, entry_command, window_command, row_list, row_command, end_command, choice_kind, term_kind, window_kind, row_kind, kinds}
+use Rattle.register.specs.Encoding.{base_command, length_command, choice_command, SaysKnown, SaysRanged, SaysTerm, window_command, row_list, row_command, end_command, choice_kind, term_kind, window_kind, row_kind, kinds}
 use Rattle.register.proofs.Passes.{base_iff, choice_iff, NextTerm, term_iff, range_iff, window_iff, row_iff, within_byte, length_within, length_iff, end_iff}
 use Rattle.register.proofs.MayFeed.{may_iff}
 use Rattle.register.proofs.RowOperands.{entries_long, entries_read, row_said, row_fit, entries_back}
@@ -81,14 +81,26 @@ length_byte r l = ap (last_from 0) l.whole ∙ last_from_one 0 l.front l.last �
 pub header_stands : (B : Type 0) (r : Register) {cs : List Command} → HeaderWhere B r cs → Among (last_from 0 cs) (0x10 ∷ 0x18 ∷ [])
 header_stands B r h = ⊎_elim (λ b. inl (base_byte r b.1)) (λ l. inr (inl (length_byte r l))) (header_by r h)
 
--- operands of a term that fit are those of what they say
+-- commands of terms whose operands fit say what is read; four bytes name narrow sets
 
-term_said : (xs : List ℕ) → Fit term_row.widths xs → xs ≡ get_or xs 0 0 ∷ of_z w32 (to_z w32 (get_or xs 1 0)) ∷ []
-term_said xs f = let (e, _, l) = fit_two 4 4 xs f in e ∙ rw (of_z-to_z {w = w32} (record { fits = l }))
+known_said : (b w : ℕ) (xs : List ℕ) → Fit (w ∷ 4 ∷ []) xs → ◌≡◌ {A = Command} (record { byte = b; operands = xs }) (record { byte = b; operands = get_or xs 0 0 ∷ of_z w32 (to_z w32 (get_or xs 1 0)) ∷ [] })
+known_said b w xs f = let (e, _, l) = fit_two w 4 xs f in said b (e ∙ rw (of_z-to_z {w = w32} (record { fits = l })))
 
-range_said : (xs : List ℕ) → Fit range_row.widths xs → xs ≡ get_or xs 0 0 ∷ of_z w32 (to_z w32 (get_or xs 1 0)) ∷ of_z w32 (to_z w32 (get_or xs 2 0)) ∷ []
+term_said : (xs : List ℕ) → Fit term_row.widths xs → SaysKnown (get_or xs 0 0) (to_z w32 (get_or xs 1 0)) (record { byte = 0x12; operands = xs })
+term_said xs f = let (_, l, _) = fit_two 4 4 xs f in inl (omega (arith, l), known_said 0x12 4 xs f)
+
+wide_term_said : (xs : List ℕ) → Fit wide_term_row.widths xs → SaysKnown (get_or xs 0 0) (to_z w32 (get_or xs 1 0)) (record { byte = 0x15; operands = xs })
+wide_term_said xs f = inr (known_said 0x15 8 xs f)
+
+range_said : (xs : List ℕ) → Fit range_row.widths xs → SaysRanged (get_or xs 0 0) (to_z w32 (get_or xs 1 0)) (to_z w32 (get_or xs 2 0)) (record { byte = 0x16; operands = xs })
 range_said [] f = absurd f
-range_said (x ∷ xs) f = let (e, k, l) = fit_two 4 4 xs f.1 in ap (λ ys. x ∷ ys) (e ∙ rw (of_z-to_z {w = w32} (record { fits = k }), of_z-to_z {w = w32} (record { fits = l })))
+range_said (x ∷ xs) f =
+    let (e, k, l) = fit_two 4 4 xs f.1 in
+    (omega (arith, f.0), said 0x16 (ap (λ ys. x ∷ ys) (e ∙ rw (of_z-to_z {w = w32} (record { fits = k }), of_z-to_z {w = w32} (record { fits = l })))))
+
+-- a command says a term, by its mask, its coefficients and whether it has a range
+abbrev SaidBy : Command → ℕ × ℤ × ℤ × Bool → Type 0
+SaidBy c t = SaysTerm t.3 t.0 t.1 t.2 c
 
 -- ---- each row keeps it
 
@@ -151,8 +163,8 @@ module _ (B : Type 0) where
         };
   }
 
-  -- a term more, by either command
-  term_grown : (r : Register) (cs : List Command) (m : ℕ) (a b : ℤ) (ranged : Bool) (c : Command) → is_among c.byte term_kind.bytes ≡ true → (B → c ≡ entry_command ranged m a b)
+  -- a term more, by any command that says it
+  term_grown : (r : Register) (cs : List Command) (m : ℕ) (a b : ℤ) (ranged : Bool) (c : Command) → is_among c.byte term_kind.bytes ≡ true → (B → SaysTerm ranged m a b c)
       → is_among (last_from 0 cs) term_row.follows ≡ true → NextTerm r.choices r.terms (term_at r (r.terms - 1)) m a b ranged → Good B r cs → Good B (with_entry r m a b ranged) (cs ++ (c ∷ []))
   term_grown r cs m a b ranged c t says e p g =
       let (d, body) = followed term_row.follows refl e g in
@@ -161,8 +173,8 @@ module _ (B : Type 0) where
         body = inr (
           d,
           kinds_more (ToRows r) r (with_entry r m a b ranged) (under B term_kind) [] tt tt cs c refl
-              (λ i d l h x. h x ∙ ap (λ c. entry_command c.3 c.0 c.1 c.2) (sym (term_kept r g.within m a b ranged i l)))
-              (among_test c.byte term_kind.bytes t, λ x. says x ∙ ap (λ c. entry_command c.3 c.0 c.1 c.2) (sym (term_new r g.within m a b ranged p.few))) body,
+              (λ i d l h x. subst (SaidBy d) (sym (term_kept r g.within m a b ranged i l)) (h x))
+              (among_test c.byte term_kind.bytes t, λ x. subst (SaidBy c) (sym (term_new r g.within m a b ranged p.few)) (says x)) body,
         );
       }
 
@@ -171,7 +183,15 @@ module _ (B : Type 0) where
     on = λ r cs xs g e q fit.
         let m = get_or xs 0 0 in
         let z = to_z w32 (get_or xs 1 0) in
-        term_grown r cs m z z false (record { byte = 0x12; operands = xs }) refl (λ b. said 0x12 (term_said xs (fit b))) e ((term_iff r.choices r.terms (term_at r (r.terms - 1)) m z).0 q) g;
+        term_grown r cs m z z false (record { byte = 0x12; operands = xs }) refl (λ b. term_said xs (fit b)) e ((term_iff r.choices r.terms (term_at r (r.terms - 1)) m z).0 q) g;
+  }
+
+  wide_term_grows : Grows B (Good B) (Done B) 0x15 wide_term_row
+  wide_term_grows = record {
+    on = λ r cs xs g e q fit.
+        let m = get_or xs 0 0 in
+        let z = to_z w32 (get_or xs 1 0) in
+        term_grown r cs m z z false (record { byte = 0x15; operands = xs }) refl (λ b. wide_term_said xs (fit b)) e ((term_iff r.choices r.terms (term_at r (r.terms - 1)) m z).0 q) g;
   }
 
   range_grows : Grows B (Good B) (Done B) 0x16 range_row
@@ -180,7 +200,7 @@ module _ (B : Type 0) where
         let m = get_or xs 0 0 in
         let a = to_z w32 (get_or xs 1 0) in
         let b = to_z w32 (get_or xs 2 0) in
-        term_grown r cs m a b true (record { byte = 0x16; operands = xs }) refl (λ b. said 0x16 (range_said xs (fit b))) e ((range_iff r.choices r.terms (term_at r (r.terms - 1)) m a b).0 q) g;
+        term_grown r cs m a b true (record { byte = 0x16; operands = xs }) refl (λ b. range_said xs (fit b)) e ((range_iff r.choices r.terms (term_at r (r.terms - 1)) m a b).0 q) g;
   }
 
   window_grows : Grows B (Good B) (Done B) 0x13 window_row
@@ -269,6 +289,68 @@ U = Unit {0}
 -- a signed operand of 32 bits
 small : (z : ℤ) → nat_abs z ≤ max_base → nat_abs z < 2 ^ hbits w32
 small z h = omega arith
+
+-- the last term
+module _ (r : Register) (w : Within r) (k : ℕ) (e : r.terms ≡ suc k) where
+  abbrev less : Register
+  less = less_term r k
+
+  -- a command gives it after the others
+  record Gives (c : Command) : Type 0 where
+    allowed : (previous : ℕ) → is_among previous term_row.follows ≡ true → Allowed register_part (reached previous less) c
+    after : (row_of register_rows c.byte).after less c.operands ≡ r
+    ends : (row_of register_rows c.byte).last ≡ false
+
+  next : NextTerm r.choices k (term_at less (k - 1)) (mask r k) (coefficient r k) (high r k) (is_range r k)
+  next = (term_next r w k e).1
+
+  low_fits : SFits w32 (coefficient r k)
+  low_fits = fits_signed w32 (coefficient r k) (small (coefficient r k) (omega (arith, next.fits.coefficient_within)))
+
+  high_fits : SFits w32 (high r k)
+  high_fits = fits_signed w32 (high r k) (small (high r k) (omega (arith, next.fits.high_within)))
+
+  -- its high coefficient is its low one
+  known_gives : is_range r k ≡ false → {c : Command} → SaysKnown (mask r k) (coefficient r k) c → Gives c
+  unfolding row_of
+  known_gives t s =
+      ⊎_elim
+      (λ (n, q). rw q (record {
+        allowed = λ previous h. record { byte = omega arith; here = h; operands = (omega (arith, n), ((Fits-of_z low_fits).fits, tt)); passes = passes };
+        after = after;
+        ends = refl;
+      }))
+      (λ q. rw q (record {
+        allowed = λ previous h. record { byte = omega arith; here = h; operands = (omega (arith, next.fits.mask_names, pow_mono w.choices.few), ((Fits-of_z low_fits).fits, tt)); passes = passes };
+        after = after;
+        ends = refl;
+      })) s
+    where
+      one : high r k ≡ coefficient r k
+      one = (next.fits.known t).0
+
+      passes : refusal (term_checks r.choices k (mask less (k - 1)) (mask r k) (to_z w32 (of_z w32 (coefficient r k)))) ≡ 0
+      passes = rw (to_z-of_z low_fits) ((term_iff r.choices k (term_at less (k - 1)) (mask r k) (coefficient r k)).1 (rw (t, one) at next))
+
+      after : with_term less (mask r k) (to_z w32 (of_z w32 (coefficient r k))) ≡ r
+      after = rw (to_z-of_z low_fits) (rw (t, one) at (term_back r w k e))
+
+  ranged_gives : is_range r k ≡ true → {c : Command} → SaysRanged (mask r k) (coefficient r k) (high r k) c → Gives c
+  unfolding row_of
+  ranged_gives t (n, q) =
+      rw q (record {
+        allowed = λ previous h. record {
+          byte = omega arith;
+          here = h;
+          operands = (omega (arith, n), ((Fits-of_z low_fits).fits, ((Fits-of_z high_fits).fits, tt)));
+          passes = rw (to_z-of_z low_fits, to_z-of_z high_fits) ((range_iff r.choices k (term_at less (k - 1)) (mask r k) (coefficient r k) (high r k)).1 (rw t at next));
+        };
+        after = rw (to_z-of_z low_fits, to_z-of_z high_fits) (rw t at (term_back r w k e));
+        ends = refl;
+      })
+
+  said_gives : {c : Command} → SaysTerm (is_range r k) (mask r k) (coefficient r k) (high r k) c → Gives c
+  said_gives {c} s = flag (is_range r k) (λ t. ranged_gives t (rw t at s)) (λ t. known_gives t (rw t at s))
 
 module _ (r : Register) (cs : List Command) (w : Within r) (d : DayLength r.day_length) (b : Body U r cs) where
   base_taken : None r (under_all U kinds) → Header10 U r cs → Back fresh register_rows (Good U) false r cs
@@ -378,59 +460,21 @@ module _ (r : Register) (cs : List Command) (w : Within r) (d : DayLength r.day_
         whole = l.whole ∙ rw (l.form.1 tt);
       }
 
-  -- a term, by the command that says it
-  term_taken_by : (k : ℕ) → r.terms ≡ suc k → (c : Command) → entry_command (is_range r k) (mask r k) (coefficient r k) (high r k) ≡ c
-      → ((previous : ℕ) → is_among previous term_row.follows ≡ true → Allowed register_part (reached previous (less_term r k)) c)
-      → (row_of register_rows c.byte).after (less_term r k) c.operands ≡ r → (row_of register_rows c.byte).last ≡ false → Back fresh register_rows (Good U) false r cs
-  term_taken_by k e c same allowed after ends =
+  term_taken : (k : ℕ) → r.terms ≡ suc k → Unit {0} → Back fresh register_rows (Good U) false r cs
+  term_taken k e none =
       let r' = less_term r k in
-      let l = kinds_less (ToRows U r) r r' (under U term_kind) [] tt tt cs k e refl (λ i d k' h u. h u ∙ ap (λ c. entry_command c.3 c.0 c.1 c.2) (term_less r w k e i k')) b in
+      let l = kinds_less (ToRows U r) r r' (under U term_kind) [] tt tt cs k e refl (λ i d k' h u. subst (SaidBy d) (term_less r w k e i k') (h u)) b in
+      let g = said_gives r w k e (l.form.1 tt) in
       record {
         before = r';
         front = l.front;
-        command = c;
+        command = l.last;
         good = record { within = (term_next r w k e).0; body = inr (d, l.before) };
-        allowed = allowed (last_from 0 l.front) (kinds_stand r' (HeaderWhere U r) (under_all U kinds) l.front (0x10 ∷ 0x18 ∷ []) term_row.follows tt (header_stands U r) l.before);
-        after = after;
-        ends_is = ends;
-        whole = l.whole ∙ ap (λ c. l.front ++ (c ∷ [])) (l.form.1 tt ∙ same);
+        allowed = g.allowed (last_from 0 l.front) (kinds_stand r' (HeaderWhere U r) (under_all U kinds) l.front (0x10 ∷ 0x18 ∷ []) term_row.follows tt (header_stands U r) l.before);
+        after = g.after;
+        ends_is = g.ends;
+        whole = l.whole;
       }
-
-  term_taken : (k : ℕ) → r.terms ≡ suc k → Unit {0} → Back fresh register_rows (Good U) false r cs
-  unfolding row_of
-  term_taken k e none = flag (is_range r k) ranged plain
-    where
-      p : NextTerm r.choices k (term_at (less_term r k) (k - 1)) (mask r k) (coefficient r k) (high r k) (is_range r k)
-      p = (term_next r w k e).1
-
-      mask_fits : mask r k < 256 ^ 4
-      mask_fits = omega (arith, p.fits.mask_names, pow_mono w.choices.few)
-
-      low_fits : SFits w32 (coefficient r k)
-      low_fits = fits_signed w32 (coefficient r k) (small (coefficient r k) (omega (arith, p.fits.coefficient_within)))
-
-      high_fits : SFits w32 (high r k)
-      high_fits = fits_signed w32 (high r k) (small (high r k) (omega (arith, p.fits.high_within)))
-
-      ranged : is_range r k ≡ true → Back fresh register_rows (Good U) false r cs
-      ranged t =
-          term_taken_by k e (range_command (mask r k) (coefficient r k) (high r k)) (rw t) (λ previous h. record {
-            byte = omega arith;
-            here = h;
-            operands = (mask_fits, ((Fits-of_z low_fits).fits, ((Fits-of_z high_fits).fits, tt)));
-            passes = rw (to_z-of_z low_fits, to_z-of_z high_fits) ((range_iff r.choices k (term_at (less_term r k) (k - 1)) (mask r k) (coefficient r k) (high r k)).1 (rw t at p));
-          }) (rw (to_z-of_z low_fits, to_z-of_z high_fits) (rw t at (term_back r w k e))) refl
-
-      -- its high coefficient is its low one
-      plain : is_range r k ≡ false → Back fresh register_rows (Good U) false r cs
-      plain t =
-          let one : high r k ≡ coefficient r k = (p.fits.known t).0 in
-          term_taken_by k e (term_command (mask r k) (coefficient r k)) (rw t) (λ previous h. record {
-            byte = omega arith;
-            here = h;
-            operands = (mask_fits, ((Fits-of_z low_fits).fits, tt));
-            passes = rw (to_z-of_z low_fits) ((term_iff r.choices k (term_at (less_term r k) (k - 1)) (mask r k) (coefficient r k)).1 (rw (t, one) at p));
-          }) (rw (to_z-of_z low_fits) (rw (t, one) at (term_back r w k e))) refl
 
 end_taken : (r : Register) (cs : List Command) → Done U r cs → Back fresh register_rows (Good U) true r cs
 unfolding row_of
@@ -455,7 +499,7 @@ end_taken r cs d =
 pub laws : Laws fresh register_rows Good Done
 laws = record {
   starts = λ B. record { within = fresh_within; body = inl (refl, refl) };
-  grows = λ B. base_grows B ▹ choice_grows B ▹ term_grows B ▹ window_grows B ▹ row_grows B ▹ range_grows B ▹ length_grows B ▹ end_grows B ▹ tt;
+  grows = λ B. base_grows B ▹ choice_grows B ▹ term_grows B ▹ window_grows B ▹ row_grows B ▹ wide_term_grows B ▹ range_grows B ▹ length_grows B ▹ end_grows B ▹ tt;
   back = λ r cs g. ⊎_elim (λ h. inl h) (λ (d, b). inr (by_kind (Back fresh register_rows (Good U) false r cs) r (under_all U kinds) (header_taken r cs g.within d b) (window_taken r cs g.within d b, (choice_taken r cs g.within d b, (row_taken r cs g.within d b, (term_taken r cs g.within d b, tt)))))) g.body;
   back_end = end_taken;
 }

@@ -18,9 +18,12 @@ pub mod Prefix
 pub mod Position
 pub mod DayLengths
 pub mod Said
+pub mod BeforeWide
+pub mod SaysWide
 pub mod BeforeRanges
 pub mod SaysRange
 pub mod BeforeRows
 pub mod SaysRow
+pub mod SaysMoreChoices
 pub mod BeforeLengths
 pub mod BeforeWindows

@@ -14,7 +14,7 @@ use Rattle.register.specs.Format.{base_checks, choice_checks, term_checks, windo
 
 register_rises : All Rises register_rows
 unfolding base_checks choice_checks term_checks window_checks row_checks range_checks length_checks end_checks
-register_rises = (λ r xs. tt) ▹ (λ r xs. tt) ▹ (λ r xs. tt) ▹ (λ r xs. tt) ▹ (λ r xs. tt) ▹ (λ r xs. tt) ▹ (λ r xs. tt) ▹ (λ r xs. tt) ▹ tt
+register_rises = (λ r xs. tt) ▹ (λ r xs. tt) ▹ (λ r xs. tt) ▹ (λ r xs. tt) ▹ (λ r xs. tt) ▹ (λ r xs. tt) ▹ (λ r xs. tt) ▹ (λ r xs. tt) ▹ (λ r xs. tt) ▹ tt
 
 register_rising : Rising register_part
 register_rising = rows_rising fresh register_rows register_rises

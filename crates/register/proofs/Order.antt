@@ -5,4 +5,4 @@ use Rattle.register.specs.Format.{register_rows}
 use Rattle.register.specs.Order.{InOrder, register_order}
 
 pub register_in_order : InOrder register_order register_rows
-register_in_order = refl ▹ refl ▹ refl ▹ refl ▹ refl ▹ refl ▹ refl ▹ refl ▹ tt
+register_in_order = refl ▹ refl ▹ refl ▹ refl ▹ refl ▹ refl ▹ refl ▹ refl ▹ refl ▹ tt

@@ -1,7 +1,7 @@
 -- A register is refused 13 at a position just where a choice stands there that is fed outside the windows of its tank, and all else up
 -- to there is right.
-use Prim.Native.Nat.{ℕ, zero, suc, ◌+◌, ◌-◌, ◌<◌, ◌≤◌}
-use native.Mathlib.Nat.{zero-add}
+use Prim.Native.Nat.{ℕ, ◌+◌, ◌-◌, ◌<◌, ◌≤◌}
+use native.Mathlib.Nat.{add-zero}
 use native.Mathlib.Omega.{arith}
 use mathlib.Core.Path.{◌≡◌, refl, sym, ◌∙◌, ap, subst}
 use mathlib.Core.Logic.{inl, inr, ⊎_elim}
@@ -9,36 +9,37 @@ use mathlib.Core.Bool.{Bool, true, false, false≢true, not, ◌||◌}
 use mathlib.Core.List.{List, [], ◌∷◌, ◌++◌}
 use lib.Dec.{eqb, ltb, leb}
 use lib.ListN.{length, get_or, drop, length-append, length-drop}
-use lib.Seq.{drop_at}
-use borrow.Author.Tests.{eqb-true, ltb-false, le-ltb, eq-eqb}
+use lib.Seq.{get_or-drop, drop_at}
+use borrow.Author.Tests.{eqb-true, ltb-false, eq-eqb}
 use Rattle.integers.specs.Lists.{any_below, comes_before}
 use Rattle.integers.proofs.Lists.{◌▹◌, flag}
 use Rattle.integers.proofs.Any.{any_found, any_at}
-use Rattle.wire.specs.Number.{Bytes, nat_at}
+use Rattle.wire.specs.Number.{Bytes, nat_at, bytes_of}
+use Rattle.wire.proofs.Number.{length-bytes_of}
 use Rattle.wire.specs.Checks.{refusal, command_checks}
 use Rattle.wire.specs.Part.{Part, Reading, refused, operands_at, total, size, checks_at, read_part}
-use Rattle.wire.specs.Rows.{Progress, Row, is_among, row_of, part_of}
-use Rattle.wire.specs.Encoding.{Command, Fit, encode_command, encode, Allowed, after_command}
-use Rattle.wire.specs.Refused.{Reaches}
+use Rattle.wire.specs.Rows.{Progress, is_among, row_of}
+use Rattle.wire.specs.Encoding.{Command, Fit, encode_command, encode}
 use Rattle.wire.proofs.Checks.{by_refusal, refusal_none}
-use Rattle.wire.proofs.Part.{own, own_at, Ways, by_ways, read_from_refused}
+use Rattle.wire.proofs.Part.{own, own_at, Ways, by_ways}
 use Rattle.wire.proofs.Rest.{no_row_lem, by_bytes}
 use Rattle.wire.proofs.Lowest.{own_refused}
-use Rattle.wire.proofs.Encoding.{reads_through, command_at, command_at_bytes, command_at_reads, length_command}
-use Rattle.wire.proofs.Grammar.{last_from, last_from_one, kinds_none, kinds_absent, kinds_stand, kinds_said, said_kinds, under_all}
-use Rattle.wire.proofs.Accepting.{reached, Back, Laws, Midway, read_starts, read_on}
+use Rattle.wire.proofs.Encoding.{command_at, command_at_bytes, command_at_reads}
+use Rattle.wire.proofs.Grammar.{last_from, kinds_none, kinds_absent, kinds_stand, kinds_said, said_kinds, under_all}
+use Rattle.wire.proofs.Accepting.{Midway, read_starts, read_on}
+use Rattle.wire.proofs.Refusing.{refused_after}
 use Rattle.register.specs.declared.Register.{Register}
 use Rattle.register.specs.Limits.{max_choices, max_tank}
 use Rattle.register.specs.Register.{tank, minute, window_tank, fresh}
 use Rattle.register.specs.Format.{base_checks, may_feed, choice_checks, choice_row, term_checks, window_checks, row_checks, range_checks, length_checks, end_checks, register_rows, register_part, register_in_job}
-use Rattle.register.specs.Valid.{MayFeed, window_at}
+use Rattle.register.specs.Valid.{DayLength, MayFeed, Within, window_at}
 use Rattle.register.specs.Encoding.{Header, choice_command, choice_kind, window_kind, kinds, encode_choice}
-use Rattle.register.specs.Outside.{up_to_choices, ChoiceOutside}
+use Rattle.register.specs.Outside.{up_to_choices, EncodesChoices, ChoiceOutside}
 use Rattle.register.proofs.Passes.{NextChoice, choice_iff, length_within}
 use Rattle.register.proofs.MayFeed.{may_iff}
 use Rattle.register.proofs.Laws.{Good, Body, HeaderWhere, ToChoices, after_choices, followed, header_stands, laws}
 use Rattle.register.proofs.Accept.{header_said, header_says}
-use Rattle.register.proofs.Canonical.{choice_bytes, windows_of, choices_of, rows_of, terms_of, body_only, body_bytes, body_are, header_with, header_without, header_with_lem, header_without_lem, header_forms, with_bytes, without_bytes}
+use Rattle.register.proofs.Canonical.{choice_bytes, body_after, body_only, body_bytes, body_are, header_with, header_without, header_with_lem, header_without_lem, header_forms, with_bytes, without_bytes}
 
 -- ---- 13 is the number of a choice's last check
 
@@ -89,6 +90,7 @@ module _ (s : List ℕ) (read : Progress Register) (at : ℕ) (l : at < length s
       ▹ (λ e o. by_refusal _ 13 o (λ z. omega arith) ((λ n t. absurd (omega arith)) ▹ (λ n t. absurd (omega arith)) ▹ (λ n t. absurd (omega arith)) ▹ (λ n t. absurd (omega arith)) ▹ tt))
       ▹ (λ e o. by_refusal _ 13 o (λ z. omega arith) ((λ n t. absurd (omega arith)) ▹ (λ n t. absurd (omega arith)) ▹ (λ n t. absurd (omega arith)) ▹ (λ n t. absurd (omega arith)) ▹ tt))
       ▹ (λ e o. by_refusal _ 13 o (λ z. omega arith) ((λ n t. absurd (omega arith)) ▹ (λ n t. absurd (omega arith)) ▹ (λ n t. absurd (omega arith)) ▹ tt))
+      ▹ (λ e o. by_refusal _ 13 o (λ z. omega arith) ((λ n t. absurd (omega arith)) ▹ (λ n t. absurd (omega arith)) ▹ (λ n t. absurd (omega arith)) ▹ (λ n t. absurd (omega arith)) ▹ tt))
       ▹ (λ e o. by_refusal _ 13 o (λ z. omega arith) ((λ n t. absurd (omega arith)) ▹ (λ n t. absurd (omega arith)) ▹ (λ n t. absurd (omega arith)) ▹ (λ n t. absurd (omega arith)) ▹ (λ n t. absurd (omega arith)) ▹ tt))
       ▹ (λ e o. by_refusal _ 13 o (λ z. omega arith) ((λ n t. absurd (omega arith)) ▹ tt))
       ▹ (λ e o. by_refusal _ 13 o (λ z. omega arith) ((λ n t. absurd (omega arith)) ▹ tt))
@@ -133,9 +135,9 @@ module _ (s : List ℕ) (read : Progress Register) (at : ℕ) (l : at < length s
       let last : is_among (last_from 0 cs) choice_row.follows ≡ true = rw mid.previous at here in
       let (d, body) = followed choice_row.follows refl last mid.holds in
       let none = kinds_absent r (ToChoices B r) (after_choices B) cs choice_row.follows tt last body in
-      let (h, (x, q)) = body_only r (kinds_said r B b (HeaderWhere B r) (Header r) kinds cs (λ ds. header_said B r ds b) body) in
+      let (h, (wide, (x, (fits, q)))) = body_only r (kinds_said r B b (HeaderWhere B r) (Header r) kinds cs (λ ds. header_said B r ds b) body) in
       let front = encode register_part cs in
-      let front_is : front ≡ up_to_choices (encode register_part h) r = ap (encode register_part) q ∙ body_bytes r h none.0 none.1.0 in
+      let front_is : front ≡ up_to_choices (encode register_part h) r = ap (encode register_part) q ∙ body_bytes r wide h none.0 none.1.0 in
       let w = own_window in
       record {
         before = r;
@@ -181,81 +183,75 @@ only_outside s at b e = by_ways register_part s Q ways register_part.start 0 (re
 
 -- ---- and it is refused there
 
--- commands that can be taken back one by one are allowed one after the other
-module _ {R : Type 0} (fresh : R) (rows : List (Row R)) {Good Done : Type 0 → R → List Command → Type 0} (laws : Laws fresh rows Good Done) where
-  abbrev P : Part (Progress R)
-  P = part_of fresh rows
-
-  reaches_one : (cs : List Command) (read next : Progress R) (c : Command) → Reaches P read cs next → Allowed P next c → P.last c.byte ≡ false → Reaches P read (cs ++ (c ∷ [])) (after_command P next c)
-  reaches_one [] read next c e a l = (rw e a, (l, ap (λ x. after_command P x c) e))
-  reaches_one (d ∷ ds) read next c h a l = (h.0, (h.1.0, reaches_one ds _ next c h.1.1 a l))
-
-  good_below : (k : ℕ) (r : R) (cs : List Command) → length cs < k → Good (Unit {0}) r cs → Reaches P P.start cs (reached (last_from 0 cs) r)
-  good_below zero r cs l g = absurd (omega arith)
-  good_below (suc k) r cs l g = ⊎_elim first (further (good_below k)) (laws.back r cs g)
-    where
-      first : (r ≡ fresh) × (cs ≡ []) → Reaches P P.start cs (reached (last_from 0 cs) r)
-      first (e, f) = rw (e, f) refl
-
-      further : ((r : R) (cs : List Command) → length cs < k → Good (Unit {0}) r cs → Reaches P P.start cs (reached (last_from 0 cs) r)) → Back fresh rows (Good (Unit {0})) false r cs → Reaches P P.start cs (reached (last_from 0 cs) r)
-      further before b =
-          let n : length b.front < k = omega (arith, ap length b.whole ∙ length-append b.front (b.command ∷ [])) in
-          rw (b.whole, last_from_one 0 b.front b.command, ← b.after) (reaches_one b.front P.start (reached (last_from 0 b.front) b.before) b.command (before b.before b.front n b.good) b.allowed b.ends_is)
-
-  good_reaches : (r : R) (cs : List Command) → Good (Unit {0}) r cs → Reaches P P.start cs (reached (last_from 0 cs) r)
-  good_reaches r cs g = good_below (suc (length cs)) r cs (omega arith) g
-
 abbrev U : Type 0
 U = Unit {0}
 
--- a command that stands where it may, and whole, is refused by its own checks
-own_fails : {S : Type 0} (P : Part S) (s : List ℕ) (read : S) (at n : ℕ) → P.here read (get_or s at 0) ≡ true → at + size P (get_or s at 0) ≤ length s → refusal (own P s read at) ≡ n → refusal (checks_at P s read at) ≡ n
-unfolding checks_at command_checks refusal
-own_fails P s read at n h l e = rw (h, le-ltb (length s - at) (size P (get_or s at 0)) (omega arith)) e
+-- the base cost, the day length, windows and choices, all of them right
+module _ (r : Register) (within : Within r) (day : DayLength r.day_length) (no_row : r.rows ≡ 0) (no_term : r.terms ≡ 0) (front : List ℕ) (encodes : EncodesChoices r front) where
+  record Header_of : Type 0 where
+    commands : List Command
+    are : Header r commands
+    bytes : front ≡ up_to_choices (encode register_part commands) r
+
+  header_of : Header_of
+  header_of =
+      ⊎_elim
+      (λ e. record { commands = header_with r; are = header_with_lem r; bytes = e ∙ ap (λ x. up_to_choices x r) (sym (with_bytes r)) })
+      (λ (u, e). record { commands = header_without r; are = header_without_lem r u; bytes = e ∙ ap (λ x. up_to_choices x r) (sym (without_bytes r)) }) encodes
+
+  -- their commands, no term among them
+
+  abbrev wide : ℕ → Bool
+  wide t = false
+
+  cs : List Command
+  cs = body_after r wide header_of.commands
+
+  body : Body U r cs
+  unfolding cs
+  body = said_kinds r U (Header r) (HeaderWhere U r) kinds cs (header_says U r) (body_are r wide (λ t l. absurd (omega (arith, no_term))) header_of.commands header_of.are)
+
+  good : Good U r cs
+  good = record { within = within; body = inr (day, body) }
+
+  front_is : encode register_part cs ≡ front
+  unfolding cs
+  front_is = body_bytes r wide header_of.commands no_row no_term ∙ sym header_of.bytes
+
+  after_them : is_among (last_from 0 cs) choice_row.follows ≡ true
+  after_them =
+      kinds_stand r (HeaderWhere U r) (under_all U (window_kind ∷ choice_kind ∷ [])) cs (0x10 ∷ 0x18 ∷ []) choice_row.follows tt (header_stands U r)
+      (kinds_none r (ToChoices U r) (after_choices U) cs (no_row, (no_term, tt)) body)
+
+  -- and after them a choice, which its own checks refuse
+  module _ (s : List ℕ) (at t m : ℕ) (rest : List ℕ) (e : s ≡ front ++ (encode_choice t m ++ rest)) (position : at ≡ length front) where
+    pub choice_dropped : drop at s ≡ encode_choice t m ++ rest
+    choice_dropped = ap (drop at) e ∙ drop_at front (encode_choice t m ++ rest) at (sym position)
+
+    pub choice_byte : get_or s at 0 ≡ 0x11
+    unfolding encode_choice
+    choice_byte = (rw add-zero at (sym (get_or-drop at s 0 0))) ∙ ap (λ (l : List ℕ). get_or l 0 0) choice_dropped
+
+    choice_long : at + size register_part 0x11 ≤ length s
+    unfolding encode_choice row_of total
+    choice_long =
+        let four : length (bytes_of 2 t ++ bytes_of 2 m) ≡ 4 = length-append (bytes_of 2 t) (bytes_of 2 m) ∙ rw (length-bytes_of, length-bytes_of) in
+        omega (arith, ap length choice_dropped ∙ length-append (0x11 ∷ (bytes_of 2 t ++ bytes_of 2 m)) rest, length-drop at s, four)
+
+    pub choice_refused_there : (n : ℕ) → refusal (choice_row.checks r (operands_at choice_row.widths s (at + 1))) ≡ n → (n ≡ 0 → ⊥) → register_in_job s ≡ refused n at
+    unfolding register_in_job row_of
+    choice_refused_there n own d =
+        let a : length (encode register_part cs) ≡ at = ap length front_is ∙ sym position in
+        let whole : s ≡ encode register_part cs ++ (encode_choice t m ++ rest) = e ∙ ap (λ x. x ++ (encode_choice t m ++ rest)) (sym front_is) in
+        refused_after fresh register_rows laws r cs good s (encode_choice t m ++ rest) whole 0x11 n (rw a choice_byte) after_them (rw a choice_long) (rw a own) d
+        ∙ ap (refused n) a
 
 module _ (s : List ℕ) (at : ℕ) (c : ChoiceOutside s at) where
   abbrev reg : Register
   reg = c.before
 
-  record Header_of : Type 0 where
-    commands : List Command
-    are : Header reg commands
-    bytes : c.front ≡ up_to_choices (encode register_part commands) reg
-
-  header_of : Header_of
-  header_of =
-      ⊎_elim
-      (λ e. record { commands = header_with reg; are = header_with_lem reg; bytes = e ∙ ap (λ x. up_to_choices x reg) (sym (with_bytes reg)) })
-      (λ (u, e). record { commands = header_without reg; are = header_without_lem reg u; bytes = e ∙ ap (λ x. up_to_choices x reg) (sym (without_bytes reg)) }) c.encodes
-
-  -- the commands before the choice
-
-  cs : List Command
-  cs = header_of.commands ++ windows_of reg ++ choices_of reg ++ rows_of reg ++ terms_of reg
-
-  body : Body U reg cs
-  unfolding cs
-  body = said_kinds reg U (Header reg) (HeaderWhere U reg) kinds cs (header_says U reg) (body_are reg header_of.commands header_of.are)
-
-  good : Good U reg cs
-  good = record { within = c.within; body = inr (c.day, body) }
-
-  front_is : encode register_part cs ≡ c.front
-  unfolding cs
-  front_is = body_bytes reg header_of.commands c.no_row c.no_term ∙ sym header_of.bytes
-
-  abbrev read : Progress Register
-  read = reached (last_from 0 cs) reg
-
-  after_them : is_among (last_from 0 cs) choice_row.follows ≡ true
-  after_them =
-      kinds_stand reg (HeaderWhere U reg) (under_all U (window_kind ∷ choice_kind ∷ [])) cs (0x10 ∷ 0x18 ∷ []) choice_row.follows tt (header_stands U reg)
-      (kinds_none reg (ToChoices U reg) (after_choices U) cs (c.no_row, (c.no_term, tt)) body)
-
-  -- and it
-
   dropped : drop at s ≡ encode_command register_part (choice_command c.t c.m) ++ c.rest
-  dropped = ap (drop at) c.bytes ∙ drop_at c.front (encode_choice c.t c.m ++ c.rest) at (sym c.position) ∙ ap (λ x. x ++ c.rest) (sym (choice_bytes c.t c.m))
+  dropped = choice_dropped reg c.within c.day c.no_row c.no_term c.front c.encodes s at c.t c.m c.rest c.bytes c.position ∙ ap (λ x. x ++ c.rest) (sym (choice_bytes c.t c.m))
 
   fit : Fit (register_part.widths 0x11) (c.t ∷ c.m ∷ [])
   unfolding row_of
@@ -264,30 +260,20 @@ module _ (s : List ℕ) (at : ℕ) (c : ChoiceOutside s at) where
   stands : command_at register_part s at ≡ choice_command c.t c.m
   stands = command_at_reads register_part s at (choice_command c.t c.m) c.rest fit dropped
 
-  long : at + size register_part 0x11 ≤ length s
-  unfolding row_of total
-  long =
-      let n : length (encode_command register_part (choice_command c.t c.m)) ≡ size register_part 0x11 = length_command register_part (choice_command c.t c.m) fit in
-      omega (arith, ap length dropped ∙ length-append (encode_command register_part (choice_command c.t c.m)) c.rest, length-drop at s, n)
-
   may_not_here : may_feed reg.windows reg.window_tanks reg.window_froms reg.window_tos c.t c.m ≡ false
   may_not_here =
       flag (may_feed reg.windows reg.window_tanks reg.window_froms reg.window_tos c.t c.m)
       (λ t. absurd (⊎_elim (λ none. none c.window c.there c.own) c.outside ((may_iff reg.window_tanks reg.window_froms reg.window_tos c.t c.m reg.windows).0 t)))
       (λ t. t)
 
-  fails : refusal (checks_at register_part s read at) ≡ 13
+  -- its own checks, of the operands that are read
+  own_13 : refusal (choice_row.checks reg (operands_at choice_row.widths s (at + 1))) ≡ 13
   unfolding row_of
-  fails =
+  own_13 =
       let byte : get_or s at 0 ≡ 0x11 = ap (λ c. c.byte) stands in
-      own_fails register_part s read at 13 (rw byte after_them) (rw byte long)
-      (ap (λ (k : Command). refusal ((row_of register_rows k.byte).checks reg k.operands)) stands
-      ∙ choice_refused reg.day_length reg.choices (tank reg (reg.choices - 1)) (minute reg (reg.choices - 1)) c.t c.m _ (record { few = c.few; fits = c.ranges; rises = c.rises }) may_not_here)
+      ap (λ b. refusal (choice_row.checks reg (operands_at (register_part.widths b) s (at + 1)))) (sym byte)
+      ∙ ap (λ (k : Command). refusal (choice_row.checks reg k.operands)) stands
+      ∙ choice_refused reg.day_length reg.choices (tank reg (reg.choices - 1)) (minute reg (reg.choices - 1)) c.t c.m _ (record { few = c.few; fits = c.ranges; rises = c.rises }) may_not_here
 
   pub outside : register_in_job s ≡ refused 13 at
-  unfolding register_in_job read_part
-  outside =
-      let post = encode_choice c.t c.m ++ c.rest in
-      let n : length (encode register_part cs) ≡ at = ap length front_is ∙ sym c.position in
-      reads_through register_part cs s register_part.start 0 read post (good_reaches fresh register_rows laws reg cs good) (c.bytes ∙ ap (λ x. x ++ post) (sym front_is))
-      ∙ rw (zero-add, n) (read_from_refused register_part s read at 13 (omega (arith, long)) fails (λ z. omega arith))
+  outside = choice_refused_there reg c.within c.day c.no_row c.no_term c.front c.encodes s at c.t c.m c.rest c.bytes c.position 13 own_13 (λ z. omega arith)

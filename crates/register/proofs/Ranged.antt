@@ -1,9 +1,9 @@
 -- The coefficients of a register's terms, also past the count: the low one is at most the high one, and both are within the limit. Where
--- no term has a range they are one, and the bytes of the terms are those of `12` alone.
+-- no term has a range they are one, and the bytes of the terms are those of `12` and `15` alone.
 use Prim.Native.Nat.{ℕ, ◌<◌, ◌≤◌}
 use native.Mathlib.Omega.{arith}
 use mathlib.Core.Path.{◌≡◌, refl, sym, ◌∙◌}
-use mathlib.Core.Bool.{false, false≢true}
+use mathlib.Core.Bool.{Bool, false, false≢true}
 use lib.Dec.{ltb}
 use lib.IntN.{ℤ, pos, nat_abs}
 use lib.Signed.{◌≤ℤ◌, ≤ℤ_refl}
@@ -16,7 +16,7 @@ use Rattle.register.specs.declared.Register.{Register}
 use Rattle.register.specs.Limits.{max_coefficient}
 use Rattle.register.specs.Register.{mask, coefficient, high, is_range, has_range}
 use Rattle.register.specs.Valid.{Within}
-use Rattle.register.specs.Encoding.{encode_term, encode_terms}
+use Rattle.register.specs.Encoding.{encode_known, encode_terms_by}
 
 module _ (r : Register) (w : Within r) where
   -- by whether there is such a term: past the count both coefficients are 0
@@ -45,5 +45,5 @@ module _ (r : Register) (w : Within r) where
     pub high_is : (t : ℕ) → high r t ≡ coefficient r t
     high_is t = by_count (λ a b. b ≡ a) t (λ l. ((w.terms.each t l).known (unranged t)).0) refl
 
-    pub terms_bytes : encode_terms r ≡ join_below r.terms (λ t. encode_term (mask r t) (coefficient r t))
-    terms_bytes = join_cong r.terms _ _ (λ t l. rw (unranged t))
+    pub terms_bytes : (wide : ℕ → Bool) → encode_terms_by wide r ≡ join_below r.terms (λ t. encode_known (wide t) (mask r t) (coefficient r t))
+    terms_bytes wide = join_cong r.terms _ _ (λ t l. rw (unranged t))

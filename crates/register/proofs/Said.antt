@@ -4,8 +4,8 @@ use Prim.Native.Nat.{ℕ, zero, suc, ◌+◌, ◌≤◌, ◌<◌}
 use native.Mathlib.Omega.{arith}
 use native.Mathlib.Decide.{ℕ_discrete}
 use mathlib.Core.Path.{◌≡◌, refl, sym, ◌∙◌, ap, subst}
-use mathlib.Core.Logic.{◌⊎◌, ◌↔◌, ⊎_elim}
-use mathlib.Core.Bool.{Bool, true, false, cond, ◌||◌, false≢true, or-true, or-false}
+use mathlib.Core.Logic.{◌↔◌, ⊎_elim}
+use mathlib.Core.Bool.{Bool, true, false, cond, ◌&&◌, ◌||◌, false≢true, or-true, or-false}
 use mathlib.Core.List.{List, [], ◌∷◌}
 use lib.Dec.{eqb}
 use lib.ListN.{length, get_or}
@@ -122,20 +122,19 @@ alike_through P Q T A B a b = record {
       };
 }
 
--- ---- a new command with byte b, which may stand where `may` has it, and gives Some of what there was not; `rows` are those before it
+-- ---- a new command with byte b, which is new where `may` has it, and gives Some of what there was not; `rows` are those before it
 
 -- Reach holds of what was read, as far as neither it nor another new command was
 pub record New (rows : List (Row Register)) (b : ℕ) (may : Progress Register → Bool) (Some : Register → Type 0) (Reach : Progress Register → ℕ → Type 0) : Type 0 where
   pub starts : Reach register_part.start 0
   pub none : (read : Progress Register) (at : ℕ) → Reach read at → Some read.parsed → ⊥
-  -- a command that may stand as before is what it was
-  pub agree : (read : Progress Register) (at c : ℕ) → Reach read at → is_among read.previous (row_of rows c).follows ≡ true → Alike register_part (part_of fresh rows) Reach read at c
-  -- and what may not stand as before, and does now, is the new command, or one that it never follows
+  -- any other command that may stand as before is what it was
+  pub agree : (read : Progress Register) (at c : ℕ) → Reach read at → is_among read.previous (row_of rows c).follows ≡ true → (c ≡ b → may read ≡ false) → Alike register_part (part_of fresh rows) Reach read at c
+  -- and any other that may not stand as before, and does now, is one that the new one never follows
   pub other : (s : List ℕ) (read : Progress Register) (at : ℕ) → Reach read at → Passes register_part s read at → is_among read.previous (row_of rows (get_or s at 0)).follows ≡ false
-      → (get_or s at 0 ≡ b) ⊎ ((p : Progress Register) (end : ℕ) → read_from register_part s read at ≡ accepted p end → Some p.parsed → ⊥)
-  pub stands : (read : Progress Register) → may read ≡ is_among read.previous (row_of register_rows b).follows
+      → (get_or s at 0 ≡ b → may read ≡ false) → (p : Progress Register) (end : ℕ) → read_from register_part s read at ≡ accepted p end → Some p.parsed → ⊥
   -- it gives some, and no command takes any away
-  pub some : (read : Progress Register) (at c : ℕ) (xs : List ℕ) → Reach read at → c ≡ b → refusal ((row_of register_rows c).checks read.parsed xs) ≡ 0 → Some ((row_of register_rows c).after read.parsed xs)
+  pub some : (read : Progress Register) (at c : ℕ) (xs : List ℕ) → Reach read at → c ≡ b → may read ≡ true → refusal ((row_of register_rows c).checks read.parsed xs) ≡ 0 → Some ((row_of register_rows c).after read.parsed xs)
   pub kept : All (λ row. (r : Register) (xs : List ℕ) → Some r → Some (row.after r xs)) register_rows
 
 module _ (rows : List (Row Register)) (b : ℕ) (may : Progress Register → Bool) (Some : Register → Type 0) (Reach : Progress Register → ℕ → Type 0) (new : New rows b may Some Reach) (s : List ℕ) where
@@ -145,13 +144,20 @@ module _ (rows : List (Row Register)) (b : ℕ) (may : Progress Register → Boo
   abbrev Q : Part (Progress Register)
   Q = part_of fresh rows
 
-  -- where the command may stand as before both check alike and go on alike
-  module _ (read : Progress Register) (at : ℕ) (r : Reach read at) (h : Q.here read (get_or s at 0) ≡ true) where
+  -- the new command is here
+  abbrev new_here : Progress Register → ℕ → Bool
+  new_here read at = eqb (get_or s at 0) b && may read
+
+  not_new : (read : Progress Register) (at : ℕ) → new_here read at ≡ false → get_or s at 0 ≡ b → may read ≡ false
+  not_new read at e q = rw (eq-eqb (get_or s at 0) b q) at e
+
+  -- where it is not, and the command may stand as before, both check alike and go on alike
+  module _ (read : Progress Register) (at : ℕ) (r : Reach read at) (h : Q.here read (get_or s at 0) ≡ true) (d : new_here read at ≡ false) where
     abbrev c : ℕ
     c = get_or s at 0
 
     alike : Alike P Q Reach read at c
-    alike = new.agree read at c r h
+    alike = new.agree read at c r h (not_new read at d)
 
     here : P.here read c ≡ true
     here = alike.here ∙ h
@@ -178,7 +184,7 @@ module _ (rows : List (Row Register)) (b : ℕ) (may : Progress Register → Boo
     -- what was given is kept to the end, and the command gives it
 
     abbrev Grown : Progress Register → ℕ → Type 0
-    Grown read at = (Some read.parsed → Some p.parsed) × (Reach read at → get_or s at 0 ≡ b → Some p.parsed)
+    Grown read at = (Some read.parsed → Some p.parsed) × (Reach read at → new_here read at ≡ true → Some p.parsed)
 
     grown : (read : Progress Register) (at : ℕ) → read_from P s read at ≡ accepted p end → Grown read at
     unfolding after_at
@@ -187,7 +193,7 @@ module _ (rows : List (Row Register)) (b : ℕ) (may : Progress Register → Boo
         here_grown : (read : Progress Register) (at : ℕ) → Passes P s read at → (Some (after_at P s read at).parsed → Some p.parsed) → Grown read at
         here_grown read at h g = (
           (λ t. g (row_of_by (λ c row. (r : Register) (xs : List ℕ) → Some r → Some (row.after r xs)) register_rows (get_or s at 0) (λ r xs t. t) new.kept read.parsed (operands P s at) t)),
-          (λ r e. g (new.some read at (get_or s at 0) (operands P s at) r e h.allowed)),
+          (λ r t. let (e, m) = and_both _ _ t in g (new.some read at (get_or s at 0) (operands P s at) r (eqb-true _ _ e) m h.allowed)),
         )
 
         ways : Ways P s (λ read at x. x ≡ accepted p end → Grown read at)
@@ -204,20 +210,20 @@ module _ (rows : List (Row Register)) (b : ℕ) (may : Progress Register → Boo
     comes zero read at r a e = absurd (false≢true e)
     comes (suc k) read at r a e =
         let (l, f) = and_both _ _ e in
-        ⊎_elim (λ t. (grown read at a).1 r (eqb-true _ _ (and_both _ _ t).0)) (past (comes k) (ltb-true _ _ l)) (or_either _ _ f)
+        flag (new_here read at) (λ t. (grown read at a).1 r t) (λ d. past (comes k) (ltb-true _ _ l) d (rw d at f))
       where
         past : ((read : Progress Register) (at : ℕ) → Reach read at → read_from P s read at ≡ accepted p end → comes_from Q may b s k read at ≡ true → Some p.parsed)
-            → at < length s → passing (step Q s read at) (comes_from Q may b s k) ≡ true → Some p.parsed
-        past later l t =
+            → at < length s → new_here read at ≡ false → passing (step Q s read at) (comes_from Q may b s k) ≡ true → Some p.parsed
+        past later l d t =
             let n = refusal (checks_at Q s read at) in
             flag (eqb n 0)
             (λ z.
             let passed = eqb-true n 0 z in
             let h = (checks_at_passed Q s read at l passed).here in
-            let passed' = checks_same read at r h ∙ passed in
+            let passed' = checks_same read at r h d ∙ passed in
             flag (Q.last (get_or s at 0))
             (λ u. absurd (false≢true (rw (step_ends Q s read at l passed u) at t)))
-            (λ u. later _ _ (onward read at r h l passed') (sym (read_from_goes P s read at l passed' ((same read at r h).last ∙ u)) ∙ a) (rw (after_same read at r h, size_same read at r h) at (rw (step_goes Q s read at l passed u) at t))))
+            (λ u. later _ _ (onward read at r h d l passed') (sym (read_from_goes P s read at l passed' ((same read at r h d).last ∙ u)) ∙ a) (rw (after_same read at r h d, size_same read at r h d) at (rw (step_goes Q s read at l passed u) at t))))
             (λ z. absurd (false≢true (rw (step_refused Q s read at n l refl (eqb-false n 0 z)) at t)))
 
     -- and where it has some, reading as before comes to the command
@@ -225,23 +231,23 @@ module _ (rows : List (Row Register)) (b : ℕ) (may : Progress Register → Boo
     abbrev Comes : Progress Register → ℕ → Reading (Progress Register) → Type 0
     Comes read at x = x ≡ read_from P s read at → Reach read at → (k : ℕ) → length s ≤ at + k → x ≡ accepted p end → Some p.parsed → comes_from Q may b s k read at ≡ true
 
-    -- a command that may not stand as before
-    found : (read : Progress Register) (at : ℕ) → Reach read at → Passes P s read at → Q.here read (get_or s at 0) ≡ false → read_from P s read at ≡ accepted p end → Some p.parsed → (k : ℕ) → length s ≤ at + k → comes_from Q may b s k read at ≡ true
+    comes_here : (read : Progress Register) (at : ℕ) → at < length s → new_here read at ≡ true → (k : ℕ) → length s ≤ at + k → comes_from Q may b s k read at ≡ true
     unfolding comes_from
-    found read at r h f a t zero n = absurd (omega (arith, h.inside))
-    found read at r h f a t (suc k) n =
-        ⊎_elim
-        (λ e. rw (lt-ltb at (length s) h.inside, eq-eqb (get_or s at 0) b e, new.stands read, rw e at h.here))
-        (λ closed. absurd (closed p end a t)) (new.other s read at r h f)
+    comes_here read at l t zero n = absurd (omega arith)
+    comes_here read at l t (suc k) n = rw (lt-ltb at (length s) l, t)
 
-    comes_on : (read : Progress Register) (at : ℕ) → Passes P s read at → (r : Reach read at) (h : Q.here read (get_or s at 0) ≡ true) → P.last (get_or s at 0) ≡ false
+    comes_on : (read : Progress Register) (at : ℕ) → Passes P s read at → (r : Reach read at) (h : Q.here read (get_or s at 0) ≡ true) → (d : new_here read at ≡ false) → P.last (get_or s at 0) ≡ false
         → ((k : ℕ) → length s ≤ at + size P (get_or s at 0) + k → comes_from Q may b s k (after_at P s read at) (at + size P (get_or s at 0)) ≡ true)
         → (k : ℕ) → length s ≤ at + k → comes_from Q may b s k read at ≡ true
     unfolding comes_from passing
-    comes_on read at g r h l rest zero n = absurd (omega (arith, g.inside))
-    comes_on read at g r h l rest (suc k) n =
-        let passed = sym (checks_same read at r h) ∙ passed_checks_at P s read at g in
-        rw (lt-ltb at (length s) g.inside, step_goes Q s read at g.inside passed (sym (same read at r h).last ∙ l), after_same read at r h, size_same read at r h, rest k (omega arith), or-true)
+    comes_on read at g r h d l rest zero n = absurd (omega (arith, g.inside))
+    comes_on read at g r h d l rest (suc k) n =
+        let passed = sym (checks_same read at r h d) ∙ passed_checks_at P s read at g in
+        rw (lt-ltb at (length s) g.inside, step_goes Q s read at g.inside passed (sym (same read at r h d).last ∙ l), after_same read at r h d, size_same read at r h d, rest k (omega arith), or-true)
+
+    -- a command that may not stand as before is followed by no new one
+    closed : (read : Progress Register) (at : ℕ) → Reach read at → Passes P s read at → new_here read at ≡ false → Q.here read (get_or s at 0) ≡ false → read_from P s read at ≡ accepted p end → Some p.parsed → ⊥
+    closed read at r g d f = new.other s read at r g f (not_new read at d) p end
 
     found_ways : Ways P s Comes
     found_ways = record {
@@ -249,14 +255,16 @@ module _ (rows : List (Row Register)) (b : ℕ) (may : Progress Register → Boo
       refuses = λ read at m l e d i r k n q t. let z : ◌≡◌ {A = ℕ} 0 1 = cc in absurd (omega arith);
       goes = λ read at x g l rest i r k n q t.
           let passed = passed_checks_at P s read at g in
+          flag (new_here read at) (λ e. comes_here read at g.inside e k n) λ d.
           flag (Q.here read (get_or s at 0))
-          (λ h. comes_on read at g r h l (λ k n. rest (i ∙ read_from_goes P s read at g.inside passed l) (onward read at r h g.inside passed) k n q t) k n)
-          (λ f. found read at r g f (sym i ∙ q) t k n);
+          (λ h. comes_on read at g r h d l (λ k n. rest (i ∙ read_from_goes P s read at g.inside passed l) (onward read at r h d g.inside passed) k n q t) k n)
+          (λ f. absurd (closed read at r g d f (sym i ∙ q) t));
       ends = λ read at g l i r k n q t.
           let passed = passed_checks_at P s read at g in
+          flag (new_here read at) (λ e. comes_here read at g.inside e k n) λ d.
           flag (Q.here read (get_or s at 0))
-          (λ h. let z : after_at P s read at ≡ p = cc in absurd (new.none _ _ (onward read at r h g.inside passed) (subst (λ (q : Progress Register). Some q.parsed) (sym z) t)))
-          (λ f. found read at r g f (sym i ∙ q) t k n);
+          (λ h. let z : after_at P s read at ≡ p = cc in absurd (new.none _ _ (onward read at r h d g.inside passed) (subst (λ (q : Progress Register). Some q.parsed) (sym z) t)))
+          (λ f. absurd (closed read at r g d f (sym i ∙ q) t));
     }
 
     pub said_in_job : register_in_job s ≡ accepted p end → (comes_to Q may b s ≡ true) ↔ Some p.parsed

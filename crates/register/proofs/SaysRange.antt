@@ -1,9 +1,8 @@
 -- An accepted register has a range just where its bytes say one.
 use Prim.Native.Nat.{ℕ, suc, ◌-◌, ◌<◌}
 use native.Mathlib.Omega.{arith}
-use native.Mathlib.Decide.{ℕ_discrete}
-use mathlib.Core.Path.{◌≡◌, refl, sym, ◌∙◌, ap}
-use mathlib.Core.Logic.{◌⊎◌, inl, ◌↔◌}
+use mathlib.Core.Path.{◌≡◌, sym, ◌∙◌, ap}
+use mathlib.Core.Logic.{◌↔◌}
 use mathlib.Core.Bool.{Bool, true, false, true≢false, false≢true}
 use mathlib.Core.List.{List}
 use lib.ListN.{length, get_or, set, length-replicate}
@@ -12,7 +11,7 @@ use Rattle.integers.specs.Lists.{any_below}
 use Rattle.integers.proofs.Lists.{◌▹◌}
 use Rattle.integers.proofs.Any.{any_found, any_at}
 use Rattle.integers.proofs.Entries.{kept_set, replicate_rest}
-use Rattle.wire.specs.Part.{accepted, read_from}
+use Rattle.wire.specs.Part.{accepted}
 use Rattle.wire.specs.Rows.{Progress, is_among, row_of}
 use Rattle.wire.proofs.Part.{Passes}
 use Rattle.register.specs.declared.Register.{Register}
@@ -50,23 +49,18 @@ still_ranged r ranged t =
     any_at (suc r.terms) (λ t. get_or (set r.ranged r.terms ranged) t false) w.index (omega (arith, w.below)) (kept_set r.ranged r.terms ranged false w.index w.below ∙ w.passes)
 
 other : (s : List ℕ) (read : Progress Register) (at : ℕ) → Reach read at → Passes register_part s read at → is_among read.previous (row_of rows_before_ranges (get_or s at 0)).follows ≡ false
-    → (get_or s at 0 ≡ 0x16) ⊎ ((p : Progress Register) (end : ℕ) → read_from register_part s read at ≡ accepted p end → Ranged p.parsed → ⊥)
-other s read at r g f = go (ℕ_discrete (get_or s at 0) 0x16)
-  where
-    go : Dec (get_or s at 0 ≡ 0x16) → (get_or s at 0 ≡ 0x16) ⊎ ((p : Progress Register) (end : ℕ) → read_from register_part s read at ≡ accepted p end → Ranged p.parsed → ⊥)
-    go (yes e) = inl e
-    go (no d) = absurd (true≢false (sym g.here ∙ (agree read at (get_or s at 0) r (λ e. absurd (d e))).here ∙ f))
+    → (get_or s at 0 ≡ 0x16 → range_may_stand read ≡ false) → ⊥
+other s read at r g f d = true≢false (sym g.here ∙ (agree read at (get_or s at 0) r d).here ∙ f)
 
 new_range : New rows_before_ranges 0x16 range_may_stand Ranged Reach
 unfolding row_of
 new_range = record {
   starts = starts;
   none = λ read at r t. none_ranged read.parsed r.none t;
-  agree = λ read at c r h. agree read at c r (λ e. absurd (false≢true (rw e at h)));
-  other = other;
-  stands = λ read. refl;
-  some = λ read at c xs r e q. rw e (now_ranged read.parsed r.none ((range_iff _ _ (term_at read.parsed (read.parsed.terms - 1)) _ _ _).0 (rw e at q)).few);
-  kept = (λ r xs t. t) ▹ (λ r xs t. t) ▹ (λ r xs. still_ranged r false) ▹ (λ r xs t. t) ▹ (λ r xs t. t) ▹ (λ r xs. still_ranged r true) ▹ (λ r xs t. t) ▹ (λ r xs t. t) ▹ tt;
+  agree = λ read at c r h d. agree read at c r d;
+  other = λ s read at r g f d. absurd (other s read at r g f d);
+  some = λ read at c xs r e m q. rw e (now_ranged read.parsed r.none ((range_iff _ _ (term_at read.parsed (read.parsed.terms - 1)) _ _ _).0 (rw e at q)).few);
+  kept = (λ r xs t. t) ▹ (λ r xs t. t) ▹ (λ r xs. still_ranged r false) ▹ (λ r xs t. t) ▹ (λ r xs t. t) ▹ (λ r xs. still_ranged r false) ▹ (λ r xs. still_ranged r true) ▹ (λ r xs t. t) ▹ (λ r xs t. t) ▹ tt;
 }
 
 module _ (s : List ℕ) (p : Progress Register) (end : ℕ) where

@@ -4,7 +4,7 @@ use Prim.Native.Nat.{ℕ, ◌*◌, ◌≤◌}
 use native.Mathlib.Omega.{arith}
 use native.Mathlib.Decide.{ℕ_discrete}
 use mathlib.Core.Path.{◌≡◌, refl, sym, ◌∙◌, ap}
-use mathlib.Core.Logic.{◌⊎◌, inl, inr, ◌↔◌}
+use mathlib.Core.Logic.{inl, inr, ◌↔◌}
 use mathlib.Core.Bool.{true, false, true≢false, false≢true}
 use mathlib.Core.List.{List}
 use lib.Dec.{T, ltb}
@@ -35,18 +35,23 @@ use Rattle.register.proofs.BeforeRanges as R
 use Rattle.register.proofs.BeforeRows as B
 use Rattle.register.proofs.BeforeRows.{rows_of}
 
--- ---- after a term no row follows
+-- ---- after a term no choice and no row follows
+
+-- the counts of both
+abbrev pub counts : Register → ℕ × ℕ
+counts r = (r.choices, r.rows)
 
 after_term : (previous c : ℕ) (r : Register) (xs : List ℕ) → Among previous term_kind.bytes → is_among previous (row_of register_rows c).follows ≡ true
-    → ((row_of register_rows c).last ≡ false → Among c term_kind.bytes) × (((row_of register_rows c).after r xs).rows ≡ r.rows)
+    → ((row_of register_rows c).last ≡ false → Among c term_kind.bytes) × (counts ((row_of register_rows c).after r xs) ≡ counts r)
 after_term previous c r xs m =
-    row_of_by (λ c row. is_among previous row.follows ≡ true → (row.last ≡ false → Among c term_kind.bytes) × ((row.after r xs).rows ≡ r.rows)) register_rows c (λ e. absurd (false≢true e))
+    row_of_by (λ c row. is_among previous row.follows ≡ true → (row.last ≡ false → Among c term_kind.bytes) × (counts (row.after r xs) ≡ counts r)) register_rows c (λ e. absurd (false≢true e))
     ((λ e. absurd (none base_row.follows tt e))
     ▹ (λ e. absurd (none choice_row.follows tt e))
     ▹ (λ e. ((λ _. inl refl), refl))
     ▹ (λ e. absurd (none window_row.follows tt e))
     ▹ (λ e. absurd (none row_row.follows tt e))
     ▹ (λ e. ((λ _. inr (inl refl)), refl))
+    ▹ (λ e. ((λ _. inr (inr (inl refl))), refl))
     ▹ (λ e. absurd (none length_row.follows tt e))
     ▹ (λ e. ((λ l. absurd (true≢false l)), refl))
     ▹ tt)
@@ -56,11 +61,11 @@ after_term previous c r xs m =
 
 module _ (s : List ℕ) (p : Progress Register) (end : ℕ) where
   abbrev Stays : Progress Register → ℕ → Reading (Progress Register) → Type 0
-  Stays read at x = Among read.previous term_kind.bytes → x ≡ accepted p end → p.parsed.rows ≡ read.parsed.rows
+  Stays read at x = Among read.previous term_kind.bytes → x ≡ accepted p end → counts p.parsed ≡ counts read.parsed
 
-  rows_stay : (read : Progress Register) (at : ℕ) → Stays read at (read_from register_part s read at)
+  counts_stay : (read : Progress Register) (at : ℕ) → Stays read at (read_from register_part s read at)
   unfolding after_at
-  rows_stay = by_ways register_part s Stays ways
+  counts_stay = by_ways register_part s Stays ways
     where
       ways : Ways register_part s Stays
       ways = record {
@@ -69,8 +74,24 @@ module _ (s : List ℕ) (p : Progress Register) (end : ℕ) where
         goes = λ read at x h l rest m q. let (next, same) = after_term read.previous (get_or s at 0) read.parsed (operands register_part s at) m h.here in rest (next l) q ∙ same;
         ends = λ read at h l m q.
             let z : after_at register_part s read at ≡ p = cc in
-            ap (λ p. p.parsed.rows) (sym z) ∙ (after_term read.previous (get_or s at 0) read.parsed (operands register_part s at) m h.here).1;
+            ap (λ p. counts p.parsed) (sym z) ∙ (after_term read.previous (get_or s at 0) read.parsed (operands register_part s at) m h.here).1;
       }
+
+  -- so from a term on
+  pub counts_from : (read : Progress Register) (at : ℕ) → Passes register_part s read at → Among (get_or s at 0) term_kind.bytes → read_from register_part s read at ≡ accepted p end → counts p.parsed ≡ counts read.parsed
+  unfolding after_at row_of
+  counts_from read at g m a = by m
+    where
+      on : {b : ℕ} → get_or s at 0 ≡ b → Among b term_kind.bytes → register_part.last b ≡ false → ((xs : List ℕ) → counts ((row_of register_rows b).after read.parsed xs) ≡ counts read.parsed) → counts p.parsed ≡ counts read.parsed
+      on e m l kept =
+          let onward = read_from_goes register_part s read at g.inside (passed_checks_at register_part s read at g) (rw e l) in
+          counts_stay _ _ (rw e m) (sym onward ∙ a) ∙ rw e (kept _)
+
+      by : Among (get_or s at 0) term_kind.bytes → counts p.parsed ≡ counts read.parsed
+      by (inl e) = on e (inl refl) refl (λ xs. refl)
+      by (inr (inl e)) = on e (inr (inl refl)) refl (λ xs. refl)
+      by (inr (inr (inl e))) = on e (inr (inr (inl refl))) refl (λ xs. refl)
+      by (inr (inr (inr f))) = absurd f
 
 -- ---- rows of an accepted register
 
@@ -83,31 +104,23 @@ agree read at c (r, r') d d' = alike_through register_part part_before_ranges pa
 
 -- a range is no row, and none follows it
 other : (s : List ℕ) (read : Progress Register) (at : ℕ) → Reach read at → Passes register_part s read at → is_among read.previous (row_of rows_before_rows (get_or s at 0)).follows ≡ false
-    → (get_or s at 0 ≡ 0x14) ⊎ ((p : Progress Register) (end : ℕ) → read_from register_part s read at ≡ accepted p end → 1 ≤ p.parsed.rows → ⊥)
+    → (get_or s at 0 ≡ 0x14 → row_may_stand read ≡ false) → (p : Progress Register) (end : ℕ) → read_from register_part s read at ≡ accepted p end → 1 ≤ p.parsed.rows → ⊥
 unfolding row_of after_at fresh
-other s read at r g f = go (ℕ_discrete (get_or s at 0) 0x14) (ℕ_discrete (get_or s at 0) 0x16)
+other s read at r g f d p end a some = go (ℕ_discrete (get_or s at 0) 0x16)
   where
-    range : get_or s at 0 ≡ 0x16 → (p : Progress Register) (end : ℕ) → read_from register_part s read at ≡ accepted p end → 1 ≤ p.parsed.rows → ⊥
-    range e p end a some =
-        let onward = read_from_goes register_part s read at g.inside (passed_checks_at register_part s read at g) (rw e) in
-        let stays : p.parsed.rows ≡ read.parsed.rows = rows_stay s p end _ _ (inr (inl e)) (sym onward ∙ a) ∙ rw e in
-        omega (arith, some, stays, ap (λ w. w.0) r.1.none)
-
-    go : Dec (get_or s at 0 ≡ 0x14) → Dec (get_or s at 0 ≡ 0x16) → (get_or s at 0 ≡ 0x14) ⊎ ((p : Progress Register) (end : ℕ) → read_from register_part s read at ≡ accepted p end → 1 ≤ p.parsed.rows → ⊥)
-    go (yes e) _ = inl e
-    go (no d) (yes e) = inr (range e)
-    go (no d) (no d') = absurd (true≢false (sym g.here ∙ (agree read at (get_or s at 0) r (λ e. absurd (d' e)) (λ e. absurd (d e))).here ∙ f))
+    go : Dec (get_or s at 0 ≡ 0x16) → ⊥
+    go (yes e) = omega (arith, some, ap (λ c. c.1) (counts_from s p end read at g (inr (inr (inl e))) a), ap (λ w. w.0) r.1.none)
+    go (no d') = true≢false (sym g.here ∙ (agree read at (get_or s at 0) r (λ e. absurd (d' e)) d).here ∙ f)
 
 new_row : New rows_before_rows 0x14 row_may_stand (λ r. 1 ≤ r.rows) Reach
 unfolding row_of fresh
 new_row = record {
   starts = (R.starts, B.starts);
   none = λ read at r some. omega (arith, some, ap (λ w. w.0) r.1.none);
-  agree = λ read at c r h. agree read at c r (λ e. absurd (false≢true (rw e at h))) (λ e. absurd (false≢true (rw e at h)));
+  agree = λ read at c r h. agree read at c r (λ e. absurd (false≢true (rw e at h)));
   other = other;
-  stands = λ read. refl;
-  some = λ read at c xs r e q. rw e (omega arith);
-  kept = (λ r xs t. t) ▹ (λ r xs t. t) ▹ (λ r xs t. t) ▹ (λ r xs t. t) ▹ (λ r xs t. omega arith) ▹ (λ r xs t. t) ▹ (λ r xs t. t) ▹ (λ r xs t. t) ▹ tt;
+  some = λ read at c xs r e m q. rw e (omega arith);
+  kept = (λ r xs t. t) ▹ (λ r xs t. t) ▹ (λ r xs t. t) ▹ (λ r xs t. t) ▹ (λ r xs t. omega arith) ▹ (λ r xs t. t) ▹ (λ r xs t. t) ▹ (λ r xs t. t) ▹ (λ r xs t. t) ▹ tt;
 }
 
 module _ (s : List ℕ) where

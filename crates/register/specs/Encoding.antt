@@ -1,8 +1,8 @@
 -- The register's bytes: `10` base cost, `18` day length, which may be missing where it is the usual one, `13` for each window, `11`
--- for each choice, `14` for each row, `12` or `16` for each term, `1F`. Written without the reader: of the part's rows only the widths of
--- operands are used. `SaysRow` and `SaysRange` alone, below, use a reader, as it was before there were rows or ranges, and what a `14` or
--- a `16` may stand after.
-use Rattle.std.specs.Prelude.{ℕ, ◌≡◌, ◌<◌, Bool, true, cond, map, eqb, ℤ, length, get_or}
+-- for each choice, `14` for each row, `12`, `15` or `16` for each term, `1F`. Written without the reader: of the part's rows only the widths of
+-- operands are used. `SaysRow`, `SaysRange`, `SaysWide` and `SaysMoreChoices` alone, below, use a reader, as it was before there were rows,
+-- ranges, `15` or more than 32 choices, and what such a command may stand after.
+use Rattle.std.specs.Prelude.{ℕ, ◌≡◌, ◌⊎◌, ◌<◌, ◌^◌, Bool, true, false, ◌&&◌, cond, map, eqb, leb, ℤ, length, get_or}
 use mathlib.Core.List.{List, [], ◌∷◌, ◌++◌, flat_map}
 use Rattle.std.specs.Int.{w8, w16, w32}
 use Rattle.std.proofs.Common.{of_z}
@@ -14,11 +14,12 @@ use Rattle.wire.specs.Grammar as G
 use Rattle.wire.specs.Walk.{comes_to}
 use Rattle.wire.specs.Rows.{Progress, is_among}
 use Rattle.register.specs.declared.Register.{Register}
-use Rattle.register.specs.Limits.{usual_day, row_entries}
+use Rattle.register.specs.Limits.{usual_day, row_entries, narrow_choices}
 use Rattle.register.specs.Register.{tank, minute, mask, coefficient, high, is_range, window_tank, window_from, window_to, row_total, row_entry}
-use Rattle.register.specs.Format.{row_row, range_row, register_part}
+use Rattle.register.specs.Format.{choice_row, row_row, wide_term_row, range_row, register_part}
 use Rattle.register.specs.BeforeRows.{part_before_rows}
 use Rattle.register.specs.BeforeRanges.{part_before_ranges}
+use Rattle.register.specs.BeforeWide.{part_without_wide, max_choices_before, part_before_wide}
 
 -- ---- an encoding: header, each window, choice, row and term in one of its forms, end
 
@@ -45,16 +46,40 @@ choice_kind = record { bytes = 0x11 ∷ []; count = λ r. r.choices; says = λ r
 abbrev pub term_command : (mask : ℕ) → ℤ → Command
 term_command mask coefficient = record { byte = 0x12; operands = mask ∷ of_z w32 coefficient ∷ [] }
 
+-- `15` mask, coefficient
+abbrev pub wide_term_command : (mask : ℕ) → ℤ → Command
+wide_term_command mask coefficient = record { byte = 0x15; operands = mask ∷ of_z w32 coefficient ∷ [] }
+
 -- `16` mask, low, high
 abbrev pub range_command : (mask : ℕ) → (low high : ℤ) → Command
 range_command mask low high = record { byte = 0x16; operands = mask ∷ of_z w32 low ∷ of_z w32 high ∷ [] }
 
+-- a set of choices 0 to 31, which four bytes name; the bytes of any other set would name fewer choices than it has
+abbrev pub Narrow : ℕ → Type 0
+Narrow set = set < 2 ^ narrow_choices
+
+-- the mask of every term is such a set, and that of every term with a range
+
+abbrev pub MasksNarrow : Register → Type 0
+MasksNarrow r = (t : ℕ) → t < r.terms → Narrow (mask r t)
+
+abbrev pub RangesNarrow : Register → Type 0
+RangesNarrow r = (t : ℕ) → t < r.terms → is_range r t ≡ true → Narrow (mask r t)
+
+-- a term without a range: `12`, which names choices 0 to 31 only, or `15`
+abbrev pub SaysKnown : (mask : ℕ) → ℤ → Command → Type 0
+SaysKnown mask coefficient c = (Narrow mask × (c ≡ term_command mask coefficient)) ⊎ (c ≡ wide_term_command mask coefficient)
+
+-- a term with a range: `16`, which names choices 0 to 31 only
+abbrev pub SaysRanged : (mask : ℕ) → (low high : ℤ) → Command → Type 0
+SaysRanged mask low high c = Narrow mask × (c ≡ range_command mask low high)
+
 -- a term, by whether it has a range
-abbrev pub entry_command : Bool → (mask : ℕ) → (low high : ℤ) → Command
-entry_command ranged mask low high = cond ranged (range_command mask low high) (term_command mask low)
+abbrev pub SaysTerm : Bool → (mask : ℕ) → (low high : ℤ) → Command → Type 0
+SaysTerm ranged mask low high c = cond ranged (SaysRanged mask low high c) (SaysKnown mask low c)
 
 abbrev pub term_kind : Kind Register
-term_kind = record { bytes = 0x12 ∷ 0x16 ∷ []; count = λ r. r.terms; says = λ r t c. c ≡ entry_command (is_range r t) (mask r t) (coefficient r t) (high r t) }
+term_kind = record { bytes = 0x12 ∷ 0x15 ∷ 0x16 ∷ []; count = λ r. r.terms; says = λ r t c. SaysTerm (is_range r t) (mask r t) (coefficient r t) (high r t) c }
 
 -- `13` tank, from, to
 abbrev pub window_command : (tank from to : ℕ) → Command
@@ -90,8 +115,8 @@ Commands r = Then (Kinds r (Header r) kinds) (Only (λ c. c ≡ end_command))
 abbrev pub Encodes : Register → List ℕ → Type 0
 Encodes r s = G.Encodes register_part Commands r s
 
--- ---- byte by byte: with `18`, which is an encoding of every register, and without it, which is one of a register of the usual length;
--- there are no others (`of_register` in `soundness/specs/Written`)
+-- ---- byte by byte. The encodings of a register differ in no more than this: where the length is the usual one `18` may be missing, and
+-- a term without a range is said by `15` or, where its mask is narrow, by `12` (`of_register` in `soundness/specs/Written`)
 
 -- `10` base cost i32
 unfoldable pub encode_base : ℤ → List ℕ
@@ -104,6 +129,10 @@ encode_choice tank minute = 0x11 ∷ (bytes_of 2 tank ++ bytes_of 2 minute)
 -- `12` term: mask u32, coefficient i32
 unfoldable pub encode_term : (mask : ℕ) → ℤ → List ℕ
 encode_term mask coefficient = 0x12 ∷ (bytes_of 4 mask ++ bytes_of 4 (of_z w32 coefficient))
+
+-- `15` term: mask u64, coefficient i32
+unfoldable pub encode_wide_term : (mask : ℕ) → ℤ → List ℕ
+encode_wide_term mask coefficient = 0x15 ∷ (bytes_of 8 mask ++ bytes_of 4 (of_z w32 coefficient))
 
 -- `13` window: tank u16, from u16, to u16
 unfoldable pub encode_window : (tank from to : ℕ) → List ℕ
@@ -132,23 +161,45 @@ encode_choices r = join_below r.choices (λ i. encode_choice (tank r i) (minute 
 abbrev pub encode_rows : Register → List ℕ
 encode_rows r = join_below r.rows (λ k. encode_row (row_total r k) (row_list r k))
 
-abbrev pub encode_entry : Bool → (mask : ℕ) → (low high : ℤ) → List ℕ
-encode_entry ranged mask low high = cond ranged (encode_range mask low high) (encode_term mask low)
+-- a term without a range, by `15` or by `12`
+abbrev pub encode_known : (wide : Bool) (mask : ℕ) → ℤ → List ℕ
+encode_known wide mask coefficient = cond wide (encode_wide_term mask coefficient) (encode_term mask coefficient)
 
-abbrev pub encode_terms : Register → List ℕ
-encode_terms r = join_below r.terms (λ t. encode_entry (is_range r t) (mask r t) (coefficient r t) (high r t))
+abbrev pub encode_entry : (wide ranged : Bool) (mask : ℕ) → (low high : ℤ) → List ℕ
+encode_entry wide ranged mask low high = cond ranged (encode_range mask low high) (encode_known wide mask low)
+
+-- `wide` says which of the terms without a range are said by `15`
+abbrev pub encode_terms_by : (wide : ℕ → Bool) → Register → List ℕ
+encode_terms_by wide r = join_below r.terms (λ t. encode_entry (wide t) (is_range r t) (mask r t) (coefficient r t) (high r t))
+
+-- the terms said by `12` and `16` have narrow masks
+abbrev pub Sayable : (wide : ℕ → Bool) → Register → Type 0
+Sayable wide r = (t : ℕ) → t < r.terms → (wide t ≡ false) ⊎ (is_range r t ≡ true) → Narrow (mask r t)
 
 -- after the bytes of a header
-abbrev pub encode_after : List ℕ → Register → List ℕ
-encode_after header r = header ++ encode_windows r ++ encode_choices r ++ encode_rows r ++ encode_terms r ++ (0x1F ∷ [])
+abbrev pub encode_after : (wide : ℕ → Bool) → List ℕ → Register → List ℕ
+encode_after wide header r = header ++ encode_windows r ++ encode_choices r ++ encode_rows r ++ encode_terms_by wide r ++ (0x1F ∷ [])
+
+-- with `18`, which says every length, and without it, where the length is the usual one
+abbrev pub EncodedBy : (wide : ℕ → Bool) → Register → List ℕ → Type 0
+EncodedBy wide r s = (s ≡ encode_after wide (encode_base r.base ++ encode_length r.day_length) r) ⊎ ((r.day_length ≡ usual_day) × (s ≡ encode_after wide (encode_base r.base) r))
+
+-- ---- as a writer has them: by `15` just the terms without a range that `12` cannot say
+
+abbrev pub not_narrow : Register → ℕ → Bool
+not_narrow r t = leb (2 ^ narrow_choices) (mask r t)
+
+abbrev pub encode_terms : Register → List ℕ
+encode_terms r = encode_terms_by (not_narrow r) r
 
 abbrev pub encode_with_length : Register → List ℕ
-encode_with_length r = encode_after (encode_base r.base ++ encode_length r.day_length) r
+encode_with_length r = encode_after (not_narrow r) (encode_base r.base ++ encode_length r.day_length) r
 
 abbrev pub encode_without_length : Register → List ℕ
-encode_without_length r = encode_after (encode_base r.base) r
+encode_without_length r = encode_after (not_narrow r) (encode_base r.base) r
 
--- what a writer makes: the length is said where it is not the usual one
+-- what a writer makes: the length is said where it is not the usual one. It is an encoding where each range has a narrow mask, as in every
+-- register that has an encoding
 unfoldable pub encode_register : Register → List ℕ
 encode_register r = cond (eqb r.day_length usual_day) (encode_without_length r) (encode_with_length r)
 
@@ -190,3 +241,25 @@ range_may_stand p = is_among p.previous range_row.follows
 -- just where its bytes say one (`says_range` in soundness/specs/PriceRanges)
 abbrev pub SaysRange : List ℕ → Type 0
 SaysRange s = comes_to part_before_ranges range_may_stand 0x16 s ≡ true
+
+-- ---- `15` in bytes
+
+-- a `15` may stand directly after what has been read
+abbrev pub wide_may_stand : Progress Register → Bool
+wide_may_stand p = is_among p.previous wide_term_row.follows
+
+-- reading as before there was `15`, which refuses each with 1, comes to one where it may stand. In an encoding of a valid register it does
+-- just where a term is said by `15` (`says_wide_by` in `register/proofs/SaysWide`)
+abbrev pub SaysWide : List ℕ → Type 0
+SaysWide s = comes_to part_without_wide wide_may_stand 0x15 s ≡ true
+
+-- ---- more than 32 choices in bytes
+
+-- a `11` may stand directly after what has been read, and is the 33rd choice or a later one
+abbrev pub more_may_stand : Progress Register → Bool
+more_may_stand p = is_among p.previous choice_row.follows && leb max_choices_before p.parsed.choices
+
+-- reading as before there were forty-eight choices, which refuses each 33rd with 3, comes to one where it may stand. An accepted register
+-- has more than 32 choices just where its bytes say one (`said_in_job` in `register/proofs/SaysMoreChoices`)
+abbrev pub SaysMoreChoices : List ℕ → Type 0
+SaysMoreChoices s = comes_to part_before_wide more_may_stand 0x11 s ≡ true

@@ -1,4 +1,4 @@
--- The register's commands: `10` base cost, `11` choice, `12` term, `13` window, `14` row, `16` range, `18` day length, `1F`
+-- The register's commands: `10` base cost, `11` choice, `12` and `15` term, `13` window, `14` row, `16` range, `18` day length, `1F`
 -- end.
 use Rattle.std.specs.Prelude.{ℕ, ◌-◌, ◌^◌, Bool, true, false, not, ◌&&◌, ◌||◌, List, [], ◌∷◌, ltb, leb, eqb, ℤ, pos, nat_abs, get_or, map, drop, replicate}
 use Rattle.std.specs.Int.{w8, w16, w32}
@@ -34,7 +34,7 @@ may_feed n tanks froms tos tank minute =
     not (any_below n (λ j. eqb (get_or tanks j 0) tank))
     || any_below n (λ j. eqb (get_or tanks j 0) tank && leb (get_or froms j 0) minute && ltb minute (get_or tos j 0))
 
--- up to 32 choices, in their ranges on a day of this length, rising strictly by tank, then minute, where the tank may be fed:
+-- up to 48 choices, in their ranges on a day of this length, rising strictly by tank, then minute, where the tank may be fed:
 -- n choices were read, the last with tank₀, minute₀
 unfoldable pub choice_checks : (length n tank₀ minute₀ tank minute : ℕ) → (may : Bool) → List Check
 choice_checks length n tank₀ minute₀ tank minute may =
@@ -44,7 +44,7 @@ choice_checks length n tank₀ minute₀ tank minute may =
     ∷ check 13 (not may)
     ∷ []
 
--- `11` choice: tank u16, minute u16. All `11` come before all `12` and `16`
+-- `11` choice: tank u16, minute u16. All `11` come before all `12`, `15` and `16`
 abbrev pub choice_row : Row Register
 choice_row = record {
   byte = 0x11;
@@ -66,16 +66,20 @@ term_checks n m mask₀ mask coefficient =
     ∷ check 7 (not (eqb m 0 || ltb mask₀ mask))
     ∷ []
 
--- `12` term: mask u32, coefficient i32
+-- `12` term: mask u32, coefficient i32. So it names choices 0 to 31 only
 abbrev pub term_row : Row Register
 term_row = record {
   byte = 0x12;
-  follows = 0x10 ∷ 0x11 ∷ 0x12 ∷ 0x13 ∷ 0x14 ∷ 0x16 ∷ 0x18 ∷ [];
+  follows = 0x10 ∷ 0x11 ∷ 0x12 ∷ 0x13 ∷ 0x14 ∷ 0x15 ∷ 0x16 ∷ 0x18 ∷ [];
   widths = 4 ∷ 4 ∷ [];
   checks = λ r. binary λ m c. term_checks r.choices r.terms (mask r (r.terms - 1)) m (to_z w32 c);
   after = λ r. binary λ m c. with_term r m (to_z w32 c);
   last = false;
 }
+
+-- `15` term: mask u64, coefficient i32. Among the `12`, and in all else as `12` is
+abbrev pub wide_term_row : Row Register
+wide_term_row = record term_row { byte = 0x15; widths = 8 ∷ 4 ∷ [] }
 
 -- up to 64 windows, in their ranges on a day of this length, "from" below "to", rising strictly by tank, then "from": k windows
 -- were read, the last with tank₀, from₀
@@ -114,7 +118,7 @@ row_checks k b zeros =
 abbrev pub entries_of : List ℕ → List ℤ
 entries_of xs = map (to_z w8) (first_of row_entries (drop 1 xs))
 
--- `14` row: total i16, then 32 entries i8. After all `13` and `11` and before all `12` and `16`
+-- `14` row: total i16, then 32 entries i8. After all `13` and `11` and before all `12`, `15` and `16`
 abbrev pub row_row : Row Register
 row_row = record {
   byte = 0x14;
@@ -136,11 +140,11 @@ range_checks n m mask₀ mask low high =
     ∷ check 7 (not (eqb m 0 || ltb mask₀ mask))
     ∷ []
 
--- `16` range: mask u32, low i32, high i32. Among the `12`
+-- `16` range: mask u32, low i32, high i32. Among the `12`; it names choices 0 to 31 only
 abbrev pub range_row : Row Register
 range_row = record {
   byte = 0x16;
-  follows = 0x10 ∷ 0x11 ∷ 0x12 ∷ 0x13 ∷ 0x14 ∷ 0x16 ∷ 0x18 ∷ [];
+  follows = 0x10 ∷ 0x11 ∷ 0x12 ∷ 0x13 ∷ 0x14 ∷ 0x15 ∷ 0x16 ∷ 0x18 ∷ [];
   widths = 4 ∷ 4 ∷ 4 ∷ [];
   checks = λ r. ternary λ m l h. range_checks r.choices r.terms (mask r (r.terms - 1)) m (to_z w32 l) (to_z w32 h);
   after = λ r. ternary λ m l h. with_range r m (to_z w32 l) (to_z w32 h);
@@ -174,7 +178,7 @@ end_checks n = check 3 (eqb n 0) ∷ []
 abbrev pub end_row : Row Register
 end_row = record {
   byte = 0x1F;
-  follows = 0x10 ∷ 0x11 ∷ 0x12 ∷ 0x13 ∷ 0x14 ∷ 0x16 ∷ 0x18 ∷ [];
+  follows = 0x10 ∷ 0x11 ∷ 0x12 ∷ 0x13 ∷ 0x14 ∷ 0x15 ∷ 0x16 ∷ 0x18 ∷ [];
   widths = [];
   checks = λ r xs. end_checks r.choices;
   after = λ r xs. r;
@@ -182,7 +186,7 @@ end_row = record {
 }
 
 abbrev pub register_rows : List (Row Register)
-register_rows = base_row ∷ choice_row ∷ term_row ∷ window_row ∷ row_row ∷ range_row ∷ length_row ∷ end_row ∷ []
+register_rows = base_row ∷ choice_row ∷ term_row ∷ window_row ∷ row_row ∷ wide_term_row ∷ range_row ∷ length_row ∷ end_row ∷ []
 
 abbrev pub register_part : Part (Progress Register)
 register_part = part_of fresh register_rows

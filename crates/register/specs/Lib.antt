@@ -12,6 +12,7 @@ pub mod Outside
 pub mod Position
 pub mod Answer
 pub mod Opening
+pub mod BeforeWide
 pub mod BeforeRanges
 pub mod BeforeRows
 pub mod BeforeLengths

@@ -1,10 +1,10 @@
 -- The register's limits and ranges.
 use Rattle.std.specs.Prelude.{ℕ, ℤ, pos, negsuc}
 
--- up to 32 choices, 256 terms, 64 windows and 8 rows
+-- up to 48 choices, 256 terms, 64 windows and 8 rows
 
 abbrev pub max_choices : ℕ
-max_choices = 32
+max_choices = 48
 
 abbrev pub max_terms : ℕ
 max_terms = 256
@@ -19,6 +19,11 @@ max_rows = 8
 
 abbrev pub row_entries : ℕ
 row_entries = 32
+
+-- the choices that a set of four bytes can name, 0 to 31; one of eight bytes names all
+
+abbrev pub narrow_choices : ℕ
+narrow_choices = 32
 
 -- the highest base cost, tank and coefficient; base cost and coefficient may be as far below 0
 

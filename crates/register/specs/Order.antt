@@ -52,7 +52,7 @@ InOrder groups rows = All (λ row. same_bytes row.follows (directly_after groups
 
 -- ---- part 1
 
--- `10`, `18` at most once, each `13`, each `11`, each `14`, each `12` and `16`, `1F`
+-- `10`, `18` at most once, each `13`, each `11`, each `14`, each `12`, `15` and `16`, `1F`
 abbrev pub register_order : List Group
 register_order =
     record { often = once; bytes = 0x10 ∷ [] }
@@ -60,6 +60,6 @@ register_order =
     ∷ record { often = any_number; bytes = 0x13 ∷ [] }
     ∷ record { often = any_number; bytes = 0x11 ∷ [] }
     ∷ record { often = any_number; bytes = 0x14 ∷ [] }
-    ∷ record { often = any_number; bytes = 0x12 ∷ 0x16 ∷ [] }
+    ∷ record { often = any_number; bytes = 0x12 ∷ 0x15 ∷ 0x16 ∷ [] }
     ∷ record { often = once; bytes = 0x1F ∷ [] }
     ∷ []

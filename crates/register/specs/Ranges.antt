@@ -9,7 +9,7 @@ abbrev pub TankOut : ℕ → Type 0
 TankOut t = (t ≡ 0) ⊎ (max_tank < t)
 
 -- at a position. Of a choice: its tank, or its minute is none of the day. Of a window: its tank, its "from" is no minute of the day, its
--- "to" is 0 or past the end of the day. Of `18`: it is none of the three lengths. Of `10`, `12`, `14` and `16`, on which no length bears,
+-- "to" is 0 or past the end of the day. Of `18`: it is none of the three lengths. Of `10`, `12`, `14`, `15` and `16`, on which no length bears,
 -- nothing is said
 pub record OutOfRange (s : List ℕ) (at : ℕ) : Type 0 where
   pub choice : get_or s at 0 ≡ 0x11 → TankOut (nat_at 2 s (at + 1)) ⊎ (length_in s ≤ nat_at 2 s (at + 3))

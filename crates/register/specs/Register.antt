@@ -1,5 +1,5 @@
 -- The register's record: its entries, the fresh one, and what a command gives.
-use Rattle.std.specs.Prelude.{ℕ, suc, ◌+◌, ◌*◌, Bool, true, false, List, get_or, set, replicate, ℤ, pos}
+use Rattle.std.specs.Prelude.{ℕ, suc, ◌+◌, ◌*◌, Bool, true, false, cond, List, get_or, set, replicate, ltb, ℤ, pos}
 use Rattle.std.proofs.lemmas.List.Edits.{sets}
 use Rattle.integers.specs.Lists.{any_below}
 use Rattle.register.specs.declared.Register.{Register}
@@ -43,13 +43,14 @@ window_from r j = get_or r.window_froms j 0
 abbrev pub window_to : Register → ℕ → ℕ
 window_to r j = get_or r.window_tos j 0
 
--- row k: its total b, and its entry for choice j, in lists of totals and of entries; the entries of all rows stand one after the other
+-- row k: its total b, and its entry for choice j, in lists of totals and of entries; the entries of all rows stand one after the other.
+-- A row has entries for the first choices; every other choice is in no row, which is to say that its entry is 0
 
 abbrev pub total_in : List ℤ → ℕ → ℤ
 total_in totals k = get_or totals k (pos 0)
 
 abbrev pub entry_in : List ℤ → ℕ → ℕ → ℤ
-entry_in entries k j = get_or entries (k * row_entries + j) (pos 0)
+entry_in entries k j = cond (ltb j row_entries) (get_or entries (k * row_entries + j) (pos 0)) (pos 0)
 
 abbrev pub row_total : Register → ℕ → ℤ
 row_total r k = total_in r.row_totals k

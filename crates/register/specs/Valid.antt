@@ -1,4 +1,4 @@
--- The conditions of the scope paper, of R-1, of R-4, of R-5 and of R-9 on a register: counts, ranges, names, orders, windows, rows and
+-- The conditions of the scope paper, of R-1, of R-4, of R-5, of R-9 and of R-10 on a register: counts, ranges, names, orders, windows, rows and
 -- the day's length.
 -- Written without the reader.
 use Rattle.std.specs.Prelude.{ℕ, ◌^◌, ◌<◌, ◌≤◌, ◌≡◌, ◌⊎◌, ◌*◌, Bool, false, ℤ, pos, nat_abs, ◌≤ℤ◌, List, get_or}
@@ -26,7 +26,8 @@ abbrev pub Known : (low high : ℤ) → Type 0
 Known low high = (high ≡ low) × (1 ≤ nat_abs low)
 
 -- both coefficients are within ±1,000,000, and the low one is at most the high one; where the term has no range (`ranged`), they are
--- one, which is not 0. The mask names some of the n choices, at least one
+-- one, which is not 0. The mask names some of the n choices, at least one. No bytes say a range that names a choice from 32 on: an encoding
+-- has none (`SaysRanged` in `Encoding`)
 pub record Term (n mask : ℕ) (low high : ℤ) (ranged : Bool) : Type 0 where
   pub coefficient_within : nat_abs low ≤ max_coefficient
   pub high_within : nat_abs high ≤ max_coefficient
@@ -66,7 +67,7 @@ term_in ms cs hs rs i = (get_or ms i 0, get_or cs i (pos 0), get_or hs i (pos 0)
 abbrev pub window_in : (ts fs os : List ℕ) → ℕ → ℕ × ℕ × ℕ
 window_in ts fs os i = (get_or ts i 0, get_or fs i 0, get_or os i 0)
 
--- up to 32 choices, each in its ranges, rising; ts and ms are the arrays of their tanks and minutes
+-- up to 48 choices, each in its ranges, rising; ts and ms are the arrays of their tanks and minutes
 pub record Choices (length n : ℕ) (ts ms : List ℕ) : Type 0 where
   pub tanks : Column max_choices n 0 ts
   pub minutes : Column max_choices n 0 ms

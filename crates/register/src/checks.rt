@@ -53,16 +53,16 @@ fn choice_refusal(register: &Register, tank: u16, minute: u16, may: bool) -> Res
 
 // A mask names no choice, or one that is not there.
 #[tactic(auto)]
-fn names_none(register: &Register, mask: u32) -> bool
+fn names_none(register: &Register, mask: u64) -> bool
     requires { register.now.choices ≤ max_choices }
     ensures { result ≡ (eqb mask 0 || leb (2 ^ register.now.choices) mask) }
 {
-    (mask == 0) | (1u64 << register.choices <= u64::from(mask))
+    (mask == 0) | (1u64 << register.choices <= mask)
 }
 
 // A mask does not come after that of the last term.
 #[tactic(auto)]
-fn mask_falls(register: &Register, mask: u32) -> bool
+fn mask_falls(register: &Register, mask: u64) -> bool
     requires { register.now.terms ≤ max_terms }
     ensures { let r = register.now in result ≡ not (eqb r.terms 0 || ltb (get_or r.masks (r.terms - 1) 0) mask) }
 {
@@ -72,7 +72,7 @@ fn mask_falls(register: &Register, mask: u32) -> bool
 
 // A term after those of the register.
 #[tactic(auto, unfolding(wire::specs::Checks::refusal, crate::specs::Format::term_checks))]
-fn term_refusal(register: &Register, mask: u32, coefficient: i32) -> Result<(), Refusal>
+fn term_refusal(register: &Register, mask: u64, coefficient: i32) -> Result<(), Refusal>
     requires { (register.now.choices ≤ max_choices) × (register.now.terms ≤ max_terms) }
     ensures { let r = register.now in number_in result ≡ refusal (term_checks r.choices r.terms (get_or r.masks (r.terms - 1) 0) mask coefficient) }
 {
@@ -86,7 +86,7 @@ fn term_refusal(register: &Register, mask: u32, coefficient: i32) -> Result<(), 
 
 // A term with a range, after those of the register.
 #[tactic(auto, unfolding(wire::specs::Checks::refusal, crate::specs::Format::range_checks))]
-fn range_refusal(register: &Register, mask: u32, low: i32, high: i32) -> Result<(), Refusal>
+fn range_refusal(register: &Register, mask: u64, low: i32, high: i32) -> Result<(), Refusal>
     requires { (register.now.choices ≤ max_choices) × (register.now.terms ≤ max_terms) }
     ensures { let r = register.now in number_in result ≡ refusal (range_checks r.choices r.terms (get_or r.masks (r.terms - 1) 0) mask low high) }
 {
@@ -160,7 +160,9 @@ fn stands_after(previous: u8, command: u8) -> bool
     match command {
         0x10 => previous == 0,
         0x11 => [0x10, 0x11, 0x13, 0x18].contains(&previous),
-        0x12 | 0x16 | 0x1f => { [0x10, 0x11, 0x12, 0x13, 0x14, 0x16, 0x18].contains(&previous) }
+        0x12 | 0x15 | 0x16 | 0x1f => {
+            [0x10, 0x11, 0x12, 0x13, 0x14, 0x15, 0x16, 0x18].contains(&previous)
+        }
         0x13 => [0x10, 0x13, 0x18].contains(&previous),
         0x14 => [0x10, 0x11, 0x13, 0x14, 0x18].contains(&previous),
         0x18 => previous == 0x10,
@@ -180,6 +182,8 @@ pub const WINDOW_SIZE: usize = 1 + 2 + 2 + 2;
 
 pub const ROW_SIZE: usize = 1 + 2 + Register::ROW_ENTRIES;
 
+pub const WIDE_TERM_SIZE: usize = 1 + 8 + 4;
+
 pub const RANGE_SIZE: usize = 1 + 4 + 4 + 4;
 
 pub const LENGTH_SIZE: usize = 1 + 2;
@@ -195,6 +199,7 @@ pub fn command_size(command: u8) -> usize
         0x12 => TERM_SIZE,
         0x13 => WINDOW_SIZE,
         0x14 => ROW_SIZE,
+        0x15 => WIDE_TERM_SIZE,
         0x16 => RANGE_SIZE,
         0x18 => LENGTH_SIZE,
         _ => 1,
@@ -229,7 +234,7 @@ pub fn refusal_at(
             choice_refusal(register, tank, minute, may)
         }
         0x12 => {
-            let mask = u32::read(bytes, at + 1);
+            let mask = u64::from(u32::read(bytes, at + 1));
             let coefficient = i32::read(bytes, at + 1 + 4);
             term_refusal(register, mask, coefficient)
         }
@@ -244,8 +249,13 @@ pub fn refusal_at(
             let zeros = past_zero(bytes, at + 1 + 2, register.choices);
             row_refusal(register.rows, total, zeros)
         }
+        0x15 => {
+            let mask = u64::read(bytes, at + 1);
+            let coefficient = i32::read(bytes, at + 1 + 8);
+            term_refusal(register, mask, coefficient)
+        }
         0x16 => {
-            let mask = u32::read(bytes, at + 1);
+            let mask = u64::from(u32::read(bytes, at + 1));
             let low = i32::read(bytes, at + 1 + 4);
             let high = i32::read(bytes, at + 1 + 4 + 4);
             range_refusal(register, mask, low, high)

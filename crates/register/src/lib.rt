@@ -18,7 +18,8 @@ ghost use Rattle.register.specs.Opening.{open_register};
 ghost use Rattle.register.specs.Answer.{register_answer};
 
 use checks::{
-    BASE_SIZE, CHOICE_SIZE, LENGTH_SIZE, RANGE_SIZE, ROW_SIZE, TERM_SIZE, WINDOW_SIZE, refusal_at,
+    BASE_SIZE, CHOICE_SIZE, LENGTH_SIZE, RANGE_SIZE, ROW_SIZE, TERM_SIZE, WIDE_TERM_SIZE,
+    WINDOW_SIZE, refusal_at,
 };
 use rows::put_entries;
 use windows::pass_windows;
@@ -35,7 +36,7 @@ pub struct Register {
     pub terms: usize,
     pub tanks: [u16; Register::MAX_CHOICES],
     pub minutes: [u16; Register::MAX_CHOICES],
-    pub masks: [u32; Register::MAX_TERMS],
+    pub masks: [u64; Register::MAX_TERMS],
     // Of a range the low coefficient.
     pub coefficients: [i32; Register::MAX_TERMS],
     // Of a term without a range the coefficient once more.
@@ -63,7 +64,7 @@ pub struct RegisterAnswer {
 }
 
 impl Register {
-    pub const MAX_CHOICES: usize = 32;
+    pub const MAX_CHOICES: usize = 48;
 
     pub const MAX_TERMS: usize = 256;
 
@@ -184,7 +185,7 @@ pub fn read_register(bytes: &[u8]) -> Result<Read<Register>, Refused>
             0x12 => {
                 let m = register.terms;
                 let coefficient = i32::read(bytes, at + 1 + 4);
-                register.masks[m] = u32::read(bytes, at + 1);
+                register.masks[m] = u64::from(u32::read(bytes, at + 1));
                 register.coefficients[m] = coefficient;
                 register.highs[m] = coefficient;
                 register.terms = m + 1;
@@ -213,9 +214,19 @@ pub fn read_register(bytes: &[u8]) -> Result<Read<Register>, Refused>
                 previous = 0x14;
                 at += ROW_SIZE;
             }
+            0x15 => {
+                let m = register.terms;
+                let coefficient = i32::read(bytes, at + 1 + 8);
+                register.masks[m] = u64::read(bytes, at + 1);
+                register.coefficients[m] = coefficient;
+                register.highs[m] = coefficient;
+                register.terms = m + 1;
+                previous = 0x15;
+                at += WIDE_TERM_SIZE;
+            }
             0x16 => {
                 let m = register.terms;
-                register.masks[m] = u32::read(bytes, at + 1);
+                register.masks[m] = u64::from(u32::read(bytes, at + 1));
                 register.coefficients[m] = i32::read(bytes, at + 1 + 4);
                 register.highs[m] = i32::read(bytes, at + 1 + 4 + 4);
                 register.ranged[m] = true;

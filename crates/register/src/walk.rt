@@ -10,7 +10,7 @@ use super::checks::command_size;
 fn is_term(command: u8) -> bool
     ensures { result ≡ is_among command term_kind.bytes }
 {
-    (command == 0x12) | (command == 0x16)
+    (command == 0x12) | ((command == 0x15) | (command == 0x16))
 }
 
 // The position of the command of a term, counted from 0, or 0 where there are fewer, which a refusal tells as it is: commands follow each

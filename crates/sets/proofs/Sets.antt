@@ -3,10 +3,10 @@ use mathlib.Core.Path.{◌≡◌, refl, sym, ◌∙◌, ap, subst}
 use mathlib.Core.Logic.{◌↔◌}
 use mathlib.Core.Bool.{Bool, true, false, cond, ◌&&◌, ◌||◌, not}
 use Prim.Native.Nat.{ℕ, zero, suc, ◌+◌, ◌*◌, ◌/◌, ◌%◌, ◌^◌, max, ◌≤◌, ◌<◌}
-use native.Mathlib.Nat.{pow-suc, pow-succ', div-div-eq-div-mul, div-one, zero-div}
+use native.Mathlib.Nat.{pow-suc, pow-succ', div-div-eq-div-mul, div-one, zero-div, one-le-pow, zero-lt-suc}
 use native.Mathlib.Omega.{arith}
 use native.Mathlib.Decide.{dec_lt, ℕ_discrete}
-use lib.Arith.{bin_ind}
+use lib.Arith.{bin_ind, mod-mul}
 use lib.Dec.{T, eqb, eqb→eq, eqb_refl, T_not}
 use lib.Bits.{bit_and, bit_or, and_step, or_step, or_shr, and_zero_r, or_add_and, and_le_l, and_le_r}
 use borrow.Author.Tests.{ne_eqb}
@@ -25,6 +25,19 @@ member_zero m = rw div-one at (member_is 0 m)
 pub member_suc : (i m : ℕ) → is_member (suc i) m ≡ is_member i (m / 2)
 unfolding is_member
 member_suc i m = rw (div-div-eq-div-mul, pow-succ')
+
+-- the lowest n bits have the members below n
+bit_digits : (n m : ℕ) → m % 2 ^ suc n ≡ m / 2 % 2 ^ n * 2 + m % 2
+bit_digits n m = rw pow-suc (mod-mul m (one-le-pow n 2 (zero-lt-suc 1)) (zero-lt-suc 1))
+
+pub member_mod : (n i m : ℕ) → i < n → is_member i (m % 2 ^ n) ≡ is_member i m
+member_mod zero i m l = absurd (omega arith)
+member_mod (suc n) zero m l =
+    let e : m % 2 ^ suc n % 2 ≡ m % 2 = omega (arith, bit_digits n m) in
+    T_ext _ _ ((λ t. (member_zero m).1 (sym e ∙ (member_zero (m % 2 ^ suc n)).0 t)), (λ t. (member_zero (m % 2 ^ suc n)).1 (e ∙ (member_zero m).0 t)))
+member_mod (suc n) (suc i) m l =
+    let e : m % 2 ^ suc n / 2 ≡ m / 2 % 2 ^ n = omega (arith, bit_digits n m) in
+    member_suc i (m % 2 ^ suc n) ∙ ap (is_member i) e ∙ member_mod n i (m / 2) (omega arith) ∙ sym (member_suc i m)
 
 pub member_or : (i a b : ℕ) → is_member i (bit_or a b) ≡ (is_member i a || is_member i b)
 unfolding is_member

@@ -47,13 +47,13 @@ module _ {S : Type 0} (P Q : Part S) (Reach : S → ℕ → Type 0) where
     refused_alike n l e d = sym (read_from_refused Q s read at n l (sym checks_alike ∙ e) d)
 
     module _ (p : Passes P s read at) where
-      at_same : Same read at (get_or s at 0)
+      pub at_same : Same read at (get_or s at 0)
       at_same = a.same p.here
 
-      passes : refusal (checks_at Q s read at) ≡ 0
+      pub passes : refusal (checks_at Q s read at) ≡ 0
       passes = sym checks_alike ∙ passed_checks_at P s read at p
 
-      after_alike : after_at Q s read at ≡ after_at P s read at
+      pub after_alike : after_at Q s read at ≡ after_at P s read at
       unfolding after_at
       after_alike = sym (at_same.after _ ∙ ap (λ ws. Q.after read (get_or s at 0) (operands_at ws s (at + 1))) at_same.widths)
 

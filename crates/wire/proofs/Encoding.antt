@@ -144,7 +144,7 @@ module _ {S : Type 0} (P : Part S) where
   length_command c f = ap suc (length_fields (P.widths c.byte) c.operands f)
 
   -- a command that is read from its bytes and allowed is not refused
-  passes : (s : List ℕ) (read : S) (at : ℕ) (rest : List ℕ) → Allowed P read (command_at s at) → drop at s ≡ encode_command P (command_at s at) ++ rest → Passes P s read at
+  pub passes : (s : List ℕ) (read : S) (at : ℕ) (rest : List ℕ) → Allowed P read (command_at s at) → drop at s ≡ encode_command P (command_at s at) ++ rest → Passes P s read at
   passes s read at rest a e =
       let long : length s - at ≡ size P (get_or s at 0) + length rest = sym (length-drop at s) ∙ ap length e ∙ rw (length-append, length_command (command_at s at) a.operands) in
       record { inside = omega arith; here = a.here; room = omega arith; allowed = a.passes }

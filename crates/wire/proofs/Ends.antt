@@ -20,7 +20,7 @@ module _ {R : Type 0} (Valid : R → Type 0) (HeaderWhere : Type 0 → R → Lis
         let q : cs ≡ d.body.first ++ (e.command ∷ []) = d.body.whole ∙ rw e.whole in
         ap (last_from 0) q ∙ last_from_one 0 d.body.first e.command ∙ e.form.0
 
-    pub ends_means : Means Ends Valid (λ r. Then (Kinds r (Header r) kinds) (Only (λ c. c ≡ end))) end.byte
+    pub ends_means : Means Ends Valid (λ r. Then (Kinds r (Header r) kinds) (Only (λ c. c ≡ end))) (λ b. b ≡ end.byte)
     ends_means = record {
       valid = λ B r cs d. (d.valid, ends_last B r cs d);
       said = λ B r cs b d.

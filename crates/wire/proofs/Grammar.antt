@@ -3,13 +3,14 @@ use Prim.Native.Nat.{ℕ, zero, suc, ◌<◌}
 use native.Mathlib.Omega.{arith}
 use mathlib.Core.Path.{◌≡◌, refl, sym, ◌∙◌, ap, ap₂}
 use mathlib.Core.Logic.{◌⊎◌, inl, inr, ⊎_elim}
-use mathlib.Core.Bool.{Bool, true, not, ◌&&◌}
+use mathlib.Core.Bool.{Bool, true, not, ◌&&◌, cond}
 use mathlib.Core.List.{List, [], ◌∷◌, ◌++◌, append_assoc, append-nil}
-use lib.Dec.{T, eqb}
-use borrow.Author.Tests.{eqb-true, eq-eqb}
+use lib.Dec.{T, eqb, ltb}
+use borrow.Author.Tests.{eqb-true, eq-eqb, ltb-true, ltb-false, lt-ltb, le-ltb}
 use mir.Facts.{and_yes}
 use Rattle.integers.specs.Lists.{All, join_below}
 use Rattle.integers.proofs.Lists.{T_true, or_either, flag}
+use Rattle.integers.proofs.Join.{join_cong}
 use Rattle.wire.specs.Rows.{is_among}
 use Rattle.wire.specs.Encoding.{Command}
 use Rattle.wire.specs.Grammar.{Only, Optional, Then, Each, Among, Kind, Form, Kinds}
@@ -104,6 +105,21 @@ unfolding join_below
 each_only F c zero cs h e = e
 each_only F c (suc n) cs h e =
     e.whole ∙ ap₂ (λ x y. x ++ y) (each_only F c n e.first h e.is_first) (e.is_second.whole ∙ ap (λ d. d ∷ []) (h n _ e.is_second.form))
+
+-- the command of each entry
+pub each_command : (F : ℕ → Command → Type 0) (n : ℕ) (cs : List Command) → Each F n cs → (c : ℕ → Command) × (((i : ℕ) → i < n → F i (c i)) × (cs ≡ join_below n (λ i. c i ∷ [])))
+unfolding join_below
+each_command F zero cs e = (λ i. record { byte = 0; operands = [] }, ((λ i l. absurd (omega arith)), e))
+each_command F (suc n) cs e =
+    let (c, (h, q)) = each_command F n e.first e.is_first in
+    let last = e.is_second.command in
+    let d : ℕ → Command = λ i. cond (ltb i n) (c i) last in (
+      d,
+      (
+        (λ i l. flag (ltb i n) (λ t. rw t (h i (ltb-true i n t))) (λ t. let z : i ≡ n = omega (arith, ltb-false i n t) in rw (t, z) e.is_second.form)),
+        e.whole ∙ ap₂ (λ x y. x ++ y) (q ∙ join_cong n _ _ (λ i l. rw (lt-ltb i n l))) (e.is_second.whole ∙ rw (le-ltb n n (omega arith))),
+      ),
+    )
 
 -- commands, and a last one
 pub record Last (X : List Command → Type 0) (F : Command → Type 0) (cs : List Command) : Type 0 where

@@ -11,11 +11,13 @@ pub mod Fronts
 pub mod Prefix
 pub mod Grammar
 pub mod Accepting
+pub mod Refusing
 pub mod Acceptance
 pub mod Ends
 pub mod Ranged
 pub mod Rest
 pub mod Alike
+pub mod Comes
 pub mod Loop
 pub mod Walk
 pub mod Outcome

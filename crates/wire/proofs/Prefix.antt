@@ -37,13 +37,13 @@ operands_at-take (w ∷ ws) K s at h = rw (nat_at-take w K s at (omega arith), o
 
 module _ {S : Type 0} (P : Part S) where
   -- Reach, of what has been read and the position of the next command, holds at the start and is kept by every command that is not
-  -- refused; no command stands past B or takes more than M bytes, and the part ends at E at most
-  pub record Limited (Reach : S → ℕ → Type 0) (B M E : ℕ) : Type 0 where
+  -- refused; no command stands past B or takes more than M bytes, and the part ends at E at most, by what was read in the end
+  pub record Limited (Reach : S → ℕ → Type 0) (B M : ℕ) (E : S → ℕ) : Type 0 where
     pub starts : Reach P.start 0
     pub near : (read : S) (at : ℕ) → Reach read at → at ≤ B
     pub small : (b : ℕ) → size P b ≤ M
     pub moves : (read : S) (at b : ℕ) (xs : List ℕ) → Reach read at → P.here read b ≡ true → refusal (P.checks read b xs) ≡ 0
-        → cond (P.last b) (at + size P b ≤ E) (Reach (P.after read b xs) (at + size P b))
+        → cond (P.last b) (at + size P b ≤ E (P.after read b xs)) (Reach (P.after read b xs) (at + size P b))
 
   -- the command at a position that lies within the first K bytes
   module _ (K : ℕ) (s : List ℕ) (long : K ≤ length s) (read : S) (at : ℕ) (h : at + size P (get_or s at 0) ≤ K) where
@@ -99,27 +99,30 @@ module _ {S : Type 0} (P : Part S) where
             (omega (arith, k), ends_take end s long next at (omega (arith, k)) p l);
       }
 
-  module _ {Reach : S → ℕ → Type 0} {B M E : ℕ} (limits : Limited Reach B M E) where
+  module _ {Reach : S → ℕ → Type 0} {B M : ℕ} {E : S → ℕ} (limits : Limited Reach B M E) where
     -- a command that is not refused
     moved : (s : List ℕ) (read : S) (at : ℕ) (l : Bool) → Passes P s read at → P.last (get_or s at 0) ≡ l → Reach read at
-        → cond l (at + size P (get_or s at 0) ≤ E) (Reach (after_at P s read at) (at + size P (get_or s at 0)))
+        → cond l (at + size P (get_or s at 0) ≤ E (after_at P s read at)) (Reach (after_at P s read at) (at + size P (get_or s at 0)))
     unfolding after_at
     moved s read at l p e r = rw e at (limits.moves read at (get_or s at 0) (operands P s at) r p.here p.allowed)
 
     -- where the part is accepted, it ends within its bound
-    pub end_within : (s : List ℕ) {end : S} {e : ℕ} → read_part P s ≡ accepted end e → e ≤ E
+    pub end_within : (s : List ℕ) {end : S} {e : ℕ} → read_part P s ≡ accepted end e → e ≤ E end
     unfolding read_part
     end_within s {end} {e} q = by_ways P s Q ways P.start 0 limits.starts end e q
       where
         Q : S → ℕ → Reading S → Type 0
-        Q read at x = Reach read at → (end : S) (e : ℕ) → x ≡ accepted end e → e ≤ E
+        Q read at x = Reach read at → (end : S) (e : ℕ) → x ≡ accepted end e → e ≤ E end
 
         ways : Ways P s Q
         ways = record {
           missing = λ read at l r end e q. let z : ◌≡◌ {A = ℕ} 0 1 = cc in absurd (omega arith);
           refuses = λ read at n l h d r end e q. let z : ◌≡◌ {A = ℕ} 0 1 = cc in absurd (omega arith);
           goes = λ read at x p l rest r. rest (moved s read at false p l r);
-          ends = λ read at p l r end e q. let z : at + size P (get_or s at 0) ≡ e = cc in omega (arith, moved s read at true p l r);
+          ends = λ read at p l r end e q.
+              let z : at + size P (get_or s at 0) ≡ e = cc in
+              let d : after_at P s read at ≡ end = cc in
+              rw (z, d) at (moved s read at true p l r);
         }
 
     -- any command that is looked at lies within the first B + M bytes, so these or more of them lead to the same
@@ -158,12 +161,12 @@ row_of_by Q (row ∷ rows) b none h =
     (λ t. rw t (row_of_by Q rows b none h.1))
 
 -- a command of a row takes at most M bytes, and keeps Reach or ends the part at E at most
-pub record Keeps {R : Type 0} (Reach : Progress R → ℕ → Type 0) (M E b : ℕ) (row : Row R) : Type 0 where
+pub record Keeps {R : Type 0} (Reach : Progress R → ℕ → Type 0) (M : ℕ) (E : Progress R → ℕ) (b : ℕ) (row : Row R) : Type 0 where
   pub small : suc (total row.widths) ≤ M
   pub moves : (p : Progress R) (at : ℕ) (xs : List ℕ) → Reach p at → is_among p.previous row.follows ≡ true → refusal (row.checks p.parsed xs) ≡ 0
-      → cond row.last (at + suc (total row.widths) ≤ E) (Reach (record { previous = b; parsed = row.after p.parsed xs }) (at + suc (total row.widths)))
+      → let after : Progress R = record { previous = b; parsed = row.after p.parsed xs } in cond row.last (at + suc (total row.widths) ≤ E after) (Reach after (at + suc (total row.widths)))
 
-pub limited : {R : Type 0} (fresh : R) (rows : List (Row R)) {Reach : Progress R → ℕ → Type 0} {B M E : ℕ} → 1 ≤ M → Reach (record { previous = 0; parsed = fresh }) 0
+pub limited : {R : Type 0} (fresh : R) (rows : List (Row R)) {Reach : Progress R → ℕ → Type 0} {B M : ℕ} {E : Progress R → ℕ} → 1 ≤ M → Reach (record { previous = 0; parsed = fresh }) 0
     → ((p : Progress R) (at : ℕ) → Reach p at → at ≤ B) → All (λ row. Keeps Reach M E row.byte row) rows → Limited (part_of fresh rows) Reach B M E
 unfolding total
 limited fresh rows {Reach} {B} {M} {E} some start near h =

@@ -98,7 +98,7 @@ module _ {R : Type 0} (fresh : R) (rows : List (Row R)) {Good Done : Type 0 → 
 
   -- what is accepted is an encoding, whatever the run is
 
-  module _ {Valid : R → Type 0} {Says : R → List Command → Type 0} {last : ℕ} (means : Means Done Valid Says last) where
+  module _ {Valid : R → Type 0} {Says : R → List Command → Type 0} {last : ℕ} (means : Means Done Valid Says (λ b. b ≡ last)) where
     pub ranged_encodes : (s : List ℕ) (p : Progress R) (end : ℕ) → read_part part s ≡ accepted p end → Encodes part Says p.parsed (take end s) × (end ≤ length s)
     unfolding read_part
     ranged_encodes s p end q =

@@ -21,7 +21,7 @@ use Rattle.wire.proofs.Loop.{Here, here_at, going_starts, going_missing, going_r
 use Rattle.register.specs.declared.Register.{Register}
 use Rattle.register.specs.Limits.{max_choices, max_terms, max_windows, max_rows}
 use Rattle.register.specs.Register.{tank, minute, fresh}
-use Rattle.register.specs.Format.{base_row, choice_row, term_row, window_row, row_row, entries_of, range_row, length_row, end_row, register_rows, register_part, register_in_job}
+use Rattle.register.specs.Format.{base_row, choice_row, term_row, window_row, row_row, entries_of, wide_term_row, range_row, length_row, end_row, register_rows, register_part, register_in_job}
 use Rattle.register.specs.Valid.{Within, window_at}
 use Rattle.register.specs.Answer.{Given}
 use Rattle.register.proofs.Passes.{NextChoice, choice_iff, term_iff, window_iff, row_iff, range_iff}
@@ -65,6 +65,10 @@ module _ (c : In_ok-map_err) where
   few_terms : get_or bytes at 0 ≡ 0x12 → r.terms < max_terms
   unfolding row_of
   few_terms e = ((term_iff _ _ (term_at r (r.terms - 1)) _ _).0 (here 0x12 e).allowed).few
+
+  few_wide : get_or bytes at 0 ≡ 0x15 → r.terms < max_terms
+  unfolding row_of
+  few_wide e = ((term_iff _ _ (term_at r (r.terms - 1)) _ _).0 (here 0x15 e).allowed).few
 
   few_with_range : get_or bytes at 0 ≡ 0x16 → r.terms < max_terms
   unfolding row_of
@@ -152,7 +156,7 @@ pub loop-at-preserved-in-18 : goal.loop-at-preserved-in-18
 unfolding row_of total operands_at int_at
 loop-at-preserved-in-18 c =
     let e = (goal.at.loop-at-preserved-in-18 c).In_ok-map_err in record {
-      going = rw (to_z-of_z (record { sfits = c.read-coefficient.type_inv }), c.read-coefficient.ensures, c.read-in-18.ensures, add-one, ← still_unranged c.loop-at.register (within e)) (going_on fresh register_rows laws c.loop-at.invariant.going c.loop-at-test.true (judged e) 0x12 c.in-18.is refl);
+      going = rw (to_z-of_z (record { sfits = c.read-coefficient.type_inv }), c.read-coefficient.ensures, c.from.ensures, c.read-in-18.ensures, add-one, ← still_unranged c.loop-at.register (within e)) (going_on fresh register_rows laws c.loop-at.invariant.going c.loop-at-test.true (judged e) 0x12 c.in-18.is refl);
       lower = rw add-one (passed_terms c.loop-at.register (within e) c.loop-at.invariant.lower _ _ _ _ _);
     }
 
@@ -207,6 +211,31 @@ loop-at-preserved-in-20 c =
       lower = passed_rows c.loop-at.register (within e) c.loop-at.invariant.lower _ _ _;
     }
 
+pub read-coefficient-requires-in-21 : goal.read-coefficient-requires-in-21
+unfolding row_of total
+read-coefficient-requires-in-21 c = omega (arith, (here (goal.at.read-coefficient-requires-in-21 c).In_ok-map_err 0x15 c.in-21.is).room)
+
+pub read-requires-in-21 : goal.read-requires-in-21
+unfolding row_of total
+read-requires-in-21 c = omega (arith, (here (goal.at.read-requires-in-21 c).In_ok-map_err 0x15 c.in-21.is).room)
+
+pub bounds-register-m-in-21 : goal.bounds-register-m-in-21
+bounds-register-m-in-21 c = few_wide (goal.at.bounds-register-m-in-21 c).In_ok-map_err c.in-21.is
+
+pub bounds-register-m-in-21-2 : goal.bounds-register-m-in-21-2
+bounds-register-m-in-21-2 c = few_wide (goal.at.bounds-register-m-in-21-2 c).In_ok-map_err c.in-21.is
+
+pub bounds-register-m-in-21-3 : goal.bounds-register-m-in-21-3
+bounds-register-m-in-21-3 c = few_wide (goal.at.bounds-register-m-in-21-3 c).In_ok-map_err c.in-21.is
+
+pub loop-at-preserved-in-21 : goal.loop-at-preserved-in-21
+unfolding row_of total operands_at int_at
+loop-at-preserved-in-21 c =
+    let e = (goal.at.loop-at-preserved-in-21 c).In_ok-map_err in record {
+      going = rw (to_z-of_z (record { sfits = c.read-coefficient-in-21.type_inv }), c.read-coefficient-in-21.ensures, c.read-in-21.ensures, add-one, ← still_unranged c.loop-at.register (within e)) (going_on fresh register_rows laws c.loop-at.invariant.going c.loop-at-test.true (judged e) 0x15 c.in-21.is refl);
+      lower = rw add-one (passed_terms c.loop-at.register (within e) c.loop-at.invariant.lower _ _ _ _ _);
+    }
+
 pub read-requires-in-22 : goal.read-requires-in-22
 unfolding row_of total
 read-requires-in-22 c = omega (arith, (here (goal.at.read-requires-in-22 c).In_ok-map_err 0x16 c.in-22.is).room)
@@ -235,7 +264,7 @@ pub loop-at-preserved-in-22 : goal.loop-at-preserved-in-22
 unfolding row_of total operands_at int_at
 loop-at-preserved-in-22 c =
     let e = (goal.at.loop-at-preserved-in-22 c).In_ok-map_err in record {
-      going = rw (to_z-of_z (record { sfits = c.read-in-22-2.type_inv }), to_z-of_z (record { sfits = c.read-in-22-3.type_inv }), c.read-in-22-3.ensures, c.read-in-22-2.ensures, c.read-in-22.ensures, add-one) (going_on fresh register_rows laws c.loop-at.invariant.going c.loop-at-test.true (judged e) 0x16 c.in-22.is refl);
+      going = rw (to_z-of_z (record { sfits = c.read-in-22-2.type_inv }), to_z-of_z (record { sfits = c.read-in-22-3.type_inv }), c.read-in-22-3.ensures, c.read-in-22-2.ensures, c.from-in-22.ensures, c.read-in-22.ensures, add-one) (going_on fresh register_rows laws c.loop-at.invariant.going c.loop-at-test.true (judged e) 0x16 c.in-22.is refl);
       lower = rw add-one (passed_terms c.loop-at.register (within e) c.loop-at.invariant.lower _ _ _ _ _);
     }
 
@@ -255,7 +284,7 @@ pub returns-in_default : goal.returns-in_default
 unfolding register_in_job row_of total operands_at
 returns-in_default c =
     let e = (goal.at.returns-in_default c).In_ok-map_err in
-    let f : get_or c.args.bytes.now c.loop-at.at 0 ≡ 0x1F = only_last end_row (get_or c.args.bytes.now c.loop-at.at 0) (base_row ∷ choice_row ∷ term_row ∷ window_row ∷ row_row ∷ range_row ∷ length_row ∷ []) ((λ e. omega arith) ▹ (λ e. omega arith) ▹ (λ e. omega arith) ▹ (λ e. omega arith) ▹ (λ e. omega arith) ▹ (λ e. omega arith) ▹ (λ e. omega arith) ▹ tt) _ (here e _ refl).place in
+    let f : get_or c.args.bytes.now c.loop-at.at 0 ≡ 0x1F = only_last end_row (get_or c.args.bytes.now c.loop-at.at 0) (base_row ∷ choice_row ∷ term_row ∷ window_row ∷ row_row ∷ wide_term_row ∷ range_row ∷ length_row ∷ []) ((λ e. omega arith) ▹ (λ e. omega arith) ▹ (λ e. omega arith) ▹ (λ e. omega arith) ▹ (λ e. omega arith) ▹ (λ e. omega arith) ▹ (λ e. omega arith) ▹ (λ e. omega arith) ▹ tt) _ (here e _ refl).place in
     ap (added_by (λ r. r)) (sym (going_ends fresh register_rows laws c.loop-at.invariant.going c.loop-at-test.true (judged e) 0x1F f refl))
 
 pub returns : goal.returns

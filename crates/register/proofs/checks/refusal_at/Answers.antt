@@ -20,7 +20,7 @@ use Rattle.wire.proofs.Results.{numbered}
 use Rattle.wire.proofs.Loop.{operands_of, common_refused, common_own}
 use Rattle.register.specs.declared.Register.{Register}
 use Rattle.register.specs.Register.{fresh}
-use Rattle.register.specs.Format.{base_row, choice_row, term_row, window_row, row_row, range_row, length_row, end_row, may_feed, register_rows, register_part}
+use Rattle.register.specs.Format.{base_row, choice_row, term_row, window_row, row_row, wide_term_row, range_row, length_row, end_row, may_feed, register_rows, register_part}
 use Rattle.register.proofs.Passes.{choice_settled}
 use Rattle.register.proofs.RowOperands.{zeros_at}
 use Rattle.register.proofs.checks.refusal_at.Goals.{In_ok-check_command}
@@ -75,9 +75,9 @@ pub read-minute-requires : goal.read-minute-requires
 unfolding row_of total
 read-minute-requires c = omega (arith, room (goal.at.read-minute-requires c).In_ok-check_command 0x11 5 c.in-17.is refl)
 
-pub read-mask-requires : goal.read-mask-requires
+pub read-requires-in-18 : goal.read-requires-in-18
 unfolding row_of total
-read-mask-requires c = omega (arith, room (goal.at.read-mask-requires c).In_ok-check_command 0x12 9 c.in-18.is refl)
+read-requires-in-18 c = omega (arith, room (goal.at.read-requires-in-18 c).In_ok-check_command 0x12 9 c.in-18.is refl)
 
 pub read-coefficient-requires : goal.read-coefficient-requires
 unfolding row_of total
@@ -103,9 +103,17 @@ pub past_zero-zeros-requires : goal.past_zero-zeros-requires
 unfolding row_of total
 past_zero-zeros-requires c = omega (arith, room (goal.at.past_zero-zeros-requires c).In_ok-check_command 0x14 35 c.in-20.is refl)
 
-pub read-mask-requires-in-22 : goal.read-mask-requires-in-22
+pub read-mask-requires : goal.read-mask-requires
 unfolding row_of total
-read-mask-requires-in-22 c = omega (arith, room (goal.at.read-mask-requires-in-22 c).In_ok-check_command 0x16 13 c.in-22.is refl)
+read-mask-requires c = omega (arith, room (goal.at.read-mask-requires c).In_ok-check_command 0x15 13 c.in-21.is refl)
+
+pub read-coefficient-requires-in-21 : goal.read-coefficient-requires-in-21
+unfolding row_of total
+read-coefficient-requires-in-21 c = omega (arith, room (goal.at.read-coefficient-requires-in-21 c).In_ok-check_command 0x15 13 c.in-21.is refl)
+
+pub read-requires-in-22 : goal.read-requires-in-22
+unfolding row_of total
+read-requires-in-22 c = omega (arith, room (goal.at.read-requires-in-22 c).In_ok-check_command 0x16 13 c.in-22.is refl)
 
 pub read-low-requires : goal.read-low-requires
 unfolding row_of total
@@ -137,7 +145,7 @@ returns-in-17 c =
 
 pub returns-in-18 : goal.returns-in-18
 unfolding row_of operands_at int_at
-returns-in-18 c = c.term_refusal.ensures ∙ rw (to_z-of_z (record { sfits = c.read-coefficient.type_inv }), c.read-coefficient.ensures, c.read-mask.ensures) (own (goal.at.returns-in-18 c).In_ok-check_command 0x12 c.in-18.is)
+returns-in-18 c = c.term_refusal.ensures ∙ rw (to_z-of_z (record { sfits = c.read-coefficient.type_inv }), c.read-coefficient.ensures, c.from-mask.ensures, c.read-in-18.ensures) (own (goal.at.returns-in-18 c).In_ok-check_command 0x12 c.in-18.is)
 
 pub returns-in-19 : goal.returns-in-19
 unfolding row_of operands_at
@@ -149,11 +157,15 @@ returns-in-20 c =
     c.row_refusal.ensures
     ∙ rw (c.past_zero-zeros.ensures, to_z-of_z (record { sfits = c.read-total.type_inv }), c.read-total.ensures, ← zeros_at c.args.register.now.choices c.args.bytes.now (c.args.at + 1)) (own (goal.at.returns-in-20 c).In_ok-check_command 0x14 c.in-20.is)
 
+pub returns-in-21 : goal.returns-in-21
+unfolding row_of operands_at int_at
+returns-in-21 c = c.term_refusal-in-21.ensures ∙ rw (to_z-of_z (record { sfits = c.read-coefficient-in-21.type_inv }), c.read-coefficient-in-21.ensures, c.read-mask.ensures) (own (goal.at.returns-in-21 c).In_ok-check_command 0x15 c.in-21.is)
+
 pub returns-in-22 : goal.returns-in-22
 unfolding row_of operands_at int_at
 returns-in-22 c =
     c.range_refusal.ensures
-    ∙ rw (to_z-of_z (record { sfits = c.read-low.type_inv }), to_z-of_z (record { sfits = c.read-high.type_inv }), c.read-high.ensures, c.read-low.ensures, c.read-mask-in-22.ensures) (own (goal.at.returns-in-22 c).In_ok-check_command 0x16 c.in-22.is)
+    ∙ rw (to_z-of_z (record { sfits = c.read-low.type_inv }), to_z-of_z (record { sfits = c.read-high.type_inv }), c.read-high.ensures, c.read-low.ensures, c.from-mask-in-22.ensures, c.read-in-22.ensures) (own (goal.at.returns-in-22 c).In_ok-check_command 0x16 c.in-22.is)
 
 pub returns-in-24 : goal.returns-in-24
 unfolding row_of operands_at
@@ -164,4 +176,4 @@ unfolding row_of operands_at
 returns-in_default c =
     let e = (goal.at.returns-in_default c).In_ok-check_command in
     c.end_refusal.ensures
-    ∙ own e 0x1F (only_last end_row _ (base_row ∷ choice_row ∷ term_row ∷ window_row ∷ row_row ∷ range_row ∷ length_row ∷ []) ((λ e. omega arith) ▹ (λ e. omega arith) ▹ (λ e. omega arith) ▹ (λ e. omega arith) ▹ (λ e. omega arith) ▹ (λ e. omega arith) ▹ (λ e. omega arith) ▹ tt) _ (command_here _ _ _ [] _ (passed e) refl))
+    ∙ own e 0x1F (only_last end_row _ (base_row ∷ choice_row ∷ term_row ∷ window_row ∷ row_row ∷ wide_term_row ∷ range_row ∷ length_row ∷ []) ((λ e. omega arith) ▹ (λ e. omega arith) ▹ (λ e. omega arith) ▹ (λ e. omega arith) ▹ (λ e. omega arith) ▹ (λ e. omega arith) ▹ (λ e. omega arith) ▹ (λ e. omega arith) ▹ tt) _ (command_here _ _ _ [] _ (passed e) refl))
