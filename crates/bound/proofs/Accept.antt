@@ -75,7 +75,7 @@ module _ (reg : Register) (reg_valid : R.Valid reg) (sch : Scheme) (sch_valid : 
   pub encoding_accepted : Valid c reg sch k → Encodes k s → certificate_by_itself c reg sch s ≡ accepted (reached 0x3F k) (length s)
   unfolding certificate_by_itself certificate_in_job dominance_checked by_itself
   encoding_accepted v e =
-      let x = certificate_accepted reg sch (omega (arith, reg_valid.within.choices.few, sch_valid.within.products_within)) reg_valid.within.rows.few k s v.within e in
+      let x = certificate_accepted reg sch sch_valid.within.variables_within reg_valid.within.rows.few k s v.within e in
       let t : carries c reg sch k ≡ true = (carries_iff c reg sch k).1 v.carried in
       rw (x, t, le-ltb (length s) (length s) (omega arith))
 
@@ -83,7 +83,7 @@ module _ (reg : Register) (reg_valid : R.Valid reg) (sch : Scheme) (sch_valid : 
   pub encoding_front : (rest : List ℕ) → Valid c reg sch k → Encodes k s → certificate_in_job c reg sch (s ++ rest) ≡ accepted (reached 0x3F k) (length s)
   unfolding certificate_in_job dominance_checked
   encoding_front rest v e =
-      let x = certificate_front reg sch (omega (arith, reg_valid.within.choices.few, sch_valid.within.products_within)) reg_valid.within.rows.few k s rest v.within e in
+      let x = certificate_front reg sch sch_valid.within.variables_within reg_valid.within.rows.few k s rest v.within e in
       let (in_job, _) = whole_accepted reg sch c s _ _ (encoding_accepted v e) in
       let t : carries c reg sch k ≡ true = (T_true (carries c reg sch k)).0 (commands_accepted reg sch c s _ _ in_job).1 in
       rw (x, t)

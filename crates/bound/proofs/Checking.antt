@@ -36,6 +36,7 @@ use Rattle.bound.specs.Check.{with_residual}
 use Rattle.bound.specs.Dominance.{FirstShort}
 use Rattle.certificate.proofs.Accept.{within_accepted}
 use Rattle.residual.proofs.Bounds.{small}
+use Rattle.residual.proofs.RowBounds.{side_within}
 use Rattle.residual.proofs.ByCommand.{holds_r, bounded_R}
 use Rattle.bound.proofs.FirstShort.{first_short_cong, first_all}
 
@@ -74,12 +75,12 @@ module _ (reg : Register) (sch : Scheme) (s : List ℕ) where
       table_after = filled ∙ rw e
 
       pub side_small : n ≤ square_entries
-      side_small = omega (arith, register.choices.few, scheme.within.products_within)
+      side_small = side_within reg sch scheme.within
 
       pub bounded_after : Bounded n max_r t
       bounded_after =
           rw filled
-          (bounded_R c reg sch p.parsed lent (omega (arith, side_square reg sch register scheme)) (small reg register) register.choices.few scheme.within within)
+          (bounded_R c reg sch p.parsed lent (omega (arith, side_square reg sch scheme)) (small reg register) scheme.within within)
 
       -- and the first row that falls short
       module _ (row : ℕ) (first : FirstShort n (cells n t) row) where

@@ -71,6 +71,7 @@ example_scheme_lem = record {
     lefts = record { room = refl; rest = past_2 0 2 30 };
     rights = record { room = refl; rest = past_2 1 3 30 };
     products_within = omega arith;
+    variables_within = omega arith;
     products = products_by 3 example_scheme tt;
     split_lefts = record { room = refl; rest = past_3 0 1 4 253 };
     split_rights = record { room = refl; rest = past_3 0 1 4 253 };

@@ -20,7 +20,6 @@ use Rattle.wire.proofs.Accepting.{reached}
 use Rattle.register.specs.declared.Register.{Register}
 use Rattle.register.specs.Valid as R
 use Rattle.scheme.specs.declared.Scheme.{Scheme}
-use Rattle.scheme.specs.Scheme.{max_variables, variables}
 use Rattle.scheme.specs.Valid as S
 use Rattle.certificate.specs.Certificate.{Certificate}
 use Rattle.certificate.specs.Format.{certificate_part, commands_in_job}
@@ -101,9 +100,8 @@ module _ (reg : Register) (reg_valid : R.Valid reg) (sch : Scheme) (sch_valid : 
     front_read : (k : Certificate) (end : ℕ) → end ≤ length s → Within reg sch k → Encodes k (take end s) → commands_in_job reg sch s ≡ accepted (reached 0x3F k) end
     unfolding commands_in_job
     front_read k end l w e =
-        let few : variables reg.choices sch ≤ max_variables = omega (arith, reg_valid.within.choices.few, sch_valid.within.products_within) in
         let n : length (take end s) ≡ end = length-take-le end s l in
-        let q = whole_front (certificate_part reg sch) (take end s) (drop end s) (reached 0x3F k) (bytes_take end s b) (certificate_accepted reg sch few reg_valid.within.rows.few k (take end s) w e) in
+        let q = whole_front (certificate_part reg sch) (take end s) (drop end s) (reached 0x3F k) (bytes_take end s b) (certificate_accepted reg sch sch_valid.within.variables_within reg_valid.within.rows.few k (take end s) w e) in
         rw (take-append-drop end s, n) at q
 
     certificate_refuses : (n at : ℕ) → CertificateRefused c reg sch s n at → certificate_in_job c reg sch s ≡ refused n at

@@ -112,6 +112,7 @@ scheme_for reg other sch n m ms v =
         lefts = w.lefts;
         rights = w.rights;
         products_within = w.products_within;
+        variables_within = rw n w.variables_within;
         products = rw n w.products;
         split_lefts = w.split_lefts;
         split_rights = w.split_rights;

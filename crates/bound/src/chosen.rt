@@ -10,7 +10,7 @@ use scheme::{Quadratization, open_parts};
 use wire::{Fault, by_itself};
 
 // The same quadratization with the coefficients that a plan chooses.
-pub fn quadratization_under(quadratization: &Quadratization, plan: u32) -> Quadratization
+pub fn quadratization_under(quadratization: &Quadratization, plan: u64) -> Quadratization
     ensures register { result.register ≡ under quadratization.now.register plan }
     ensures scheme { result.scheme ≡ quadratization.now.scheme }
 {

@@ -21,7 +21,7 @@ module _ (s buffer : List ℕ) where
 
   -- it is accepted
   module _ (reg : Register) (e : accepts reg ≡ open_register s) where
-    -- a product past the limit is needed
+    -- a product past a limit is needed
     pub build_full : (t : ℕ) → stopped t ≡ build reg → (refused_answer 10 1 (term_position s t) ≡ build_answer s buffer) × (buffer ≡ build_buffer s buffer)
     build_full t d = (ap (built_answer s reg buffer) d ∙ answer_from (accepts reg) e, ap (built_buffer reg buffer) d ∙ buffer_from (accepts reg) e)
 

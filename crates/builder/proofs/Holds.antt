@@ -16,6 +16,7 @@ use Rattle.scheme.specs.Variables.{E}
 use Rattle.scheme.specs.Format.{union_of}
 use Rattle.scheme.specs.Valid.{Within}
 use Rattle.scheme.proofs.Sets.{E_same, new_at}
+use Rattle.scheme.proofs.Passes.{room_left}
 use Rattle.scheme.proofs.Entries.{lengths_within, grown_agree, grown_set, product_more}
 use Rattle.builder.specs.Builder.{next, WithVariable, join_pair}
 use Rattle.builder.specs.Work.{Inside}
@@ -112,11 +113,12 @@ module _ (reg : Register) (m splits : ℕ) where
         holds = holds_joined front rest a b h.holds sch (found n sch a b) (omega arith) (λ v _. refl) l (found_has n sch a b l);
         splits_kept = h.splits_kept;
       }))
-      (λ k few d. rw d (record {
+      (λ k f d. let (few, room) = room_left sch.products (variables n sch) f in rw d (record {
         within =
             product_more reg sch h.within (min a b) (max a b)
             (record {
               few = few;
+              room = room;
               fits = record {
                 ordered = omega (arith, differ front rest a b h.holds);
                 falls = omega (arith, pair.0, pair.1);

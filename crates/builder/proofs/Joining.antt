@@ -1,5 +1,6 @@
 -- The code's joining of a pair, and its splits, by the definition.
 use mathlib.Core.Path.{◌≡◌, refl, sym, ◌∙◌}
+use mathlib.Core.Bool.{true, false}
 use mathlib.Core.List.{List, [], ◌∷◌}
 use Prim.Native.Nat.{ℕ, zero, suc, ◌+◌, ◌-◌, min, max, ◌≤◌, ◌<◌}
 use native.Mathlib.Omega.{arith}
@@ -8,13 +9,14 @@ use lib.Bits.{or_comm}
 use lib.ListN.{length, take, set, get_or, length-set}
 use Rattle.integers.proofs.Search.{first_below_same}
 use Rattle.scheme.specs.declared.Scheme.{Scheme}
-use Rattle.scheme.specs.Scheme.{max_products, variables, Lengths, with_product, with_split}
+use Rattle.scheme.specs.Scheme.{max_products, max_variables, variables, Lengths, with_product, with_split}
 use Rattle.scheme.specs.Sets.{SetsBelow, first_in, union_in}
 use Rattle.scheme.proofs.Sets.{union_in_lem}
+use Rattle.scheme.proofs.Passes.{room_left}
 use Rattle.scheme.proofs.Entries.{grown_sets}
 use Rattle.builder.specs.Builder.{full, next, first_with, join_pair, split_of}
 use Rattle.builder.specs.Ready.{Ready}
-use Rattle.builder.proofs.Steps.{found, join_found, join_full, join_new}
+use Rattle.builder.proofs.Steps.{found, no_room, join_found, join_full, join_new}
 
 -- the smaller and the larger of two, where their order does not matter
 pub sorted : {A : Type 0} (f : ℕ → ℕ → A) → ((x y : ℕ) → f x y ≡ f y x) → (a b : ℕ) → f (min a b) (max a b) ≡ f a b
@@ -69,21 +71,24 @@ module _ {n : ℕ} {s : Scheme} {sets : List ℕ} (ready : Ready n s sets) {a b 
 
   module _ (none : first_in sets (variables n s) union ≡ variables n s) where
     -- none has it, and there is no room for a product
-    pub joins_full : max_products ≤ s.products → full ≡ join_pair n s a b
+    pub joins_full : no_room n s ≡ true → full ≡ join_pair n s a b
     joins_full m = sym (join_full n s a b (sym found_is ∙ none) m)
 
     -- the product is made
-    module _ (m : s.products < max_products) (made : Scheme) (e : made ≡ with_product s (min a b) (max a b)) where
+    module _ (m : no_room n s ≡ false) (made : Scheme) (e : made ≡ with_product s (min a b) (max a b)) where
       pub joins_new : next (record { scheme = made; variable = variables n s }) ≡ join_pair n s a b
       joins_new = rw e (sym (join_new n s a b (sym found_is ∙ none) m))
 
       pub new_ready : Ready n made (set sets (variables n s) union)
-      new_ready = rw e (record { few = ready.few; within = m; lengths = product_lengths s _ _ ready.lengths; sets_are = sets_are })
+      new_ready = rw e (record { few = ready.few; within = room.0; variables_within = omega (arith, room.1); lengths = product_lengths s _ _ ready.lengths; sets_are = sets_are })
         where
+          room : (s.products < max_products) × (variables n s < max_variables)
+          room = room_left s.products (variables n s) m
+
           union_same : union_in sets (min a b) (max a b) ≡ union
           union_same = sorted (union_in sets) (λ x y. or_comm (get_or sets x 0) (get_or sets y 0)) a b ∙ sym union_is
 
           sets_are : SetsBelow n (with_product s (min a b) (max a b)) (n + suc s.products) (set sets (variables n s) union)
           sets_are =
               rw (← union_same)
-              (grown_sets s (min a b) (max a b) n ready.lengths m ready.sets_are (omega (arith, ready.few)) (omega arith) (omega arith))
+              (grown_sets s (min a b) (max a b) n ready.lengths room.0 ready.sets_are room.1 (omega arith) (omega arith))

@@ -14,3 +14,4 @@ pub mod Unions
 pub mod Validity
 pub mod Answers
 pub mod Call
+pub mod BeforeWide

@@ -80,7 +80,7 @@ module _ {n : ℕ} {s : Scheme} {m₀ : Members} {w : Work} {m : Members} {i : �
         choices_kept = k;
         count_is = c ∙ g.count_is;
         half = omega arith;
-        inside = rw (add-one, untouched) (inside_grown n w.scheme w'.scheme rest (join_grown n w.scheme first second _ w.ready.within (sym e)).rises (rw two at g.inside).1.1);
+        inside = rw (add-one, untouched) (inside_grown n w.scheme w'.scheme rest (join_grown n w.scheme first second _ (sym e)).rises (rw two at g.inside).1.1);
         same =
             rw (add-one, untouched, front)
             (sym (ap (on_front (take i m.entries)) (ap (pair_up n w.scheme) two ∙ pair_next_lem n w.scheme first second rest _ (sym e))

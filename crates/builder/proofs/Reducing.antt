@@ -55,7 +55,7 @@ module _ {n : ℕ} {s : Scheme} {l : List ℕ} {w : Work} {m : Members} (g : Red
       reduces_on c = go g.fuel g.enough g.same
         where
           inside : Inside n w'.scheme (listed m')
-          inside = (pass_steady n w.scheme.splits w.scheme (listed m) _ (record { within = w.ready.within; inside = g.inside; splits_kept = refl }) (sym passed)).inside
+          inside = (pass_steady n w.scheme.splits w.scheme (listed m) _ (record { inside = g.inside; splits_kept = refl }) (sym passed)).inside
 
           go : (fuel : ℕ) → m.count ≤ fuel → reduce fuel n w.scheme (listed m) ≡ reduced_step n s l → Reducing n s l w' m'
           go zero h f = absurd (omega arith)

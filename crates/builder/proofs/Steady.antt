@@ -1,4 +1,4 @@
--- What stays where pairs are joined: the limit, that members are variables, and the splits.
+-- What stays where pairs are joined: that members are variables, and the splits.
 use mathlib.Core.Path.{◌≡◌, refl, ◌∙◌}
 use mathlib.Core.List.{List, [], ◌∷◌, ◌++◌}
 use Prim.Native.Nat.{ℕ, ◌≤◌, ◌<◌}
@@ -6,15 +6,14 @@ use native.Mathlib.Omega.{arith}
 use Rattle.integers.specs.Lists.{All}
 use Rattle.integers.proofs.Lists.{All-map, All-append}
 use Rattle.scheme.specs.declared.Scheme.{Scheme}
-use Rattle.scheme.specs.Scheme.{max_products, variables}
+use Rattle.scheme.specs.Scheme.{variables}
 use Rattle.builder.specs.Builder.{next, WithVariable, WithList, join_pair, pair_up, reduce}
 use Rattle.builder.specs.Work.{Inside}
 use Rattle.builder.proofs.Steps.{join_cases, pass_kept, reduce_kept}
 
--- ---- the limit, the variables and the splits of a scheme and a list
+-- ---- the variables and the splits of a scheme and a list
 
 pub record Steady (n splits : ℕ) (sch : Scheme) (l : List ℕ) : Type 0 where
-  pub within : sch.products ≤ max_products
   pub inside : Inside n sch l
   pub splits_kept : sch.splits ≡ splits
 
@@ -29,15 +28,14 @@ All-front P (x ∷ l) r h = (h.0, All-front P l r h.1)
 -- a variable that is joined to, and how the scheme grew
 pub record Grown (n : ℕ) (sch : Scheme) (p : WithVariable) : Type 0 where
   pub rises : sch.products ≤ p.scheme.products
-  pub within : p.scheme.products ≤ max_products
   pub splits_kept : p.scheme.splits ≡ sch.splits
   pub there : p.variable < variables n p.scheme
 
-pub join_grown : (n : ℕ) (sch : Scheme) (a b : ℕ) (p : WithVariable) → sch.products ≤ max_products → join_pair n sch a b ≡ next p → Grown n sch p
-join_grown n sch a b p h e =
+pub join_grown : (n : ℕ) (sch : Scheme) (a b : ℕ) (p : WithVariable) → join_pair n sch a b ≡ next p → Grown n sch p
+join_grown n sch a b p e =
     join_cases n sch a b p e
-    (λ l d. rw d (record { rises = omega arith; within = h; splits_kept = refl; there = l }))
-    (λ k m d. rw d (record { rises = omega arith; within = m; splits_kept = refl; there = omega arith }))
+    (λ l d. rw d (record { rises = omega arith; splits_kept = refl; there = l }))
+    (λ k m d. rw d (record { rises = omega arith; splits_kept = refl; there = omega arith }))
 
 pub inside_grown : (n : ℕ) (sch sch' : Scheme) (l : List ℕ) → sch.products ≤ sch'.products → Inside n sch l → Inside n sch' l
 inside_grown n sch sch' l h = All-map (λ v. v < variables n sch) (λ v. v < variables n sch') (λ v m. omega arith) l
@@ -45,9 +43,8 @@ inside_grown n sch sch' l h = All-map (λ v. v < variables n sch) (λ v. v < var
 module _ (n splits : ℕ) where
   steady_joins : (front rest : List ℕ) (sch : Scheme) (a b : ℕ) (p : WithVariable) → Steady n splits sch (front ++ a ∷ b ∷ rest) → join_pair n sch a b ≡ next p → Steady n splits p.scheme (front ++ p.variable ∷ rest)
   steady_joins front rest sch a b p h e =
-      let g = join_grown n sch a b p h.within e in
+      let g = join_grown n sch a b p e in
       record {
-        within = g.within;
         inside = All-append (λ v. v < variables n p.scheme) front (p.variable ∷ rest)
             (inside_grown n sch p.scheme front g.rises (All-front _ front _ h.inside))
             (g.there, inside_grown n sch p.scheme rest g.rises (All-back _ front _ h.inside).1.1);

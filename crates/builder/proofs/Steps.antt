@@ -1,16 +1,18 @@
 -- What joining a pair leads to, and what a pass over pairs and passes keep.
 use mathlib.Core.Path.{◌≡◌, refl, sym, ◌∙◌}
-use mathlib.Core.Bool.{true}
+use mathlib.Core.Bool.{Bool, true, false, ◌||◌}
 use mathlib.Core.List.{List, [], ◌∷◌, ◌++◌}
 use Prim.Native.Nat.{ℕ, zero, suc, ◌+◌, ◌*◌, min, max, ◌≤◌, ◌<◌}
 use native.Mathlib.Omega.{arith}
 use native.Mathlib.Decide.{dec_lt}
+use lib.Dec.{leb}
 use lib.ListN.{length}
 use lib.Seq.{append_snoc}
 use borrow.Author.Tests.{eqb-true, eq-eqb, ne_eqb, le-leb, lt-leb}
+use Rattle.integers.proofs.Lists.{flag}
 use Rattle.integers.proofs.Search.{first_within, first_here, none_first}
 use Rattle.scheme.specs.declared.Scheme.{Scheme}
-use Rattle.scheme.specs.Scheme.{max_products, variables, with_product}
+use Rattle.scheme.specs.Scheme.{max_products, max_variables, variables, with_product}
 use Rattle.scheme.specs.Variables.{E}
 use Rattle.scheme.specs.Format.{union_of, is_new}
 use Rattle.builder.specs.Builder.{Step, full, next, and_then, WithVariable, WithList, first_with, join_pair, pair_up, reduce}
@@ -25,6 +27,10 @@ pub same_next : {A : Type 0} {p q : A} → ◌≡◌ {A = Step A} (next p) (next
 same_next e = cc
 
 -- ---- a pair
+
+-- no product more may be made
+abbrev pub no_room : ℕ → Scheme → Bool
+no_room n sch = leb max_products sch.products || leb max_variables (variables n sch)
 
 module _ (n : ℕ) (sch : Scheme) (a b : ℕ) where
   -- the first variable with the union
@@ -49,31 +55,27 @@ module _ (n : ℕ) (sch : Scheme) (a b : ℕ) where
   unfolding join_pair
   join_found l = rw (ne_eqb found (variables n sch) (λ e. omega arith))
 
-  pub join_full : found ≡ variables n sch → max_products ≤ sch.products → join_pair n sch a b ≡ full
+  pub join_full : found ≡ variables n sch → no_room n sch ≡ true → join_pair n sch a b ≡ full
   unfolding join_pair
-  join_full e l = rw (eq-eqb found (variables n sch) e, le-leb max_products sch.products l)
+  join_full e t = rw (eq-eqb found (variables n sch) e, t)
 
-  pub join_new : found ≡ variables n sch → sch.products < max_products → join_pair n sch a b ≡ next (record { scheme = with_product sch (min a b) (max a b); variable = variables n sch })
+  pub join_new : found ≡ variables n sch → no_room n sch ≡ false → join_pair n sch a b ≡ next (record { scheme = with_product sch (min a b) (max a b); variable = variables n sch })
   unfolding join_pair
-  join_new e l = rw (eq-eqb found (variables n sch) e, lt-leb max_products sch.products l)
+  join_new e f = rw (eq-eqb found (variables n sch) e, f)
 
   -- which of them it was
   pub join_cases : {G : Type 0} (p : WithVariable) → join_pair n sch a b ≡ next p →
       (found < variables n sch → p ≡ record { scheme = sch; variable = found } → G) →
-      (found ≡ variables n sch → sch.products < max_products → p ≡ record { scheme = with_product sch (min a b) (max a b); variable = variables n sch } → G) → G
-  join_cases {G} p e there new = go (dec_lt found (variables n sch)) (dec_lt sch.products max_products)
+      (found ≡ variables n sch → no_room n sch ≡ false → p ≡ record { scheme = with_product sch (min a b) (max a b); variable = variables n sch } → G) → G
+  join_cases {G} p e there new = go (dec_lt found (variables n sch))
     where
-      go : Dec (found < variables n sch) → Dec (sch.products < max_products) → G
-      go (yes l) q = let d = join_found l in there l (cc)
-      go (no l) (yes m) =
+      go : Dec (found < variables n sch) → G
+      go (yes l) = let d = join_found l in there l (cc)
+      go (no l) =
           let k : found ≡ variables n sch = omega (arith, found_within) in
-          let d = join_new k m in
-          new k m (cc)
-      go (no l) (no m) =
-          let k : found ≡ variables n sch = omega (arith, found_within) in
-          let d = join_full k (omega arith) in
-          let z : ◌≡◌ {A = ℕ} 0 1 = cc in
-          absurd (omega arith)
+          flag (no_room n sch)
+          (λ t. let d = join_full k t in let z : ◌≡◌ {A = ℕ} 0 1 = cc in absurd (omega arith))
+          (λ f. let d = join_new k f in new k f (cc))
 
 -- ---- passes
 

@@ -10,7 +10,7 @@ use Rattle.integers.proofs.Lists.{All-map}
 use Rattle.register.specs.declared.Register.{Register}
 use Rattle.register.specs.Register.{mask}
 use Rattle.scheme.specs.declared.Scheme.{Scheme}
-use Rattle.scheme.specs.Scheme.{max_products, variables, fresh, with_split}
+use Rattle.scheme.specs.Scheme.{variables, fresh, with_split}
 use Rattle.scheme.proofs.Sets.{sets_same}
 use Rattle.builder.specs.declared.list.Members.{Members}
 use Rattle.builder.specs.declared.state.Work.{Work}
@@ -32,17 +32,17 @@ choices_inside n m s = All-map (λ v. v < n) (λ v. v < variables n s) (λ v l. 
 
 -- one split more keeps what is ready
 pub split_ready : {n : ℕ} {s : Scheme} {sets : List ℕ} → Ready n s sets → (l r : ℕ) (made : Scheme) → made ≡ with_split s l r → Ready n made sets
-split_ready {n} {s} ready l r made e = rw e (record { few = ready.few; within = ready.within; lengths = split_lengths s l r ready.lengths; sets_are = sets_same ready.sets_are (with_split s l r) (λ v x y. (refl, refl)) })
+split_ready {n} {s} ready l r made e = rw e (record { few = ready.few; within = ready.within; variables_within = ready.variables_within; lengths = split_lengths s l r ready.lengths; sets_are = sets_same ready.sets_are (with_split s l r) (λ v x y. (refl, refl)) })
 
 module _ (n m : ℕ) (s : Scheme) where
   pub term_full : full ≡ reduced_step n s (choices_of n m) → full ≡ build_term n s m
   unfolding build_term and_then
   term_full e = rw (← e)
 
-  module _ (within : s.products ≤ max_products) (some : 1 ≤ m) (named : m < 2 ^ n) (short : Scheme) (members : Members)
+  module _ (some : 1 ≤ m) (named : m < 2 ^ n) (short : Scheme) (members : Members)
       (e : next (record { scheme = short; members = listed members }) ≡ reduced_step n s (choices_of n m)) where
     pub term_splits : short.splits ≡ s.splits
-    term_splits = (reduce_steady n s.splits (length (choices_of n m)) s (choices_of n m) _ (record { within = within; inside = choices_inside n m s; splits_kept = refl }) (sym e)).splits_kept
+    term_splits = (reduce_steady n s.splits (length (choices_of n m)) s (choices_of n m) _ (record { inside = choices_inside n m s; splits_kept = refl }) (sym e)).splits_kept
 
     pub term_count : (1 ≤ members.count) × (members.count ≤ 2)
     term_count =

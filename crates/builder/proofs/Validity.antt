@@ -96,7 +96,7 @@ module _ (reg : Register) (valid : R.Valid reg) where
   pub build_valid : (sch : Scheme) → build reg ≡ built sch → Valid reg sch
   unfolding build fresh
   build_valid sch e =
-      let s = built_from reg.terms 0 fresh sch (omega arith) (record { within = fresh_within reg; splits_are = refl }) e in
+      let s = built_from reg.terms 0 fresh sch (omega arith) (record { within = fresh_within reg valid.within.choices.few; splits_are = refl }) e in
       record { within = s.within; all_split = s.splits_are ∙ zero-add reg.terms }
 
   -- and short

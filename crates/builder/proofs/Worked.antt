@@ -1,7 +1,7 @@
 -- W3 and W4 of the paper's worked set.
 use mathlib.Core.Path.{◌≡◌, refl}
 use mathlib.Core.Bool.{false}
-use Prim.Native.Nat.{ℕ, ◌≤◌}
+use Prim.Native.Nat.{ℕ, ◌-◌, ◌≤◌}
 use mathlib.Core.List.{List, [], ◌∷◌, ◌++◌}
 use lib.IntN.{pos}
 use lib.ListN.{length, drop, replicate}
@@ -14,7 +14,7 @@ use Rattle.wire.specs.Part as Part
 use Rattle.wire.specs.Rows.{row_of}
 use Rattle.wire.specs.Writer.{written_answer, bytes_answer}
 use Rattle.sets.specs.Sets.{is_member}
-use Rattle.register.specs.Limits.{usual_day}
+use Rattle.register.specs.Limits.{max_choices, usual_day}
 use Rattle.register.specs.declared.Register.{Register}
 use Rattle.register.specs.Register as Reg
 use Rattle.register.specs.Format.{base_checks, choice_checks, term_checks, end_checks, register_in_job, register_by_itself}
@@ -61,7 +61,7 @@ five_bytes =
     ∷ 0x1F ∷ []
 
 abbrev pub five : Register
-five = record { base = pos 0; day_length = usual_day; choices = 5; terms = 1; tanks = 1 ∷ 1 ∷ 1 ∷ 1 ∷ 1 ∷ replicate 27 0; minutes = 0 ∷ 1 ∷ 2 ∷ 3 ∷ 4 ∷ replicate 27 0; masks = 31 ∷ replicate 255 0; coefficients = pos 1 ∷ replicate 255 (pos 0); highs = pos 1 ∷ replicate 255 (pos 0); ranged = replicate 256 false; windows = 0; window_tanks = replicate 64 0; window_froms = replicate 64 0; window_tos = replicate 64 0; rows = 0; row_totals = replicate 8 (pos 0); row_entries = replicate 256 (pos 0) }
+five = record { base = pos 0; day_length = usual_day; choices = 5; terms = 1; tanks = 1 ∷ 1 ∷ 1 ∷ 1 ∷ 1 ∷ replicate (max_choices - 5) 0; minutes = 0 ∷ 1 ∷ 2 ∷ 3 ∷ 4 ∷ replicate (max_choices - 5) 0; masks = 31 ∷ replicate 255 0; coefficients = pos 1 ∷ replicate 255 (pos 0); highs = pos 1 ∷ replicate 255 (pos 0); ranged = replicate 256 false; windows = 0; window_tanks = replicate 64 0; window_froms = replicate 64 0; window_tos = replicate 64 0; rows = 0; row_totals = replicate 8 (pos 0); row_entries = replicate 256 (pos 0) }
 
 -- and the scheme made for it
 abbrev pub five_scheme : Scheme

@@ -15,7 +15,7 @@ use Rattle.builder.specs.Builder.{Built, stopped, built, build}
 abbrev pub built_room : ℕ
 built_room = 3 * max_products + 3 * max_terms + 1
 
--- of what building leads to: 10 at the command of the term that needs a 33rd product, where it stands in the register's bytes
+-- of what building leads to: 10 at the command of the term that needs a 33rd product or a 65th variable, where it stands in the register's bytes
 
 abbrev pub built_answer : List ℕ → Register → List ℕ → Built → WriterAnswer
 built_answer register reg buffer (stopped t) = refused_answer 10 1 (term_position register t)

@@ -1,15 +1,15 @@
 -- The builder follows 000 Algorithm 2.
-use Rattle.std.specs.Prelude.{ℕ, zero, suc, min, max, cond, List, [], ◌∷◌, eqb, leb, length}
+use Rattle.std.specs.Prelude.{ℕ, zero, suc, min, max, cond, ◌||◌, List, [], ◌∷◌, eqb, leb, length}
 use Rattle.integers.specs.Lists.{join_below, first_below}
 use Rattle.sets.specs.Sets.{is_member}
 use Rattle.register.specs.declared.Register.{Register}
 use Rattle.register.specs.Register.{mask}
 use Rattle.scheme.specs.declared.Scheme.{Scheme}
-use Rattle.scheme.specs.Scheme.{max_products, variables, fresh, with_product, with_split}
+use Rattle.scheme.specs.Scheme.{max_products, max_variables, variables, fresh, with_product, with_split}
 use Rattle.scheme.specs.Variables.{E}
 use Rattle.scheme.specs.Format.{union_of}
 
--- a step that needs a 33rd product is full
+-- a step that needs a 33rd product, or a 65th variable, is full
 pub data Step (A : Type 0) : Type 0 where
   full : Step A
   next : A → Step A
@@ -43,7 +43,7 @@ join_pair n sch a b =
     let v = first_with n sch (union_of n sch a b) k in
     let made = with_product sch (min a b) (max a b) in
     cond (eqb v k)
-    (cond (leb max_products sch.products) full (next (record { scheme = made; variable = k })))
+    (cond (leb max_products sch.products || leb max_variables k) full (next (record { scheme = made; variable = k })))
     (next (record { scheme = sch; variable = v }))
 
 -- one pass over a list: first and second member give one variable, third and fourth the next, a single one at the end is kept
@@ -72,7 +72,7 @@ split_of sch (a ∷ (b ∷ rest)) = with_split sch (min a b) (max a b)
 unfoldable pub build_term : ℕ → Scheme → ℕ → Step Scheme
 build_term n sch m = let members = choices_of n m in and_then (reduce (length members) n sch members) λ p. next (split_of p.scheme p.members)
 
--- what building leads to: a scheme, or the number of the term that needs a 33rd product
+-- what building leads to: a scheme, or the number of the term that needs a product too many
 pub data Built : Type 0 where
   stopped : ℕ → Built
   built : Scheme → Built

@@ -21,7 +21,7 @@ use state::Work;
 use wire::{Fault, Refusal, WriterAnswer};
 use writing::write_scheme;
 
-// The scheme of a register, by its terms in order, or the term that needs a product past the limit.
+// The scheme of a register, by its terms in order, or the term that needs a product past a limit.
 pub fn built(register: &Register) -> Result<Scheme, usize>
     requires { Valid register.now }
     ensures { built_of result ≡ build register.now }

@@ -29,7 +29,7 @@ impl Members {
     }
 
     // The choices of a term, rising, where there are n. The crate that tells whether a plan has a choice stands on plans.
-    pub fn choices_of(n: usize, mask: u32) -> Members
+    pub fn choices_of(n: usize, mask: u64) -> Members
         requires { n ≤ max_choices }
         ensures { listed result ≡ choices_of n mask }
     {

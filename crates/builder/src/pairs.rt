@@ -49,7 +49,8 @@ impl Work {
         if let Some(v) = scheme::lookup::first_with(&self.sets, count, union) {
             return Ok(v as u8);
         }
-        if Scheme::MAX_PRODUCTS <= products {
+        let full = (Scheme::MAX_PRODUCTS <= products) | (Scheme::MAX_VARIABLES <= count);
+        if full {
             return Err(Full);
         }
         self.scheme = with_product(self.scheme, a.min(b), a.max(b));

@@ -36,7 +36,7 @@ impl Work {
     }
 
     // One term, by its mask.
-    pub fn add_term(&mut self, mask: u32) -> Result<(), Full>
+    pub fn add_term(&mut self, mask: u64) -> Result<(), Full>
         requires splits_lt_max_terms { self.old.scheme.splits < max_terms }
         requires le_mask { 1 ≤ mask }
         requires mask_bound { mask < 2 ^ self.old.choices }

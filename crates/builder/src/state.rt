@@ -3,7 +3,7 @@ ghost use Rattle.builder.specs.Ready.{Ready};
 
 use scheme::Scheme;
 
-// A product past the limit is needed.
+// A product past a limit is needed: the 33rd, or one that is the 65th variable.
 #[derive(Clone, Copy, Debug, PartialEq, Eq)]
 pub struct Full;
 
@@ -12,6 +12,6 @@ pub struct Full;
 pub struct Work {
     pub choices: usize,
     pub scheme: Scheme,
-    pub sets: [u32; Scheme::MAX_VARIABLES],
+    pub sets: [u64; Scheme::MAX_VARIABLES],
     ghost ready: { Ready choices scheme sets },
 }

@@ -259,7 +259,7 @@ module _ (reg : Register) (sch : Scheme) where
 
   -- ---- a part that has ended, and the commands of a certificate within its limits
 
-  pub means : Means Done (Within reg sch) Commands 0x3F
+  pub means : Means Done (Within reg sch) Commands (λ b. b ≡ 0x3F)
   means = record {
     valid = λ B k cs d.
         let e = d.is_second in

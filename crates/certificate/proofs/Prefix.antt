@@ -40,7 +40,7 @@ abbrev far : ℕ
 far = 13 + 13 * max_multipliers + 135 * max_squares
 
 abbrev Kept : Row Certificate → Type 0
-Kept row = Keeps Reach 135 (far + 1) row.byte row
+Kept row = Keeps Reach 135 (λ p. far + 1) row.byte row
 
 module _ (reg : Register) (sch : Scheme) where
   -- a multiplier command takes at most 13 bytes
@@ -54,7 +54,7 @@ module _ (reg : Register) (sch : Scheme) where
             record { start = λ z. absurd (omega arith); near = omega (arith, r.near); multipliers = omega (arith, (multiplier_passes _ _ _ h).0); squares = r.squares };
       }
 
-  limits : Limited (certificate_part reg sch) Reach far 135 (far + 1)
+  limits : Limited (certificate_part reg sch) Reach far 135 (λ p. far + 1)
   unfolding total arity by_key
   limits =
       limited fresh _ (omega arith) (record { start = λ e. refl; near = omega arith; multipliers = omega arith; squares = omega arith }) (λ p at r. omega (arith, r.near, r.multipliers, r.squares))

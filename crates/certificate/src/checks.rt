@@ -32,7 +32,7 @@ fn scale_refusal(scale: u32, target: i64) -> Result<(), Refusal>
 }
 
 // The set of a variable, 0 past the last, as the definitions read it.
-fn set_of(sets: &[u32], v: u8) -> u32
+fn set_of(sets: &[u64], v: u8) -> u64
     ensures { result ≡ get_or sets.now v 0 }
 {
     sets.get(v as usize).copied().unwrap_or(0)
@@ -40,7 +40,7 @@ fn set_of(sets: &[u32], v: u8) -> u32
 
 // Of masks; no type of std's is a set of bits.
 #[tactic(auto, unfolding(sets::specs::Sets::is_proper_subset, sets::specs::Sets::is_subset))]
-fn is_proper_subset(a: u32, b: u32) -> bool
+fn is_proper_subset(a: u64, b: u64) -> bool
     ensures { result ≡ is_proper_subset a b }
 {
     ((b & a) == a) & (a != b)
@@ -48,7 +48,7 @@ fn is_proper_subset(a: u32, b: u32) -> bool
 
 // What a multiplier command's kind asks, by the sets of the variables, where there are n choices, count variables and so many rows.
 // The kind is the command's byte, in ranges.
-fn rule_of(sets: &[u32], n: usize, count: usize, rows: usize, t: Multiplier) -> Rule
+fn rule_of(sets: &[u64], n: usize, count: usize, rows: usize, t: Multiplier) -> Rule
     ensures { (reg : Register) (sch : Scheme) → Known reg sch n count rows sets.now → TestsOf (rule_asked reg sch t) result }
 {
     let Multiplier {
@@ -146,7 +146,7 @@ fn stands_after(previous: u8, command: u8) -> bool
 
 // The refusal of the command at a position, by what has been seen and the sets of the variables. Place and size first, then its
 // operands.
-pub fn refusal_at(bytes: &[u8], at: usize, seen: Seen, sets: &[u32]) -> Result<(), Refusal>
+pub fn refusal_at(bytes: &[u8], at: usize, seen: Seen, sets: &[u64]) -> Result<(), Refusal>
     requires { at < length bytes.now }
     ensures { (reg : Register) (sch : Scheme) (p : Progress Whole) → seen_of reg sch p ≡ seen → SetsBelow reg.choices sch (variables reg.choices sch) sets.now →
         number_in result ≡ refusal (checks_at (certificate_part reg sch) bytes.now p at) }

@@ -168,7 +168,7 @@ impl Rule {
 // for a register without windows. The laws of such a loop stand once, in `wire`.
 fn read_with_sets(
     bytes: &[u8],
-    sets: &[u32],
+    sets: &[u64],
     quadratization: &Quadratization,
 ) -> Result<Read<Certificate>, Refused>
     requires { SetsBelow quadratization.now.register.choices quadratization.now.scheme (variables quadratization.now.register.choices quadratization.now.scheme) sets.now }

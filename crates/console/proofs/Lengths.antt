@@ -49,7 +49,7 @@ module _ (r : Register) (answer : SearchAnswer) where
             (small_no_longer (pos answer.number) (omega arith), (natural_no_longer _ _ (omega arith), tt)),
       )))
 
-pub longest_is : longest_search ≡ 418
+pub longest_is : longest_search ≡ 610
 unfolding longest_search line flat_map decimal digits digits_to
 longest_is = refl
 

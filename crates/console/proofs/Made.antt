@@ -166,7 +166,7 @@ module _ (t s k : List ℕ) where
           in (d, near)
       by (accepts (reg, sch, p)) e d q =
           let o = chosen_opened t s k reg sch p e in
-          omega (arith, plain_bytes (chosen reg p) reg sch o.parts.register_valid o.parts.scheme_valid, room_is)
+          omega (arith, plain_bytes (chosen reg p) reg sch o.parts.scheme_valid, room_is)
 
 -- where a part ends is within its bytes
 

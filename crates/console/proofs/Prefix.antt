@@ -45,7 +45,7 @@ use Rattle.console.specs.Parts.{built_scheme, own_certificate, scheme_end as end
 use Rattle.console.specs.Programs.{Decided, Follows}
 
 -- the bytes that can matter
-pub reach_is : register_reach ≡ 4_259
+pub reach_is : register_reach ≡ 4_339
 unfolding register_reach total
 reach_is = refl
 

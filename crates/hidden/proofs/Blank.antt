@@ -8,7 +8,7 @@ use Rattle.wire.specs.Encoding.{Command, Accepts, encode}
 use Rattle.wire.proofs.Prefix.{row_of_by}
 use Rattle.certificate.specs.Rules.{by_key}
 use Rattle.register.specs.declared.Register.{Register}
-use Rattle.register.specs.Format.{base_row, choice_row, term_row, window_row, row_row, range_row, length_row, register_rows, register_part}
+use Rattle.register.specs.Format.{base_row, choice_row, term_row, window_row, row_row, wide_term_row, range_row, length_row, register_rows, register_part}
 use Rattle.hidden.specs.Hidden.{hides}
 use Rattle.hidden.specs.Alike.{blank}
 use Rattle.hidden.proofs.Commands.{Off, shown_operands, marks, Ends, commands_alike}
@@ -29,6 +29,7 @@ keeps b = row_of_by Kept register_rows b (λ r r' xs xs' e d. e)
     ▹ (λ r r' xs xs' e d. ap₂ (λ x ys. blank (term_row.after x ys)) e d)
     ▹ (λ r r' xs xs' e d. ap (λ x. blank (window_row.after x [])) e)
     ▹ (λ r r' xs xs' e d. ap₂ (λ x ys. blank (row_row.after x ys)) e d)
+    ▹ (λ r r' xs xs' e d. ap₂ (λ x ys. blank (wide_term_row.after x ys)) e d)
     ▹ (λ r r' xs xs' e d. ap₂ (λ x ys. blank (range_row.after x ys)) e d)
     ▹ (λ r r' xs xs' e d. ap₂ (λ x ys. blank (length_row.after x ys)) e d)
     ▹ (λ r r' xs xs' e d. e)

@@ -16,6 +16,7 @@ use Rattle.wire.proofs.Number.{bytes_take, bytes_drop}
 use Rattle.wire.proofs.Encoding.{after_first}
 use Rattle.wire.proofs.Fronts.{front_whole}
 use Rattle.forms.specs.Table.{table_numbers}
+use Rattle.wire.proofs.Grammar.{last_from}
 use Rattle.register.specs.Register.{has_range}
 use Rattle.register.specs.Format.{register_in_job}
 use Rattle.register.proofs.Accept as RA
@@ -126,7 +127,7 @@ module _ (p : Parts) (v : Valid p) (s : List ℕ) (k : Encodes p s) where
 
   plan_read : (x rest : List ℕ) → x ≡ k.fourth ++ rest → Reads (plan_in_job p.register x) p.plan l₄
   plan_read x rest e = record {
-    previous = 0x40;
+    previous = last_from 0 k.plan.commands;
     is = ap (plan_in_job p.register) e ∙ PA.front_accepted p.register v.register.within.choices.few p.plan k.fourth rest v.plan k.plan;
   }
 

@@ -1,5 +1,5 @@
 -- What a job leads to stands in its first bytes, and an accepted job has so many at most.
-use Prim.Native.Nat.{ℕ, ◌+◌, ◌-◌, ◌≤◌, ◌<◌}
+use Prim.Native.Nat.{ℕ, ◌+◌, ◌-◌, ◌*◌, ◌≤◌, ◌<◌}
 use native.Mathlib.Omega.{arith}
 use mathlib.Core.Path.{◌≡◌, refl, ◌∙◌, ap}
 use mathlib.Core.List.{List, [], ◌∷◌}
@@ -9,18 +9,21 @@ use lib.Seq.{take_all, length-take-le}
 use borrow.Author.Tests.{leb-true, leb-false, lt-ltb}
 use Rattle.integers.proofs.Lists.{flag}
 use Rattle.wire.specs.Part.{Reading, refused, accepted, total}
-use Rattle.wire.specs.Rows.{Progress}
+use Rattle.wire.specs.Rows.{Progress, size_of}
 use Rattle.wire.specs.Outcome.{accepts, next, and_then, starting_at, added_by}
 use Rattle.wire.proofs.Prefix.{drop-take}
 use Rattle.wire.proofs.Outcome.{next_same}
 use Rattle.register.specs.declared.Register.{Register}
-use Rattle.register.specs.Register.{has_range}
-use Rattle.register.specs.Limits.{max_terms}
-use Rattle.register.specs.Format.{register_in_job}
+use Rattle.register.specs.Register.{fresh, has_range}
+use Rattle.register.specs.Limits.{max_choices}
+use Rattle.register.specs.Format.{choice_row, register_in_job}
+use Rattle.register.specs.Valid.{Valid}
 use Rattle.register.proofs.Accept.{valid_accepted}
 use Rattle.register.proofs.Prefix.{register_longest, register_reach, register_prefix, register_end}
 use Rattle.scheme.specs.declared.Scheme.{Scheme}
-use Rattle.scheme.specs.Format.{scheme_in_job}
+use Rattle.scheme.specs.Scheme.{max_products, max_variables}
+use Rattle.scheme.specs.Format.{product_row, scheme_in_job}
+use Rattle.scheme.proofs.Accept as SA
 use Rattle.scheme.proofs.Prefix.{scheme_longest, scheme_reach, scheme_prefix, scheme_end}
 use Rattle.certificate.specs.Certificate.{Certificate}
 use Rattle.certificate.specs.Rules.{arity, by_key}
@@ -34,26 +37,34 @@ use Rattle.job.specs.Outcome.{Parts, coefficients, of_register, with_scheme, wit
 use Rattle.job.proofs.Turn.{follow}
 use Rattle.job.proofs.EachRead.{all_read}
 
--- an accepted register has no more terms than the limit
-few_terms : (s : List ℕ) (p : Progress Register) (end : ℕ) → register_in_job s ≡ accepted p end → p.parsed.terms ≤ max_terms
-few_terms s p end e = (valid_accepted s p end e).0.within.terms.few
+-- the longest parts 1 and 2 together. A choice has more bytes than a product, so they have as many choices as there may be, and so many
+-- products fewer than there may be as there are no variables left for
+abbrev two_longest : ℕ
+two_longest = register_longest + scheme_longest - size_of (product_row fresh) * (max_choices + max_products - max_variables)
 
 -- the longest job
 unfoldable pub job_longest : ℕ
-job_longest = register_longest + scheme_longest + certificate_longest + plan_longest
+job_longest = two_longest + certificate_longest + plan_longest
 
 -- the bytes that can matter: after the longest register, the longest scheme and a plan, those of a certificate with a square too many. Where
 -- the plan comes last, they are fewer
 unfoldable pub job_reach : ℕ
-job_reach = register_longest + scheme_longest + plan_longest + certificate_reach
+job_reach = two_longest + plan_longest + certificate_reach
 
-pub longest_is : job_longest ≡ 27_061
+pub longest_is : job_longest ≡ 27_097
 unfolding job_longest register_longest scheme_longest certificate_longest plan_longest command_size total arity by_key
 longest_is = refl
 
-pub reach_is : job_reach ≡ 27_195
+pub reach_is : job_reach ≡ 27_231
 unfolding job_reach register_longest scheme_longest certificate_reach plan_longest command_size total arity by_key
 reach_is = refl
+
+-- where parts 1 and 2 are accepted, they end there at most
+two_within : (reg : Register) → Valid reg → (s : List ℕ) {q : Progress Scheme} {end : ℕ} → scheme_in_job reg s ≡ accepted q end → (from : ℕ) → from + size_of choice_row * (max_choices - reg.choices) ≤ register_longest → from + end ≤ two_longest
+unfolding register_longest scheme_longest total
+two_within reg v s {q} {end} e from l =
+    let w = (SA.valid_accepted reg v s q end e).0.within in
+    omega (arith, l, scheme_end reg v.within.terms.few s e, w.products_within, w.variables_within, v.within.choices.few)
 
 module _ (K : ℕ) (s : List ℕ) where
   -- bytes after the end
@@ -82,9 +93,9 @@ module _ (K : ℕ) (s : List ℕ) where
         go (accepted read end) f = f read end refl
 
     module _ (p : Parts) (from : ℕ) (ks : List JobPart) where
-      scheme_same : p.register.terms ≤ max_terms → from + scheme_reach ≤ K → ((sch : Scheme) (end : ℕ) → end ≤ from + scheme_longest → Same ks (with_scheme p sch) end) → Same (part_two ∷ ks) p from
-      scheme_same few l later = part_same 2 from (with_scheme p) (scheme_in_job p.register) scheme_reach (scheme_prefix p.register few) l ks λ read end e.
-          let m = scheme_end p.register few _ e in later read.parsed (from + end) (omega arith)
+      scheme_same : Valid p.register → from + size_of choice_row * (max_choices - p.register.choices) ≤ register_longest → from + scheme_reach ≤ K → ((sch : Scheme) (end : ℕ) → end ≤ two_longest → Same ks (with_scheme p sch) end) → Same (part_two ∷ ks) p from
+      scheme_same v h l later = part_same 2 from (with_scheme p) (scheme_in_job p.register) scheme_reach (scheme_prefix p.register v.within.terms.few) l ks λ read end e.
+          later read.parsed (from + end) (two_within p.register v _ e from h)
 
       certificate_same : from + certificate_reach ≤ K → ((cert : Certificate) (end : ℕ) → end ≤ from + certificate_longest → Same ks (with_certificate p cert) end) → Same (part_three ∷ ks) p from
       certificate_same l later =
@@ -107,18 +118,18 @@ module _ (K : ℕ) (s : List ℕ) where
       (λ one end. let reg = one.parsed in follow s (last_of 1 (order reg)) (order reg) (of_register reg) end)
       (register_prefix K s (omega arith)) λ one n₁ e₁.
       let reg = one.parsed in
-      let few = few_terms s one n₁ e₁ in
+      let v = (valid_accepted s one n₁ e₁).0 in
       let l₁ = register_end s e₁ in
       flag (has_range reg)
       (λ t. rw t (
-      scheme_same 3 (of_register reg) n₁ (part_four ∷ part_three ∷ []) few (omega arith) λ sch n₂ l₂.
+      scheme_same 3 (of_register reg) n₁ (part_four ∷ part_three ∷ []) v l₁ (omega arith) λ sch n₂ l₂.
       let q₂ = with_scheme (of_register reg) sch in
       plan_same 3 q₂ n₂ (part_three ∷ []) (omega arith) λ plan n₄ l₄.
       let q₄ = with_plan q₂ plan in
       certificate_same 3 q₄ n₄ [] (omega arith) λ cert n₃ l₃.
       end_same 3 (with_certificate q₄ cert) n₃ (omega arith)))
       (λ t. rw t (
-      scheme_same 4 (of_register reg) n₁ (part_three ∷ part_four ∷ []) few (omega arith) λ sch n₂ l₂.
+      scheme_same 4 (of_register reg) n₁ (part_three ∷ part_four ∷ []) v l₁ (omega arith) λ sch n₂ l₂.
       let q₂ = with_scheme (of_register reg) sch in
       certificate_same 4 q₂ n₂ (part_four ∷ []) (omega arith) λ cert n₃ l₃.
       let q₃ = with_certificate q₂ cert in
@@ -129,9 +140,8 @@ pub accepted_length : (s : List ℕ) (p : Parts) → outcome s ≡ accepts p →
 unfolding job_longest
 accepted_length s p e =
     let a = all_read s p e in
-    let few = few_terms s _ _ a.register.is in
-    let l₁ = register_end s a.register.is in
-    let l₂ = scheme_end p.register few _ a.scheme.is in
+    let v = (valid_accepted s _ _ a.register.is).0 in
+    let l₂ = two_within p.register v _ a.scheme.is _ (register_end s a.register.is) in
     let l₃ = certificate_end p.register p.scheme (coefficients p) _ a.certificate.is in
     let l₄ = plan_end p.register _ a.plan.is in
     omega (arith, a.ends)

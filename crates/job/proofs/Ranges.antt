@@ -29,7 +29,7 @@ use Rattle.certificate.specs.Certificate as C
 use Rattle.bound.specs.Bound.{carries}
 use Rattle.certificate.specs.Format.{scale_checks, multiplier_checks, square_checks, certificate_rows, commands_in_job}
 use Rattle.bound.specs.Format.{dominance_checked, certificate_in_job}
-use Rattle.plan.specs.Format.{plan_checks, plan_row, plan_part, plan_in_job}
+use Rattle.plan.specs.Format.{plan_checks, plan_rows, plan_part, plan_in_job}
 use Rattle.job.specs.Outcome.{Parts, coefficients, of_register, JobPart, order, in_turn, last_of, ended, outcome}
 use Rattle.job.proofs.Positions.{part_within, certificate_within}
 use Rattle.job.proofs.Prefix.{job_reach, outcome_prefix}
@@ -75,7 +75,7 @@ module _ {A : Type 0} where
 
 register_small : (s : List ℕ) → number_of (register_in_job s) ≤ highest
 unfolding register_in_job base_checks choice_checks term_checks window_checks row_checks range_checks length_checks RF.end_checks
-register_small s = part_small R.fresh register_rows ((λ r xs. tt) ▹ (λ r xs. tt) ▹ (λ r xs. tt) ▹ (λ r xs. tt) ▹ (λ r xs. tt) ▹ (λ r xs. tt) ▹ (λ r xs. tt) ▹ (λ r xs. tt) ▹ tt) s
+register_small s = part_small R.fresh register_rows ((λ r xs. tt) ▹ (λ r xs. tt) ▹ (λ r xs. tt) ▹ (λ r xs. tt) ▹ (λ r xs. tt) ▹ (λ r xs. tt) ▹ (λ r xs. tt) ▹ (λ r xs. tt) ▹ (λ r xs. tt) ▹ tt) s
 
 scheme_small : (reg : Register) (s : List ℕ) → number_of (scheme_in_job reg s) ≤ highest
 unfolding scheme_in_job product_checks split_checks SF.end_checks
@@ -99,7 +99,7 @@ certificate_small c reg sch s = go (commands_in_job reg sch s) (part_small C.fre
 
 plan_small : (reg : Register) (s : List ℕ) → number_of (plan_in_job reg s) ≤ highest
 unfolding plan_in_job plan_checks
-plan_small reg s = part_small 0 (plan_row reg ∷ []) ((λ r xs. tt) ▹ tt) s
+plan_small reg s = part_small 0 (plan_rows reg) ((λ r xs. tt) ▹ (λ r xs. tt) ▹ tt) s
 
 -- ---- the outcome
 

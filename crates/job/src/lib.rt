@@ -43,7 +43,7 @@ pub struct Tally {
 #[derive(Clone, Copy, Debug, PartialEq, Eq)]
 pub struct JobRead {
     pub register: Register,
-    pub plan: u32,
+    pub plan: u64,
     pub bound: i64,
     pub cost: i64,
     pub gap: i64,
@@ -122,7 +122,7 @@ impl Tally {
 }
 
 impl JobRead {
-    fn accepted(register: Register, plan: u32, bound: i64) -> JobRead
+    fn accepted(register: Register, plan: u64, bound: i64) -> JobRead
         requires within { Within register }
         requires bound_bound { nat_abs bound ≤ max_target }
         ensures { result ≡ accepted_read register plan bound }
@@ -188,7 +188,7 @@ fn certificate_at(
 }
 
 // Part 4 at a position of the job: the plan, and where it ends.
-fn plan_at(job: &[u8], from: usize, register: Register) -> Result<Read<u32>, Fault>
+fn plan_at(job: &[u8], from: usize, register: Register) -> Result<Read<u64>, Fault>
     requires within { Within register }
     requires inside { from ≤ length job.now }
     ensures { outcome_of result ≡ plan_at job.now register from }

@@ -103,7 +103,7 @@ refusal_short number at n l =
           (small_no_longer (pos number) (omega arith), (small_no_longer (pos at) (omega arith), tt)),
     )
 
-pub longest_is : longest_listing ≡ 929
+pub longest_is : longest_listing ≡ 1_361
 unfolding longest_listing line flat_map decimal digits digits_to
 longest_is = refl
 

@@ -102,7 +102,7 @@ impl Listing {
     }
 
     // Puts the line of each fed choice: its tank and minute.
-    pub fn put_fed(&mut self, register: Register, plan: u32)
+    pub fn put_fed(&mut self, register: Register, plan: u64)
         requires choices_le_max_choices { register.choices ≤ max_choices }
         requires room { length self.old + length (fed_lines register plan) ≤ listing_room }
         ensures { self.new ≡ self.old ++ fed_lines register plan }
@@ -118,7 +118,7 @@ impl Listing {
     }
 
     // Puts the line of each choice that a supplier may read: its number, and 1 or 0 for fed or not.
-    pub fn put_supplier_choices(&mut self, register: Register, plan: u32)
+    pub fn put_supplier_choices(&mut self, register: Register, plan: u64)
         requires choices_le_max_choices { register.choices ≤ max_choices }
         requires room { length self.old + length (supplier_lines register plan) ≤ listing_room }
         ensures { self.new ≡ self.old ++ supplier_lines register plan }
@@ -139,7 +139,7 @@ impl Listing {
     }
 
     // Puts the lines of the choices, as a reader has them.
-    fn put_plan(&mut self, register: Register, plan: u32, reader: Reader)
+    fn put_plan(&mut self, register: Register, plan: u64, reader: Reader)
         requires choices_le_max_choices { register.choices ≤ max_choices }
         requires room { length self.old + length (lines_for reader register plan) ≤ listing_room }
         ensures { self.new ≡ self.old ++ lines_for reader register plan }

@@ -1,6 +1,6 @@
 -- How large the numbers of the tables of g and h become, for a register and a scheme within the limits.
 use mathlib.Core.Path.{◌≡◌}
-use Prim.Native.Nat.{ℕ, ◌+◌, ◌*◌, ◌≤◌}
+use Prim.Native.Nat.{ℕ, suc, ◌+◌, ◌*◌, ◌≤◌}
 use native.Mathlib.Nat.{mul-le-mul}
 use native.Mathlib.Omega.{arith}
 use lib.IntN.{pos}
@@ -13,7 +13,7 @@ use Rattle.register.specs.Limits.{max_coefficient}
 use Rattle.register.specs.Register.{coefficient}
 use Rattle.register.specs.Valid.{Within}
 use Rattle.scheme.specs.declared.Scheme.{Scheme}
-use Rattle.scheme.specs.Scheme.{left, right, side}
+use Rattle.scheme.specs.Scheme.{max_variables, left, right, side}
 use Rattle.scheme.specs.Function.{g, max_g}
 use Rattle.scheme.specs.Valid.{Valid}
 use Rattle.penalty.specs.Weights.{weight, max_product_weight}
@@ -45,7 +45,7 @@ pub weight_read_small : (r : Register) (s : Scheme) (k x : ℕ) → Within r →
 weight_read_small r s k x within e = rw (← e) at (weight_small r s k within)
 
 -- a table of side N + 1 is at most 4,225 numbers
-pub side_square : (r : Register) (s : Scheme) → Within r → Valid r s → side r.choices s * side r.choices s ≤ table_numbers
-side_square r s within valid =
-    let narrow : side r.choices s ≤ 65 = omega (arith, within.choices.few, valid.within.products_within) in
-    mul-le-mul narrow narrow
+pub side_square : (r : Register) (s : Scheme) → Valid r s → side r.choices s * side r.choices s ≤ table_numbers
+side_square r s valid =
+    let short : side r.choices s ≤ suc max_variables = omega (arith, valid.within.variables_within) in
+    mul-le-mul short short

@@ -17,7 +17,6 @@ use Rattle.forms.specs.Table.{table_numbers, table_value}
 use Rattle.forms.proofs.Table.{table_value_form, with_table-length, with_table_past}
 use Rattle.register.specs.declared.Register.{Register}
 use Rattle.register.specs.Register.{coefficient}
-use Rattle.register.specs.Valid as R
 use Rattle.scheme.specs.declared.Scheme.{Scheme}
 use Rattle.scheme.specs.Scheme.{side}
 use Rattle.scheme.specs.Filling.{Filling, factor}
@@ -35,8 +34,8 @@ use Rattle.penalty.proofs.Least.{table_twice, table_least_where}
 use Rattle.penalty.proofs.Answers.{parts_accepted}
 
 -- the table of h does
-pub penalty_holds : (reg : Register) (sch : Scheme) → R.Valid reg → Valid reg sch → (lent : List ℤ) → table_numbers ≤ length lent → Holds reg sch lent (with_penalty reg sch lent)
-penalty_holds reg sch ok valid lent l = record {
+pub penalty_holds : (reg : Register) (sch : Scheme) → Valid reg sch → (lent : List ℤ) → table_numbers ≤ length lent → Holds reg sch lent (with_penalty reg sch lent)
+penalty_holds reg sch valid lent l = record {
   reads = reads;
   twice = λ z. table_twice c reg sch valid lent z ∙ ap (λ v. pos 2 *ℤ v) (sym (reads z));
   least = λ plan fits. table_least_where c reg sch valid lent (Fits reg) (register_fits? reg) plan fits;
@@ -51,7 +50,7 @@ penalty_holds reg sch ok valid lent l = record {
     n = side reg.choices sch
 
     fits : n * n ≤ length lent
-    fits = omega (arith, side_square reg sch ok.within valid)
+    fits = omega (arith, side_square reg sch valid)
 
     reads : (z : Filling) → table_value n (with_penalty reg sch lent) (factor z) ≡ value (factor z) (h c reg sch)
     reads z = table_value_form (below_h c reg sch valid) lent (factor z)
@@ -66,7 +65,7 @@ module _ (register scheme : List ℕ) (lent : List ℤ) (l : table_numbers ≤ l
   pub made_holds : Holds reg sch lent (penalty_table register scheme lent)
   made_holds =
       subst (Holds reg sch lent) (parts_accepted register scheme lent l reg sch o).holds
-      (penalty_holds reg sch o.register_valid o.scheme_valid lent l)
+      (penalty_holds reg sch o.scheme_valid lent l)
 
 -- zeros are answered only there
 module _ (register scheme : List ℕ) (lent : List ℤ) where

@@ -1,5 +1,5 @@
 -- The rows of the paper's worked set that speak of the penalty form.
-use Prim.Native.Nat.{ℕ, ◌+◌}
+use Prim.Native.Nat.{ℕ, ◌+◌, ◌-◌}
 use mathlib.Core.Path.{◌≡◌, refl, ap}
 use mathlib.Core.List.{[], ◌∷◌, map}
 use mathlib.Core.Bool.{Bool, true, false, cond}
@@ -10,6 +10,7 @@ use Rattle.integers.specs.Lists.{join_below}
 use Rattle.integers.specs.Sum.{sum_below, sum_over}
 use Rattle.forms.specs.Form.{value, entry, times}
 use Rattle.register.specs.declared.Register.{Register}
+use Rattle.register.specs.Limits.{max_choices}
 use Rattle.register.specs.Register.{coefficient, set_base, set_choices}
 use Rattle.scheme.specs.declared.Scheme.{Scheme}
 use Rattle.scheme.specs.Variables.{up_to, upward}
@@ -57,7 +58,7 @@ table = refl
 -- coefficient c, is 7 alone
 
 abbrev pub four : ℤ → Register
-four c = known_terms (set_choices (set_base example_register (pos 0)) 4 (1 ∷ 1 ∷ 1 ∷ 1 ∷ replicate 28 0) (0 ∷ 1 ∷ 2 ∷ 3 ∷ replicate 28 0)) 1 (15 ∷ replicate 255 0) (c ∷ replicate 255 (pos 0))
+four c = known_terms (set_choices (set_base example_register (pos 0)) 4 (1 ∷ 1 ∷ 1 ∷ 1 ∷ replicate (max_choices - 4) 0) (0 ∷ 1 ∷ 2 ∷ 3 ∷ replicate (max_choices - 4) 0)) 1 (15 ∷ replicate 255 0) (c ∷ replicate 255 (pos 0))
 
 abbrev pub two_ways_scheme : Scheme
 two_ways_scheme = record {

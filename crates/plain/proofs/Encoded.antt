@@ -14,11 +14,9 @@ use Rattle.wire.specs.Number.{bytes_of}
 use Rattle.wire.specs.Part.{total}
 use Rattle.wire.proofs.Number.{length-bytes_of}
 use Rattle.register.specs.declared.Register.{Register}
-use Rattle.register.specs.Valid as R
 use Rattle.scheme.specs.declared.Scheme.{Scheme}
 use Rattle.scheme.specs.Scheme.{variables}
 use Rattle.scheme.specs.Valid.{Valid}
-use Rattle.scheme.proofs.Accept.{variables_within}
 use Rattle.certificate.specs.Certificate.{Multiplier}
 use Rattle.certificate.proofs.Commands.{command}
 use Rattle.plain.specs.Plain.{half_row_sum, linear_left, unless_zero, cancelling, plain}
@@ -107,5 +105,5 @@ pub room_small : own_room < 2 ^ 32
 room_small = omega (arith, room_is)
 
 -- it is enough, whatever the coefficients
-pub plain_bytes : (c : ℕ → ℤ) (r : Register) (s : Scheme) → R.Valid r → Valid r s → length (encode_plain c r s) ≤ own_room
-plain_bytes c r s register scheme = omega (arith, room_is, length-plain c r s, plain_count c r s, variables_within r register s scheme)
+pub plain_bytes : (c : ℕ → ℤ) (r : Register) (s : Scheme) → Valid r s → length (encode_plain c r s) ≤ own_room
+plain_bytes c r s scheme = omega (arith, room_is, length-plain c r s, plain_count c r s, scheme.within.variables_within)

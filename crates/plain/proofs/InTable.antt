@@ -21,7 +21,6 @@ use Rattle.forms.proofs.Table.{with_table_at}
 use Rattle.register.specs.Register.{coefficient}
 use Rattle.register.specs.Valid as R
 use Rattle.scheme.specs.Valid.{Valid}
-use Rattle.scheme.proofs.Accept.{variables_within}
 use Rattle.penalty.proofs.Bounds.{g_norm}
 use Rattle.register.specs.declared.Register.{Register}
 use Rattle.scheme.specs.declared.Scheme.{Scheme}
@@ -82,7 +81,7 @@ module _ (c : ℕ → ℤ) (r : Register) (s : Scheme) (t lent : List ℤ) (e : 
 
   pub table_small : R.Valid r → Valid r s → c ≡ coefficient r → side r.choices s * side r.choices s ≤ length lent → Small N t
   table_small register scheme same long = record {
-    few = variables_within r register s scheme;
+    few = scheme.within.variables_within;
     low = rw (e, same) (bounded_weaken (bounded_entry (suc N) (g (coefficient r) r s) lent long) (omega (arith, g_norm r s register.within)));
   }
 

@@ -82,7 +82,7 @@ module _ (t s q : List ℕ) (reg : Register) (sch : Scheme) (plan : ℕ) (o : Ch
   pub enough : (lent : List ℕ) → own_room ≤ length lent → (plain_answer t s q lent).number ≡ 0
   enough lent l =
       let p = parts_accepted t s q lent reg sch plan o in
-      bytes_enough (own_bytes reg sch plan) lent _ _ p.0 p.1 (omega (arith, plain_bytes (chosen reg plan) reg sch o.parts.register_valid o.parts.scheme_valid))
+      bytes_enough (own_bytes reg sch plan) lent _ _ p.0 p.1 (omega (arith, plain_bytes (chosen reg plan) reg sch o.parts.scheme_valid))
 
   -- the check accepts them, beside the same plan, and the bound is T
   pub own_accepted : (lent : List ℤ) → table_numbers ≤ length lent →

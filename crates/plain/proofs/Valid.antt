@@ -71,4 +71,4 @@ low_chosen r register plan = chosen_low r register.within plan
 pub plain_valid : (c : ℕ → ℤ) (r : Register) (s : Scheme) → Low c r → Reg.Valid r → S.Valid r s → Valid c r s (plain c r s)
 plain_valid c r s low register scheme =
     let k = small r register.within in
-    plain_valid_small c r s (record { base = k.base; terms = k.terms; coefficients = low; rows = k.rows }) (omega (arith, register.within.choices.few, scheme.within.products_within))
+    plain_valid_small c r s (record { base = k.base; terms = k.terms; coefficients = low; rows = k.rows }) scheme.within.variables_within

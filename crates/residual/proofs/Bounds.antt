@@ -4,21 +4,23 @@ use mathlib.Core.Path.{◌≡◌}
 use mathlib.Core.Bool.{Bool, true, false, cond}
 use mathlib.Core.List.{[], ◌∷◌}
 use native.Mathlib.Omega.{arith}
-use lib.Dec.{T_not, eqb, eqb_refl}
+use lib.Dec.{T_not, ltb, eqb, eqb_refl}
 use lib.IntN.{ℤ, pos, neg_ℤ, nat_abs, ◌+ℤ◌, ◌*ℤ◌, *ℤ-zero, +ℤ_idl}
 use lib.Signed.{◌≤ℤ◌}
+use borrow.Author.Tests.{ltb-true, ltb-false}
 use Rattle.integers.specs.Sum.{sum_over}
 use Rattle.integers.proofs.Order.{nat_abs-+, nat_abs_neg, nat_abs-*-≤}
 use Rattle.integers.proofs.Diff.{diff₁, diffs}
-use Rattle.integers.proofs.Lists.{All-map, cond_cases}
+use Rattle.integers.proofs.Lists.{All-map, cond_cases, flag}
 use Rattle.forms.specs.Form.{mono, place, entry}
 use Rattle.forms.proofs.Form.{unit, entry-single, without_i, without_j}
 use Rattle.forms.proofs.Store.{norm1, norm1-[], norm1_∷, entry_small}
 use Rattle.integers.proofs.Sum.{nat_abs-sum, nat_abs-sum_over}
 use Rattle.register.specs.declared.Register.{Register}
-use Rattle.register.specs.Limits.{max_base, max_terms, max_coefficient, max_row_total, lowest_entry, highest_entry}
+use Rattle.register.specs.Limits.{max_base, max_terms, max_coefficient, row_entries, max_row_total, lowest_entry, highest_entry}
 use Rattle.register.specs.Register.{coefficient, row_entry}
 use Rattle.register.specs.Valid as Reg
+use Rattle.register.proofs.Entries.{entry_past}
 use Rattle.scheme.specs.declared.Scheme.{Scheme}
 use Rattle.scheme.specs.Scheme.{split_left, split_right}
 use Rattle.scheme.specs.Function.{term, term_of, g, max_g}
@@ -49,12 +51,15 @@ small r valid = record {
   coefficients = λ t l. (valid.terms.each t l).coefficient_within;
   rows = λ k l.
       let f = valid.rows.each k l in
-      let few = valid.choices.few in
-      record { entries = λ j m. twice (row_entry r k j) (f.entry_above j (omega arith)) (f.entry_below j (omega arith)); total = f.total_within };
+      record { entries = λ j m. by_entry (row_entry r k j) j (λ l. twice _ (f.entry_above j l) (f.entry_below j l)) (entry_past r.row_entries k j); total = f.total_within };
 }
   where
     twice : (x : ℤ) → lowest_entry ≤ℤ x → x ≤ℤ highest_entry → nat_abs x * 2 ≤ max_row_total
     twice = diff₁ _ λ p q. simp diffs (omega arith)
+
+    -- by whether the choice has an entry
+    by_entry : (x : ℤ) (j : ℕ) → (j < row_entries → nat_abs x * 2 ≤ max_row_total) → (row_entries ≤ j → x ≡ pos 0) → nat_abs x * 2 ≤ max_row_total
+    by_entry x j there past = flag (ltb j row_entries) (λ t. there (ltb-true j row_entries t)) (λ t. rw (past (ltb-false j row_entries t)) (omega arith))
 
 -- the sum of twice the absolute values of g's coefficients
 pub norm1_g_within : (c : ℕ → ℤ) (r : Register) (s : Scheme) → Small c r → norm1 (g c r s) ≤ max_g

@@ -15,7 +15,6 @@ use Rattle.forms.proofs.Form.{entry-times}
 use Rattle.forms.proofs.Store.{add_form-with_table, bounded_with_table}
 use Rattle.forms.proofs.Table.{with_table_cong}
 use Rattle.register.specs.declared.Register.{Register}
-use Rattle.register.specs.Limits.{max_choices}
 use Rattle.scheme.specs.declared.Scheme.{Scheme}
 use Rattle.scheme.specs.Scheme.{side}
 use Rattle.scheme.specs.Function.{g}
@@ -80,5 +79,5 @@ module _ (c : ℕ → ℤ) (r : Register) (s : Scheme) where
     table_square q =
         less_all (side n s) (square_at q) (R c r s k) lent room ∙ with_table_cong (side n s) _ (R c r s (with_square k q)) lent (λ i j _ _. sym (R_square k q i j))
 
-    pub bounded_R : Small c r → r.choices ≤ max_choices → S.Within r s → Within r s k → Bounded (side n s) max_r (holds_r k lent)
-    bounded_R low choices scheme within = bounded_with_table (side n s) max_r (R c r s k) lent room (R_small c r s k low choices scheme within)
+    pub bounded_R : Small c r → S.Within r s → Within r s k → Bounded (side n s) max_r (holds_r k lent)
+    bounded_R low scheme within = bounded_with_table (side n s) max_r (R c r s k) lent room (R_small c r s k low scheme within)

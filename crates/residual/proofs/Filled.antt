@@ -33,6 +33,7 @@ use Rattle.residual.specs.Built.{with_scale_in, Reads, added, less_where}
 use Rattle.residual.proofs.Bounds.{small}
 use Rattle.residual.proofs.Adds.{added_signed, RowCommand, row_command}
 use Rattle.residual.proofs.Table.{signed_form}
+use Rattle.residual.proofs.RowBounds.{side_within}
 use Rattle.residual.proofs.ByCommand.{holds_r, table_multiplier, table_square, bounded_R}
 use Rattle.residual.proofs.Midway.{Midway, started, reads_on, multiplier_allowed, multiplier_on, square_on, ends_here, command_room}
 
@@ -57,11 +58,11 @@ pub record Ready (reg : Register) (sch : Scheme) (s : List ℕ) : Type 0 where
 
 module _ {reg : Register} {sch : Scheme} {s : List ℕ} (h : Ready reg sch s) where
   pub side_small : side reg.choices sch ≤ square_entries
-  side_small = omega (arith, h.register.choices.few, h.scheme.within.products_within)
+  side_small = side_within reg sch h.scheme.within
 
   module _ (lent : List ℤ) (l : table_numbers ≤ length lent) where
     fits : side reg.choices sch * side reg.choices sch ≤ length lent
-    fits = omega (arith, side_square reg sch h.register h.scheme)
+    fits = omega (arith, side_square reg sch h.scheme)
 
     pub first_filled : lent ≡ holds_r (coefficient reg) reg sch (with_scale_in s) lent → Filled reg sch s lent lent (command_size 0x30)
     first_filled d = record { certificate = with_scale_in s; midway = (started reg sch s h.reads).midway; holds = d }
@@ -70,7 +71,7 @@ module _ {reg : Register} {sch : Scheme} {s : List ℕ} (h : Ready reg sch s) wh
       pub filled_bounded : Bounded (side reg.choices sch) max_before_form t
       filled_bounded =
           rw f.holds
-          (bounded_weaken (bounded_R (coefficient reg) reg sch f.certificate lent fits (small reg h.register) h.register.choices.few h.scheme.within f.midway.within) (omega arith))
+          (bounded_weaken (bounded_R (coefficient reg) reg sch f.certificate lent fits (small reg h.register) h.scheme.within f.midway.within) (omega arith))
 
       -- one command more
 

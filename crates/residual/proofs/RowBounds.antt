@@ -11,7 +11,6 @@ use Rattle.integers.proofs.Order.{nat_abs_sub}
 use Rattle.integers.proofs.Lists.{All-map}
 use Rattle.forms.specs.Form.{entry}
 use Rattle.register.specs.declared.Register.{Register}
-use Rattle.register.specs.Limits.{max_choices}
 use Rattle.scheme.specs.declared.Scheme.{Scheme}
 use Rattle.scheme.specs.Scheme.{side}
 use Rattle.scheme.specs.Valid as S
@@ -24,8 +23,8 @@ use Rattle.integers.proofs.Sum.{nat_abs-sum_over}
 use Rattle.residual.proofs.Bounds.{Small, B_small}
 use Rattle.residual.proofs.Squares.{range_of, product_small}
 
-pub side_within : (r : Register) (s : Scheme) → r.choices ≤ max_choices → S.Within r s → side r.choices s ≤ square_entries
-side_within r s l within = omega (arith, within.products_within)
+pub side_within : (r : Register) (s : Scheme) → S.Within r s → side r.choices s ≤ square_entries
+side_within r s within = omega (arith, within.variables_within)
 
 module _ (n : ℕ) (s : Scheme) where
   pub square_small : (q : Square) → SquareAllowed n s q → (i j : ℕ) → i < square_entries → j < square_entries → nat_abs (square_at q i j) ≤ max_square_at
@@ -36,7 +35,7 @@ module _ (n : ℕ) (s : Scheme) where
   squares_small qs h i j l m =
       nat_abs-sum_over max_square_at qs (λ q. square_at q i j) (All-map (SquareAllowed n s) _ (λ q ok. square_small q ok i j l m) qs h)
 
-module _ (c : ℕ → ℤ) (r : Register) (s : Scheme) (k : Certificate) (low : Small c r) (choices : r.choices ≤ max_choices) (scheme : S.Within r s) (within : Within r s k) where
+module _ (c : ℕ → ℤ) (r : Register) (s : Scheme) (k : Certificate) (low : Small c r) (scheme : S.Within r s) (within : Within r s k) where
   abbrev n : ℕ
   n = r.choices
 
@@ -48,8 +47,8 @@ module _ (c : ℕ → ℤ) (r : Register) (s : Scheme) (k : Certificate) (low : 
         arith,
         nat_abs_sub (entry (shifted c r s k) i j) (sum_over qs (λ q. square_at q i j)),
         B_small c r s k low within i j,
-        side_within r s choices scheme,
-        squares_small n s qs h i j (omega (arith, side_within r s choices scheme)) (omega (arith, side_within r s choices scheme)),
+        side_within r s scheme,
+        squares_small n s qs h i j (omega (arith, side_within r s scheme)) (omega (arith, side_within r s scheme)),
       )
 
   pub R_small : (i j : ℕ) → i < side n s → j < side n s → nat_abs (R c r s k i j) ≤ max_r

@@ -78,7 +78,7 @@ fn subtract_product_form(table: &mut SquareTable, scheme: &Scheme, n: usize, t: 
 }
 
 // Adds the form of a row m times, with a variable: for each choice the product of the two, times the row's entry for the choice, and
-// the variable times the row's total, which is subtracted.
+// the variable times the row's total, which is subtracted. A row has no entry for choices from 32 on.
 fn add_row_form(table: &mut SquareTable, register: &Register, row: usize, variable: usize, m: i64)
     requires row_within { row < max_rows }
     requires places { (register.now.choices < table.old.side) × (variable + 1 < table.old.side) }
@@ -89,7 +89,7 @@ fn add_row_form(table: &mut SquareTable, register: &Register, row: usize, variab
 {
     let start = row * Register::ROW_ENTRIES;
     let z = variable + 1;
-    for j in 0..register.choices {
+    for j in 0..register.choices.min(Register::ROW_ENTRIES) {
         table.add_multiple(z, j + 1, m, register.row_entries[start + j] as i64);
     }
     table.add_multiple(0, z, m, -(register.row_totals[row] as i64));

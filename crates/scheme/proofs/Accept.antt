@@ -1,7 +1,6 @@
 -- A scheme is accepted, with a valid register, from just those runs of bytes that are encodings of it, where it is valid for the
 -- register.
 use Prim.Native.Nat.{ℕ, ◌≤◌}
-use native.Mathlib.Omega.{arith}
 use mathlib.Core.Path.{◌≡◌}
 use mathlib.Core.Logic.{◌↔◌}
 use mathlib.Core.List.{List, ◌++◌}
@@ -16,18 +15,14 @@ use Rattle.wire.proofs.Ranged.{ranged_encodes, ranged_whole_iff}
 use Rattle.register.specs.declared.Register.{Register}
 use Rattle.register.specs.Valid as R
 use Rattle.scheme.specs.declared.Scheme.{Scheme}
-use Rattle.scheme.specs.Scheme.{max_variables, variables, fresh}
+use Rattle.scheme.specs.Scheme.{fresh}
 use Rattle.scheme.specs.Format.{scheme_rows, scheme_in_job, scheme_by_itself}
 use Rattle.scheme.specs.Valid.{Valid}
 use Rattle.scheme.specs.Encoding.{Header, kinds, end_command, Commands, Encodes}
 use Rattle.scheme.proofs.Laws.{Done, laws, ranged}
 
 module _ (reg : Register) (ok : R.Valid reg) where
-  -- N is within its limit
-  pub variables_within : (s : Scheme) → Valid reg s → variables reg.choices s ≤ max_variables
-  variables_within s v = omega (arith, ok.within.choices.few, v.within.products_within)
-
-  means : Means (Done reg) (Valid reg) Commands 0x2F
+  means : Means (Done reg) (Valid reg) Commands (λ b. b ≡ 0x2F)
   means = ends_means (Valid reg) (λ B. Header) kinds end_command Header (λ B s cs b h. h) (λ B s cs h. h)
 
   -- ---- in a job

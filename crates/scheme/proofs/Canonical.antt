@@ -6,14 +6,14 @@ use mathlib.Core.List.{List, [], ◌∷◌, ◌++◌, append-nil, flat_map}
 use Rattle.integers.specs.Lists.{join_below}
 use Rattle.wire.specs.Rows.{row_of}
 use Rattle.wire.specs.Encoding.{Command, fields, encode_command, encode}
-use Rattle.wire.specs.Grammar.{Form}
+use Rattle.wire.specs.Grammar.{Form, Kinds}
 use Rattle.wire.proofs.Encoding.{encode-append, encode_below}
 use Rattle.wire.proofs.Grammar.{each_below, each_only}
 use Rattle.register.specs.declared.Register.{Register}
 use Rattle.scheme.specs.declared.Scheme.{Scheme}
 use Rattle.scheme.specs.Scheme.{product_left, product_right, left, right, split_left, split_right}
 use Rattle.scheme.specs.Format.{scheme_part}
-use Rattle.scheme.specs.Encoding.{product_command, split_command, end_command, product_kind, split_kind, Commands, Encodes, encode_product, encode_split, encode_scheme}
+use Rattle.scheme.specs.Encoding.{product_command, split_command, end_command, product_kind, split_kind, kinds, Header, Commands, Encodes, encode_product, encode_products, encode_split, encode_scheme}
 use Rattle.scheme.proofs.Sets.{left_at, right_at}
 
 module _ (reg : Register) where
@@ -34,8 +34,22 @@ module _ (reg : Register) where
   -- ---- the commands that a writer makes
 
   module _ (s : Scheme) where
-    abbrev products_of : List Command
+    abbrev pub products_of : List Command
     products_of = join_below s.products (λ i. product_command (product_left s i) (product_right s i) ∷ [])
+
+    products_of_are : Kinds s (Header s) (product_kind ∷ []) products_of
+    products_of_are = record {
+      first = [];
+      second = products_of;
+      is_first = refl;
+      is_second = each_below (Form product_kind s) (λ i. product_command (product_left s i) (product_right s i)) s.products (λ i l. (inl refl, refl));
+      whole = refl;
+    }
+
+    pub products_of_bytes : encode (scheme_part reg) products_of ≡ encode_products reg.choices s
+    products_of_bytes =
+        let n = reg.choices in
+        encode_below (scheme_part reg) (λ i. product_command (product_left s i) (product_right s i)) (λ i. encode_product (left n s (n + i)) (right n s (n + i))) s.products (λ i. rw (left_at n s i, right_at n s i) (product_bytes (product_left s i) (product_right s i)))
 
     abbrev splits_of : List Command
     splits_of = join_below s.splits (λ t. split_command (split_left s t) (split_right s t) ∷ [])
@@ -47,18 +61,22 @@ module _ (reg : Register) where
       is_first = record {
         first = products_of;
         second = splits_of;
-        is_first = record {
-          first = [];
-          second = products_of;
-          is_first = refl;
-          is_second = each_below (Form product_kind s) (λ i. product_command (product_left s i) (product_right s i)) s.products (λ i l. (inl refl, refl));
-          whole = refl;
-        };
+        is_first = products_of_are;
         is_second = each_below (Form split_kind s) (λ t. split_command (split_left s t) (split_right s t)) s.splits (λ t l. (inl refl, refl));
         whole = refl;
       };
       is_second = record { command = end_command; form = refl; whole = refl };
       whole = refl;
+    }
+
+    -- up to the last product, where there is no split
+    pub to_products_are : s.splits ≡ 0 → Kinds s (Header s) kinds products_of
+    to_products_are none = record {
+      first = products_of;
+      second = [];
+      is_first = products_of_are;
+      is_second = rw none refl;
+      whole = sym (append-nil products_of);
     }
 
     commands_of_bytes : encode (scheme_part reg) (products_of ++ splits_of ++ (end_command ∷ [])) ≡ encode_scheme reg.choices s
@@ -69,7 +87,7 @@ module _ (reg : Register) where
         rw (
           encode-append P (products_of ++ splits_of) (end_command ∷ []),
           encode-append P products_of splits_of,
-          encode_below P (λ i. product_command (product_left s i) (product_right s i)) (λ i. encode_product (left n s (n + i)) (right n s (n + i))) s.products (λ i. rw (left_at n s i, right_at n s i) (product_bytes (product_left s i) (product_right s i))),
+          products_of_bytes,
           encode_below P (λ t. split_command (split_left s t) (split_right s t)) (λ t. encode_split (split_left s t) (split_right s t)) s.splits (λ t. split_bytes (split_left s t) (split_right s t)),
           end_bytes,
           append-nil,

@@ -11,7 +11,7 @@ use lib.Bits.{bit_or}
 use Rattle.integers.specs.Lists.{Column}
 use Rattle.integers.proofs.Entries.{below_or_last, kept_set, column_none, column_empty, column_more, column_less, set_back}
 use Rattle.register.specs.declared.Register.{Register}
-use Rattle.register.specs.Limits.{max_terms}
+use Rattle.register.specs.Limits.{max_choices, max_terms}
 use Rattle.register.specs.Register.{mask}
 use Rattle.scheme.specs.declared.Scheme.{Scheme}
 use Rattle.scheme.specs.Scheme.{max_variables, max_products, product_left, product_right, left, right, variables, split_left, split_right, fresh, Lengths, set_products, set_splits, with_product, with_split}
@@ -22,12 +22,13 @@ use Rattle.scheme.specs.Valid.{Product, ProductOf, Split, SplitOf, Within}
 use Rattle.scheme.proofs.Sets.{Agree, E_same, E_next, left_at, right_at, sets_same, sets_product}
 use Rattle.scheme.proofs.Passes.{NextProduct, NextSplit}
 
-pub fresh_within : (reg : Register) → Within reg fresh
+pub fresh_within : (reg : Register) → reg.choices ≤ max_choices → Within reg fresh
 unfolding fresh
-fresh_within reg = record {
+fresh_within reg few = record {
   lefts = column_none max_products 0;
   rights = column_none max_products 0;
   products_within = omega arith;
+  variables_within = omega (arith, few);
   products = λ k l m. absurd (omega arith);
   split_lefts = column_none max_terms 0;
   split_rights = column_none max_terms 0;
@@ -128,6 +129,7 @@ product_more reg s w l r p =
       lefts = column_more l w.lefts;
       rights = column_more r w.rights;
       products_within = p.few;
+      variables_within = omega (arith, p.room);
       products = λ k a m. ⊎_elim (products_same n s s' (variables n s) agree w.products k a) (λ (e : k ≡ variables n s). rw e (grown_product s l r n (lengths_within w) p.few p.fits)) (below_or_last k (variables n s) (omega arith));
       split_lefts = w.split_lefts;
       split_rights = w.split_rights;
@@ -155,6 +157,7 @@ module _ (s : Scheme) (k : ℕ) where
           lefts = column_less few (rw e at w.lefts);
           rights = column_less few (rw e at w.rights);
           products_within = omega arith;
+          variables_within = omega (arith, w.variables_within);
           products = products_same n s s' (n + k) (λ v a m. let q = product_less (v - n) (omega arith) in (ap (λ c. c.0) q, ap (λ c. c.1) q)) (λ j a m. w.products j a (omega arith));
           split_lefts = w.split_lefts;
           split_rights = w.split_rights;
@@ -163,6 +166,7 @@ module _ (s : Scheme) (k : ℕ) where
         },
         record {
           few = few;
+          room = omega (arith, w.variables_within);
           fits = oldest n s' s (n + k) (product_left s k) (product_right s k) (omega arith) (λ v a m. let q = product_less (v - n) (omega arith) in (sym (ap (λ c. c.0) q), sym (ap (λ c. c.1) q))) (left_at n s k) (right_at n s k) (w.products (n + k) (omega arith) (omega arith));
         },
       )
@@ -188,6 +192,7 @@ module _ (reg : Register) (s : Scheme) (m : ℕ) (lefts rights : List ℕ) where
     lefts = w.lefts;
     rights = w.rights;
     products_within = w.products_within;
+    variables_within = w.variables_within;
     products = products_same reg.choices s s' (variables reg.choices s) (λ w a b. (refl, refl)) w.products;
     split_lefts = a;
     split_rights = b;

@@ -36,7 +36,7 @@ pub record Good (reg : Register) (B : Type 0) (s : Scheme) (cs : List Command) :
 abbrev pub Done : Register → Type 0 → Scheme → List Command → Type 0
 Done reg = Ends (Valid reg) (λ B. Header) kinds end_command
 
-first_stands : (s : Scheme) {cs : List Command} → Header s cs → Among (last_from 0 cs) (0 ∷ [])
+pub first_stands : (s : Scheme) {cs : List Command} → Header s cs → Among (last_from 0 cs) (0 ∷ [])
 first_stands s h = rw h (inl refl)
 
 module _ (reg : Register) (ok : R.Valid reg) where
@@ -47,16 +47,16 @@ module _ (reg : Register) (ok : R.Valid reg) where
 
   module _ (B : Type 0) where
     -- the kinds after the products
-    abbrev after_products : List (Kind Scheme)
+    abbrev pub after_products : List (Kind Scheme)
     after_products = under_all B (split_kind ∷ [])
 
     -- up to the products
-    abbrev ToProducts : Scheme → List Command → Type 0
+    abbrev pub ToProducts : Scheme → List Command → Type 0
     ToProducts s = Entries (Header s) s (under B product_kind)
 
     start : Good reg B fresh []
     unfolding fresh
-    start = record { within = fresh_within reg; body = none_kinds fresh (Header fresh) (under_all B kinds) [] (refl, (refl, tt)) refl }
+    start = record { within = fresh_within reg ok.within.choices.few; body = none_kinds fresh (Header fresh) (under_all B kinds) [] (refl, (refl, tt)) refl }
 
     product_grows : Grows B (Good reg B) (Done reg B) 0x21 (product_row reg)
     product_grows = record {
@@ -127,7 +127,7 @@ module _ (reg : Register) (ok : R.Valid reg) where
           allowed = record {
             byte = omega arith;
             here = kinds_stand s' (Header s') (under U product_kind ∷ []) f.front (0 ∷ []) (product_row reg).follows tt (first_stands s') (kinds_none s' (ToProducts U s') (after_products U) f.front none f.before);
-            operands = (omega (arith, p.fits.ordered, p.fits.falls, p.few, ok.within.choices.few), (omega (arith, p.fits.falls, p.few, ok.within.choices.few), tt));
+            operands = (omega (arith, p.fits.ordered, p.fits.falls, p.room), (omega (arith, p.fits.falls, p.room), tt));
             passes = (product_iff n s' _ _).1 p;
           };
           after = product_back s k e;
@@ -149,7 +149,7 @@ module _ (reg : Register) (ok : R.Valid reg) where
           allowed = record {
             byte = omega arith;
             here = kinds_stand s' (Header s') (under_all U kinds) f.front (0 ∷ []) (split_row reg).follows tt (first_stands s') f.before;
-            operands = (omega (arith, p.fits.ordered, p.fits.there, w.products_within, ok.within.choices.few), (omega (arith, p.fits.there, w.products_within, ok.within.choices.few), tt));
+            operands = (omega (arith, p.fits.ordered, p.fits.there, w.variables_within), (omega (arith, p.fits.there, w.variables_within), tt));
             passes = (split_iff reg s' _ _).1 p;
           };
           after = split_back s t e;
@@ -200,7 +200,7 @@ module _ (reg : Register) (ok : R.Valid reg) where
         single = (refl, (refl, tt));
         small = λ s cs xs g e q.
             let p = (product_iff n s (get_or xs 0 0) (get_or xs 1 0)).0 q in
-            (omega arith, both xs (omega (arith, p.fits.ordered, p.fits.falls, p.few, ok.within.choices.few)) (omega (arith, p.fits.falls, p.few, ok.within.choices.few)));
+            (omega arith, both xs (omega (arith, p.fits.ordered, p.fits.falls, p.room)) (omega (arith, p.fits.falls, p.room)));
       }
 
       split : Ranged (Good reg B) 0x22 (split_row reg)
@@ -208,7 +208,7 @@ module _ (reg : Register) (ok : R.Valid reg) where
         single = (refl, (refl, tt));
         small = λ s cs xs g e q.
             let p = (split_iff reg s (get_or xs 0 0) (get_or xs 1 0)).0 q in
-            (omega arith, both xs (omega (arith, p.fits.ordered, p.fits.there, g.within.products_within, ok.within.choices.few)) (omega (arith, p.fits.there, g.within.products_within, ok.within.choices.few)));
+            (omega arith, both xs (omega (arith, p.fits.ordered, p.fits.there, g.within.variables_within)) (omega (arith, p.fits.there, g.within.variables_within)));
       }
 
       last : Ranged (Good reg B) 0x2F (end_row reg)

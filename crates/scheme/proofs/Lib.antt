@@ -9,6 +9,7 @@ pub mod Entries
 pub mod Laws
 pub mod Accept
 pub mod Canonical
+pub mod Products
 pub mod Encoding
 pub mod Lowest
 pub mod Answers
@@ -18,3 +19,4 @@ pub mod Table
 pub mod Opened
 pub mod Whole
 pub mod Prefix
+pub mod BeforeWide

@@ -1,7 +1,7 @@
 -- What the checks of a command say of its operands: none fails just where these are as they should be. And by the array of sets.
 use mathlib.Core.Path.{◌≡◌}
 use mathlib.Core.Logic.{◌↔◌}
-use mathlib.Core.Bool.{true}
+use mathlib.Core.Bool.{true, false, ◌||◌}
 use mathlib.Core.List.{List}
 use Prim.Native.Nat.{ℕ, ◌≤◌, ◌<◌}
 use native.Mathlib.Omega.{arith}
@@ -13,7 +13,7 @@ use Rattle.wire.proofs.Checks.{refusal_none}
 use Rattle.register.specs.declared.Register.{Register}
 use Rattle.register.specs.Register.{mask}
 use Rattle.scheme.specs.declared.Scheme.{Scheme}
-use Rattle.scheme.specs.Scheme.{max_products, variables}
+use Rattle.scheme.specs.Scheme.{max_products, max_variables, variables}
 use Rattle.scheme.specs.Variables.{E}
 use Rattle.scheme.specs.Valid.{Product, Split}
 use Rattle.scheme.specs.Sets.{SetsBelow, none_is, union_in}
@@ -22,8 +22,13 @@ use Rattle.scheme.proofs.Sets.{union_in_lem, new_in, new_at, at_new}
 
 -- ---- a product of l and r after what has been read
 
+-- there may be one more product, and one more variable
+pub room_left : (products k : ℕ) → (leb max_products products || leb max_variables k) ≡ false → (products < max_products) × (k < max_variables)
+room_left products k e = let q = or_none (leb max_products products) (leb max_variables k) e in (leb-false max_products products q.0, leb-false max_variables k q.1)
+
 pub record NextProduct (n : ℕ) (s : Scheme) (l r : ℕ) : Type 0 where
   pub few : s.products < max_products
+  pub room : variables n s < max_variables
   pub fits : Product (variables n s) l r (union_of n s l r) (E n s)
 
 pub product_iff : (n : ℕ) (s : Scheme) (l r : ℕ) → (refusal (product_checks s.products (variables n s) l r (is_new n s (union_of n s l r))) ≡ 0) ↔ NextProduct n s l r
@@ -33,8 +38,10 @@ product_iff n s l r = (to, from)
     to : refusal (product_checks s.products (variables n s) l r (is_new n s (union_of n s l r))) ≡ 0 → NextProduct n s l r
     to e =
         let p = refusal_none (product_checks s.products (variables n s) l r (is_new n s (union_of n s l r))) (omega arith) e in
+        let (few, room) = room_left s.products (variables n s) p.0 in
         record {
-          few = leb-false max_products s.products p.0;
+          few = few;
+          room = room;
           fits = record {
             ordered = leb-false r l p.1.1.0;
             falls = leb-false (variables n s) r (or_none (leb (variables n s) l) (leb (variables n s) r) p.1.0).1;
@@ -45,7 +52,7 @@ product_iff n s l r = (to, from)
     from : NextProduct n s l r → refusal (product_checks s.products (variables n s) l r (is_new n s (union_of n s l r))) ≡ 0
     from p =
         let q = p.fits in
-        rw (lt-leb max_products s.products p.few, lt-leb (variables n s) l (omega (arith, q.ordered, q.falls)), lt-leb (variables n s) r q.falls, lt-leb r l q.ordered, at_new n s (union_of n s l r) q.new)
+        rw (lt-leb max_products s.products p.few, lt-leb max_variables (variables n s) p.room, lt-leb (variables n s) l (omega (arith, q.ordered, q.falls)), lt-leb (variables n s) r q.falls, lt-leb r l q.ordered, at_new n s (union_of n s l r) q.new)
 
 -- ---- a split into l and r
 

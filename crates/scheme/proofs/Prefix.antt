@@ -1,5 +1,5 @@
 -- The bytes that a scheme's reading can look at, and the bytes of an accepted one.
-use Prim.Native.Nat.{ℕ, ◌+◌, ◌*◌, ◌≤◌}
+use Prim.Native.Nat.{ℕ, ◌+◌, ◌-◌, ◌*◌, ◌≤◌}
 use native.Mathlib.Omega.{arith}
 use mathlib.Core.Path.{◌≡◌}
 use mathlib.Core.List.{List}
@@ -35,29 +35,34 @@ module _ (reg : Register) (few : reg.terms ≤ max_terms) where
     products : p.parsed.products ≤ max_products
     splits : p.parsed.splits ≤ reg.terms
 
-  limits : Limited (scheme_part reg) Reach far 3 (far + 1)
+  -- the end, which is nearer for each product that there is not
+  abbrev ends : Progress Scheme → ℕ
+  ends p = far + 1 - 3 * (max_products - p.parsed.products)
+
+  limits : Limited (scheme_part reg) Reach far 3 ends
   unfolding fresh total
   limits = limited fresh _ (omega arith) (record { near = omega arith; products = omega arith; splits = omega arith }) (λ p at r. omega (arith, r.near, r.products, r.splits)) (product ▹ split ▹ last ▹ tt)
     where
-      product : Keeps Reach 3 (far + 1) 0x21 (product_row reg)
+      product : Keeps Reach 3 ends 0x21 (product_row reg)
       product = record {
         small = omega arith;
         moves = λ p at xs r e h. record { near = omega (arith, r.near); products = ((product_iff reg.choices p.parsed _ _).0 h).few; splits = r.splits };
       }
 
-      split : Keeps Reach 3 (far + 1) 0x22 (split_row reg)
+      split : Keeps Reach 3 ends 0x22 (split_row reg)
       split = record {
         small = omega arith;
         moves = λ p at xs r e h. record { near = omega (arith, r.near); products = r.products; splits = ((split_iff reg p.parsed _ _).0 h).few };
       }
 
-      last : Keeps Reach 3 (far + 1) 0x2F (end_row reg)
+      last : Keeps Reach 3 ends 0x2F (end_row reg)
       last = record { small = omega arith; moves = λ p at xs r e h. omega (arith, r.near, r.products, r.splits) }
 
   pub scheme_prefix : (K : ℕ) (s : List ℕ) → scheme_reach ≤ K → scheme_in_job reg (take K s) ≡ scheme_in_job reg s
   unfolding scheme_in_job scheme_reach total
   scheme_prefix K s k = read_prefix (scheme_part reg) limits K s (omega arith)
 
-  pub scheme_end : (s : List ℕ) {p : Progress Scheme} {end : ℕ} → scheme_in_job reg s ≡ accepted p end → end ≤ scheme_longest
+  -- an accepted scheme is shorter by each product that it could have more
+  pub scheme_end : (s : List ℕ) {p : Progress Scheme} {end : ℕ} → scheme_in_job reg s ≡ accepted p end → end + size_of (product_row R.fresh) * (max_products - p.parsed.products) ≤ scheme_longest
   unfolding scheme_in_job scheme_longest total
   scheme_end s e = omega (arith, end_within (scheme_part reg) limits s e)

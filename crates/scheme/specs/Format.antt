@@ -8,7 +8,7 @@ use Rattle.wire.specs.Rows.{Progress, Row, part_of, binary}
 use Rattle.register.specs.declared.Register.{Register}
 use Rattle.register.specs.Register.{mask}
 use Rattle.scheme.specs.declared.Scheme.{Scheme}
-use Rattle.scheme.specs.Scheme.{max_products, variables, fresh, with_product, with_split}
+use Rattle.scheme.specs.Scheme.{max_products, max_variables, variables, fresh, with_product, with_split}
 use Rattle.scheme.specs.Variables.{E}
 
 -- the union of the sets of two variables
@@ -23,10 +23,11 @@ is_new n sch union = all_below (variables n sch) (λ v. not (eqb (E n sch v) uni
 abbrev pub unnamed : ℕ → ℕ → ℕ → Bool
 unnamed N l r = leb N l || leb N r
 
--- at most 32 products; l < r < k, where k is the number of the product; its set equals no earlier variable's set
+-- at most 32 products, and 64 variables with it; l < r < k, where k is the number of the product, which is how many variables there are
+-- before it; its set equals no earlier variable's set
 unfoldable pub product_checks : (products k l r : ℕ) → Bool → List Check
 product_checks products k l r new =
-    check 3 (leb max_products products)
+    check 3 (leb max_products products || leb max_variables k)
     ∷ check 5 (unnamed k l r)
     ∷ check 6 (leb r l)
     ∷ check 8 (not new)

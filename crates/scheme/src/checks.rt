@@ -15,7 +15,7 @@ use crate::lookup::first_with;
 use wire::{FromBytes, Refusal, check_command, refuse_if};
 
 // No variable below the count has this set.
-fn is_new(sets: &[u32], count: usize, union: u32) -> bool
+fn is_new(sets: &[u64], count: usize, union: u64) -> bool
     requires { count ≤ length sets.now }
     ensures { result ≡ none_is sets.now count union }
 {
@@ -24,13 +24,14 @@ fn is_new(sets: &[u32], count: usize, union: u32) -> bool
 
 // The refusal of the product of variables l and r after k others, where there are n choices.
 #[tactic(auto, unfolding(crate::specs::Format::product_checks, wire::specs::Checks::refusal))]
-fn product_refusal(sets: &[u32], n: usize, k: usize, l: u8, r: u8) -> Result<(), Refusal>
+fn product_refusal(sets: &[u64], n: usize, k: usize, l: u8, r: u8) -> Result<(), Refusal>
     requires { n + k ≤ length sets.now }
     ensures { number_in result ≡ refusal (product_checks k (n + k) l r (none_is sets.now (n + k) (union_in sets.now l r))) }
 {
     let count = n + k;
     let unnamed = (count <= usize::from(l)) | (count <= usize::from(r));
-    refuse_if(Scheme::MAX_PRODUCTS <= k, Refusal::TooMany)?;
+    let full = (Scheme::MAX_PRODUCTS <= k) | (Scheme::MAX_VARIABLES <= count);
+    refuse_if(full, Refusal::TooMany)?;
     refuse_if(unnamed, Refusal::NotThere)?;
     refuse_if(r <= l, Refusal::Misordered)?;
     refuse_if(
@@ -42,13 +43,13 @@ fn product_refusal(sets: &[u32], n: usize, k: usize, l: u8, r: u8) -> Result<(),
 // The refusal of the split l, r after others, for a term with this mask, where there are so many terms and variables.
 #[tactic(auto, unfolding(crate::specs::Format::split_checks, wire::specs::Checks::refusal))]
 fn split_refusal(
-    sets: &[u32],
+    sets: &[u64],
     terms: usize,
     splits: usize,
     count: usize,
     l: u8,
     r: u8,
-    mask: u32,
+    mask: u64,
 ) -> Result<(), Refusal>
     ensures { number_in result ≡ refusal (split_checks terms splits count l r (union_in sets.now l r) mask) }
 {
@@ -105,7 +106,7 @@ fn command_size(command: u8) -> usize
 
 // The refusal of the command at a position, by what has been seen and the sets of the variables. Place and size first, then
 // its operands.
-pub fn refusal_at(bytes: &[u8], at: usize, seen: Seen, sets: &[u32]) -> Result<(), Refusal>
+pub fn refusal_at(bytes: &[u8], at: usize, seen: Seen, sets: &[u64]) -> Result<(), Refusal>
     requires at_in_bounds { at < length bytes.now }
     requires products_in_bounds { seen.choices + seen.products ≤ length sets.now }
     ensures { (reg : Register) (p : Progress Scheme) → seen_of reg p ≡ seen →

@@ -44,7 +44,7 @@ pub struct Seen {
     pub terms: usize,
     pub products: usize,
     pub splits: usize,
-    pub mask: u32,
+    pub mask: u64,
 }
 
 // The answer of the call, a record of C: a refusal's number, part and position, or zeros and the scheme.

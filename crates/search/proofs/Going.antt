@@ -1,7 +1,7 @@
 -- What the code has at a partial plan, with one more choice decided.
 use mathlib.Core.Path.{◌≡◌, sym, ◌∙◌, ap, ap₂}
 use mathlib.Core.List.{List}
-use Prim.Native.Nat.{ℕ, suc, ◌+◌, ◌*◌, ◌-◌, ◌^◌, ◌≤◌}
+use Prim.Native.Nat.{ℕ, suc, ◌+◌, ◌*◌, ◌-◌, ◌%◌, ◌^◌, ◌≤◌}
 use native.Mathlib.Nat.{pow-suc, le_refl}
 use native.Mathlib.Omega.{arith}
 use lib.Pow.{pow_pos, pow_mono}
@@ -10,7 +10,7 @@ use lib.IntN.{ℤ, nat_abs, ◌+ℤ◌, ◌-ℤ◌}
 use mir.Syntax.{w32, w64}
 use mir.Val.{SFits, to_z, of_z}
 use mir.Facts.{to_z-of_z}
-use Rattle.integers.proofs.Machine.{fits_signed, read_signed}
+use Rattle.integers.proofs.Machine.{fits_signed, read_signed, one_shifted}
 use Rattle.integers.proofs.Diff.{diff₃, diffs}
 use Rattle.register.specs.Limits.{max_base, max_choices, max_terms, max_coefficient}
 use Rattle.search.specs.declared.lists.Change.{Change}
@@ -18,6 +18,10 @@ use Rattle.search.specs.Sum.{possible}
 use Rattle.search.specs.Lent.{Terms, Small, sum_to, lent_sum, AllListed, term_lost, term_gained, change_to, change_of, At}
 use Rattle.search.proofs.Sums.{sum_to_small, change_to_small, lost_small, gained_small}
 use Rattle.search.proofs.Deciding.{listed_sum, unfed_sum, fed_sum}
+
+-- a power of 2 as the code has it
+pub shifted : (n : ℕ) → n ≤ max_choices → 1 * 2 ^ n % 18446744073709551616 ≡ 2 ^ n
+shifted n l = sym (one_shifted w64 n (omega arith))
 
 -- the sum is never large
 pub at_small : {masks : List ℕ} {coefficients : List ℤ} {counts : List ℕ} {d fed : ℕ} {s : ℤ} → At masks coefficients counts d fed s → nat_abs s ≤ max_base + max_terms * max_coefficient

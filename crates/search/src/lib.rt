@@ -26,7 +26,7 @@ use wire::{Fault, Refusal};
 // A full plan that fits, and its cost.
 #[derive(Clone, Copy, Debug, PartialEq, Eq)]
 pub struct Met {
-    pub plan: u32,
+    pub plan: u64,
     pub cost: i64,
 }
 
@@ -40,7 +40,7 @@ pub struct Walked {
 // What a search has found: the cheapest plan that fits, its cost, and the number of partial plans visited.
 #[derive(Clone, Copy, Debug, PartialEq, Eq)]
 pub struct Found {
-    pub plan: u32,
+    pub plan: u64,
     pub cost: i64,
     pub visits: u32,
 }
@@ -53,7 +53,7 @@ pub struct SearchAnswer {
     pub number: u8,
     pub part: u8,
     pub position: usize,
-    pub plan: u32,
+    pub plan: u64,
     pub cost: i64,
     pub visits: u32,
 }
@@ -102,7 +102,7 @@ fn walk(
     register: &Register,
     limit: u64,
     undecided: usize,
-    fed: u32,
+    fed: u64,
     sum: i64,
     walked: &mut Walked,
 ) -> Result<(), PastLimit>
@@ -133,8 +133,8 @@ fn walk(
         return Ok(());
     }
     let k = undecided - 1;
-    let more = fed + (1u32 << k);
-    let possible = more + ((1u32 << k) - 1);
+    let more = fed + (1u64 << k);
+    let possible = more + ((1u64 << k) - 1);
     let change = lists.change_of(k, possible, more);
     let unfed_sum = sum - i64::from(change.lost);
     let fed_sum = sum + i64::from(change.gained);
@@ -150,7 +150,7 @@ fn search_from(register: &Register, limit: u32) -> Result<Found, Refusal>
     let mut lists = TermLists::fresh();
     lists.list_all(register);
     let n = register.choices;
-    let possible = ((1u64 << n) - 1) as u32;
+    let possible = (1u64 << n) - 1;
     let sum = sum_at(register, 0, possible);
     let mut walked = Walked {
         best: None,

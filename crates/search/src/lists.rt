@@ -20,23 +20,23 @@ pub struct Change {
 // Nothing compares or prints one.
 #[derive(Clone, Copy)]
 pub struct TermLists {
-    pub masks: [u32; TermLists::PLACES],
+    pub masks: [u64; TermLists::PLACES],
     pub coefficients: [i32; TermLists::PLACES],
     pub counts: [usize; Register::MAX_CHOICES],
 }
 
 // A term is listed under choice k: it names k, and its coefficient is negative or it names no lower choice.
 #[tactic(auto, unfolding(crate::specs::Lent::is_listed))]
-fn is_listed(mask: u32, coefficient: i32, k: usize) -> bool
+fn is_listed(mask: u64, coefficient: i32, k: usize) -> bool
     requires { k < max_choices }
     ensures { result ≡ is_listed k mask coefficient }
 {
-    let lowest = mask % (1u32 << k) == 0;
+    let lowest = mask % (1u64 << k) == 0;
     has(mask, k) & ((coefficient < 0) | lowest)
 }
 
 // What a term gains when its lowest choice, the last to be decided, is fed like the others: its coefficient, if positive.
-fn gained_by(mask: u32, coefficient: i32, fed: u32) -> i32
+fn gained_by(mask: u64, coefficient: i32, fed: u64) -> i32
     ensures { result ≡ term_gained coefficient mask fed }
 {
     where_within(mask, fed, coefficient.max(0))
@@ -89,7 +89,7 @@ impl TermLists {
 
     // What the sum loses where choice k is decided unfed and gains where it is decided fed, by the terms listed under it: by the
     // choices possible before, and those then fed.
-    pub fn change_of(&self, k: usize, possible: u32, fed: u32) -> Change
+    pub fn change_of(&self, k: usize, possible: u64, fed: u64) -> Change
         requires small { (j : ℕ) → j < get_or self.now.counts k 0 → nat_abs (get_or self.now.coefficients (k * max_terms + j) (pos 0)) ≤ max_coefficient }
         requires count_within { get_or self.now.counts k 0 ≤ max_terms }
         requires k_lt_max_choices { k < max_choices }

@@ -8,7 +8,7 @@ use plan::choice_sets::where_within;
 use register::Register;
 
 // What a term loses when one of its choices is decided unfed: its coefficient, if negative, where none was decided unfed before.
-pub fn lost_by(mask: u32, coefficient: i32, possible: u32) -> i32
+pub fn lost_by(mask: u64, coefficient: i32, possible: u64) -> i32
     ensures { result ≡ term_lost coefficient mask possible }
 {
     where_within(mask, possible, coefficient.min(0))
@@ -16,7 +16,7 @@ pub fn lost_by(mask: u32, coefficient: i32, possible: u32) -> i32
 
 // What a term adds to the sum, by the choices that are fed and those that are not decided unfed.
 #[tactic(auto, unfolding(sets::specs::Sets::is_subset))]
-fn term_sum(mask: u32, coefficient: i32, fed: u32, possible: u32) -> i32
+fn term_sum(mask: u64, coefficient: i32, fed: u64, possible: u64) -> i32
     ensures { result ≡ term_sum coefficient mask fed possible }
 {
     if fed & mask == mask {
@@ -27,7 +27,7 @@ fn term_sum(mask: u32, coefficient: i32, fed: u32, possible: u32) -> i32
 }
 
 // The base cost and what each term adds.
-pub fn sum_at(register: &Register, fed: u32, possible: u32) -> i64
+pub fn sum_at(register: &Register, fed: u64, possible: u64) -> i64
     requires { Within register.now }
     ensures { result ≡ sum_to register.now.base (terms_in register.now) register.now.terms fed possible }
 {

@@ -32,7 +32,7 @@ use Rattle.penalty.proofs.penalty_form.Goals as goal
 module _ (r : Register) (s : Scheme) (within : Within r) (valid : Valid r s) {t u : SquareTable} (is_side : t.side ≡ side r.choices s) (long : table_numbers ≤ length t.numbers.now)
     (a : Becomes (cleared (t.side * t.side) t.numbers.now) t u) where
   square : t.side * t.side ≤ length t.numbers.now
-  square = rw is_side (omega (arith, side_square r s within valid))
+  square = rw is_side (omega (arith, side_square r s valid))
 
   room_cleared : Room max_before_forms u
   room_cleared = rw (a.same_side, a.holds) (bounded_weaken (bounded_cleared t.side t.numbers.now square) (omega arith))

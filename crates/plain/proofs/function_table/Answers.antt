@@ -13,13 +13,11 @@ use Rattle.forms.proofs.Store.{stored, bounded_cleared, bounded_weaken}
 use Rattle.forms.proofs.Times.{times_one}
 use Rattle.register.specs.declared.Register.{Register}
 use Rattle.register.specs.Register.{coefficient}
-use Rattle.register.specs.Valid.{Within}
 use Rattle.scheme.specs.declared.Scheme.{Scheme}
 use Rattle.scheme.specs.Scheme.{side}
 use Rattle.scheme.specs.Function.{g}
 use Rattle.scheme.specs.Valid.{Valid}
 use Rattle.scheme.proofs.Table.{g_below}
-use Rattle.scheme.proofs.Truncated.{valid_register}
 use Rattle.penalty.proofs.Bounds.{side_square}
 use Rattle.plain.proofs.function_table.Goals as goal
 
@@ -29,9 +27,9 @@ zeros_cleared zero n l = refl
 zeros_cleared (suc k) zero l = absurd (omega arith)
 zeros_cleared (suc k) (suc n) l = ap (λ x. pos 0 ∷ x) (zeros_cleared k n (omega arith))
 
-module _ (r : Register) (s : Scheme) (within : Within r) (valid : Valid r s) (t : SquareTable) (is_side : t.side ≡ side r.choices s) (z : t.numbers.now ≡ replicate table_numbers (pos 0)) where
+module _ (r : Register) (s : Scheme) (valid : Valid r s) (t : SquareTable) (is_side : t.side ≡ side r.choices s) (z : t.numbers.now ≡ replicate table_numbers (pos 0)) where
   square : t.side * t.side ≤ table_numbers
-  square = rw is_side (side_square r s within valid)
+  square = rw is_side (side_square r s valid)
 
   cleared_is : cleared (t.side * t.side) t.numbers.now ≡ t.numbers.now
   cleared_is = rw z (zeros_cleared (t.side * t.side) table_numbers square)
@@ -53,9 +51,9 @@ module _ (r : Register) (s : Scheme) (within : Within r) (valid : Valid r s) (t 
 pub add_function-requires-clause-room : goal.add_function-requires-clause-room
 add_function-requires-clause-room c =
     let q = c.args.quadratization.now in
-    room q.register q.scheme (valid_register q.register_valid).within q.scheme_valid (record { numbers = record { ref_ptr = (0, 0); ghost_name = 0; now = _ }; side = _ }) c.side.ensures refl
+    room q.register q.scheme q.scheme_valid (record { numbers = record { ref_ptr = (0, 0); ghost_name = 0; now = _ }; side = _ }) c.side.ensures refl
 
 pub returns : goal.returns
 returns c =
     let q = c.args.quadratization.now in
-    whole q.register q.scheme (valid_register q.register_valid).within q.scheme_valid _ c.side.ensures refl c.add_function.ensures (search rules)
+    whole q.register q.scheme q.scheme_valid _ c.side.ensures refl c.add_function.ensures (search rules)

@@ -39,7 +39,7 @@ module _ (r : Register) (s : Scheme) (register : R.Valid r) (scheme : Valid r s)
   bytes = encode_plain (coefficient r) r s
 
   fits : side r.choices s * side r.choices s ≤ length (replicate table_numbers (pos 0))
-  fits = rw length-replicate (side_square r s register.within scheme)
+  fits = rw length-replicate (side_square r s scheme)
 
   small : Small N t
   small = table_small (coefficient r) r s t _ e register scheme refl fits
@@ -54,7 +54,7 @@ module _ (r : Register) (s : Scheme) (register : R.Valid r) (scheme : Valid r s)
     bytes_total = ap (λ y. 14 + 10 * y) f ∙ counted
 
     total_few : 14 + 10 * x ≤ own_room
-    total_few = rw bytes_total (plain_bytes (coefficient r) r s register scheme)
+    total_few = rw bytes_total (plain_bytes (coefficient r) r s scheme)
 
   -- the base cost as the code passes it
   base_fits : SFits w64 (to_z w32 (of_z w32 r.base))

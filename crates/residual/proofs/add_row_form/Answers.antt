@@ -1,5 +1,5 @@
-use Prim.Native.Nat.{ℕ, ◌+◌, ◌*◌, ◌≤◌, ◌<◌}
-use mathlib.Core.Path.{◌≡◌}
+use Prim.Native.Nat.{ℕ, ◌+◌, ◌*◌, ◌≤◌, ◌<◌, min}
+use mathlib.Core.Path.{◌≡◌, ap, sym, ◌∙◌}
 use native.Mathlib.Numerals.{add-one}
 use native.Mathlib.Decide.{ℕ_discrete}
 use native.Mathlib.Omega.{arith}
@@ -13,9 +13,11 @@ use Rattle.integers.proofs.Machine.{signed_small, cast_read, read_signed}
 use Rattle.forms.specs.declared.SquareTable.{SquareTable}
 use Rattle.forms.specs.Store.{Room, Adds, max_before_monomial}
 use Rattle.forms.proofs.Added.{adds_none, adds_then, adds_same}
+use Rattle.register.specs.Limits.{row_entries}
 use Rattle.register.specs.Register.{row_entry}
+use Rattle.register.proofs.Entries.{entry_there, entry_past}
 use Rattle.certificate.specs.Limits.{max_row_multiplier}
-use Rattle.residual.proofs.RowAdded.{first, first_none, first_next, first_all, first_room}
+use Rattle.residual.proofs.RowAdded.{first, first_none, first_next, adds_all, first_room}
 use Rattle.residual.proofs.add_row_form.Goals.{Start}
 use Rattle.residual.proofs.add_row_form.Goals as goal
 
@@ -72,9 +74,10 @@ loop-j-preserved c =
     let i = c.loop-j.invariant in
     let x = get_or c.args.register.now.row_entries (c.args.row * 32 + c.loop-j.j) (pos 0) in
     let byte : SFits w8 x = search rules in
+    let there : a k c.loop-j.j ≡ x = entry_there c.args.register.now.row_entries c.args.row c.loop-j.j (omega arith) in
     record {
-      so_far = adds_same (adds_then i.so_far c.add_multiple.ensures) (rw (byte_read x byte, add-one c.args.variable, add-one c.loop-j.j) (first_next (a k) c.args.variable _ c.loop-j.j));
-      small = below_more (a k) c.loop-j.j i.small (byte_low x byte);
+      so_far = adds_same (adds_then i.so_far c.add_multiple.ensures) (rw (byte_read x byte, add-one c.args.variable, add-one c.loop-j.j, ← there) (first_next (a k) c.args.variable _ c.loop-j.j));
+      small = below_more (a k) c.loop-j.j i.small (rw there (byte_low x byte));
     }
   where
     below_more : (a : ℕ → ℤ) (j : ℕ) → ((k : ℕ) → k < j → nat_abs (a k) ≤ 128) → nat_abs (a j) ≤ 128 → (k : ℕ) → k < j + 1 → nat_abs (a k) ≤ 128
@@ -103,6 +106,7 @@ returns c =
     let k = (goal.at.returns c).Start in
     let x = get_or c.args.register.now.row_totals c.args.row (pos 0) in
     let word : SFits w16 x = search rules in
-    let all : c.loop-j.j ≡ c.args.register.now.choices = omega arith in
-    adds_same (adds_then c.loop-j.invariant.so_far c.add_multiple-2.ensures)
-    (rw (m_read k, word_less_read x word, add-one c.args.variable, all) (first_all (a k) c.args.variable c.args.m c.args.register.now.choices x))
+    let n = c.args.register.now.choices in
+    let all : c.loop-j.j ≡ min n row_entries = omega arith in
+    adds_all (a k) c.args.variable c.args.m c.loop-j.j n x (omega arith) (λ j l b. entry_past c.args.register.now.row_entries c.args.row j (omega arith))
+    (rw (m_read k, word_less_read x word, add-one c.args.variable) at (adds_then c.loop-j.invariant.so_far c.add_multiple-2.ensures))

@@ -13,7 +13,6 @@ use Rattle.forms.proofs.Table.{with_table-length}
 use Rattle.register.specs.Register.{coefficient}
 use Rattle.scheme.specs.declared.parts.Quadratization.{Quadratization}
 use Rattle.scheme.specs.Scheme.{side}
-use Rattle.scheme.proofs.Truncated.{valid_register}
 use Rattle.penalty.proofs.Bounds.{side_square}
 use Rattle.certificate.specs.Certificate.{Certificate}
 use Rattle.residual.specs.Residual.{R}
@@ -23,7 +22,7 @@ use Rattle.residual.proofs.put_residual.Goals as goal
 -- the table t as it is lent, u after the first command, w after the others
 module _ (q : Quadratization) (t : SquareTable) (is_side : t.side ≡ side q.register.choices q.scheme) (long : table_numbers ≤ length t.numbers.now) where
   fits : t.side * t.side ≤ length t.numbers.now
-  fits = rw is_side (omega (arith, side_square q.register q.scheme (valid_register q.register_valid).within q.scheme_valid))
+  fits = rw is_side (omega (arith, side_square q.register q.scheme q.scheme_valid))
 
   module _ (first : Certificate) {u : SquareTable} (a : Becomes (with_table t.side (R (coefficient q.register) q.register q.scheme first) t.numbers.now) t u) where
     same_length : length u.numbers.now ≡ length t.numbers.now

@@ -43,7 +43,7 @@ use Rattle.residual.proofs.put_scaled_function.Goals as goal
 module _ (r : Register) (s : Scheme) (within : Reg.Within r) (valid : Valid r s) {t u : SquareTable} (is_side : t.side ≡ side r.choices s) (long : table_numbers ≤ length t.numbers.now)
     (a : Becomes (cleared (t.side * t.side) t.numbers.now) t u) where
   square : t.side * t.side ≤ length t.numbers.now
-  square = rw is_side (omega (arith, side_square r s within valid))
+  square = rw is_side (omega (arith, side_square r s valid))
 
   abbrev scaled : ℕ → Form
   scaled scale = times (pos scale) (g (coefficient r) r s)
@@ -105,7 +105,7 @@ module _ {r : Register} {s : Scheme} {bytes : List ℕ} {reads : Reads r s bytes
 pub clear-requires : goal.clear-requires
 clear-requires c =
     let q = c.args.quadratization.now in
-    rw c.requires.side_value (omega (arith, side_square q.register q.scheme (valid_register q.register_valid).within q.scheme_valid, c.requires.table_numbers_in_bounds))
+    rw c.requires.side_value (omega (arith, side_square q.register q.scheme q.scheme_valid, c.requires.table_numbers_in_bounds))
 
 pub read-scale-requires : goal.read-scale-requires
 read-scale-requires c = omega (arith, size_scale, (started _ _ c.args.bytes.now c.requires.reads).room)

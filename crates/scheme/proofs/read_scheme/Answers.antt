@@ -108,7 +108,7 @@ unfolding row_of total
 read-r-requires c = omega (arith, (here (turn_of (goal.at.read-r-requires c).In_ok-map_err) 0x21 c.in-33.is).room)
 
 pub bounds-sets-n : goal.bounds-sets-n
-bounds-sets-n c = omega (arith, c.requires.within.choices.few, (product (turn_of (goal.at.bounds-sets-n c).In_ok-map_err) c.in-33.is).few)
+bounds-sets-n c = (product (turn_of (goal.at.bounds-sets-n c).In_ok-map_err) c.in-33.is).room
 
 pub bounds-scheme-k : goal.bounds-scheme-k
 bounds-scheme-k c = (product (turn_of (goal.at.bounds-scheme-k c).In_ok-map_err) c.in-33.is).few
@@ -127,7 +127,7 @@ loop-at-preserved-in-33 c =
     rw (c.union_of.ensures, c.read-r.ensures, c.read-l.ensures, add-one)
     (record {
       going = on t c.requires i.invariant.going 0x21 f refl;
-      held = grown_sets i.scheme _ _ reg.choices (lengths_within i.invariant.going.so_far.holds.within) q.few i.invariant.held (omega (arith, c.requires.within.choices.few, q.few)) (omega (arith, q.fits.ordered, q.fits.falls)) q.fits.falls;
+      held = grown_sets i.scheme _ _ reg.choices (lengths_within i.invariant.going.so_far.holds.within) q.few i.invariant.held q.room (omega (arith, q.fits.ordered, q.fits.falls)) q.fits.falls;
     })
 
 pub read-requires : goal.read-requires

@@ -1,5 +1,5 @@
 -- `search::walk` meets its contract. The number of undecided choices falls at each call.
-use Prim.Native.Nat.{ℕ, ◌+◌, ◌-◌, ◌*◌, ◌%◌, ◌^◌, ◌≤◌, ◌<◌}
+use Prim.Native.Nat.{ℕ, ◌+◌, ◌-◌, ◌*◌, ◌%◌, ◌^◌, ◌≤◌}
 use native.Mathlib.Omega.{arith}
 use mathlib.Core.Path.{◌≡◌, refl, sym, ◌∙◌, ap}
 use mathlib.Core.Bool.{Bool, true, false}
@@ -7,23 +7,18 @@ use mathlib.Core.List.{List}
 use lib.IntN.{ℤ}
 use lib.ListN.{get_or}
 use lib.Pow.{pow_pos}
-use mir.Syntax.{w32, w64}
+use mir.Syntax.{w64}
 use mir.Val.{to_z, of_z}
 use Rattle.std.proofs.Common.{Some}
 use Rattle.std.proofs.lemmas.Result.{err_from_is_err_and}
-use Rattle.integers.proofs.Machine.{one_shifted}
 use Rattle.register.specs.Limits.{max_terms}
 use Rattle.search.specs.declared.lists.Change.{Change}
 use Rattle.search.specs.declared.Walked.{Walked}
 use Rattle.search.specs.Walk.{Best, visited, is_left, walk as defined}
 use Rattle.search.specs.Lent.{lent_sum, change_of, At, is_left_by, walked_of, UpTo}
-use Rattle.search.proofs.Going.{own, halves, lost_said, gained_said, unfed_fits, fed_fits, unfed_next, fed_next}
+use Rattle.search.proofs.Going.{shifted, own, halves, lost_said, gained_said, unfed_fits, fed_fits, unfed_next, fed_next}
 use Rattle.search.proofs.Walks.{up_to_first, up_to_left, up_to_full, up_to_unfit, up_to_unfed, up_to_same, up_to_fed, left_held}
 use Rattle.search.proofs.+walk.Goals as goal
-
--- a power of 2 as the code has it
-shifted : (n : ℕ) → n < 32 → 1 * 2 ^ n % 4294967296 ≡ 2 ^ n
-shifted n l = sym (one_shifted w32 n l)
 
 -- one visit more
 visit : (w : Best) {walked : Walked} → walked ≡ walked_of w → record { best = walked.best; visits = walked.visits + 1 } ≡ walked_of (visited w)
@@ -56,7 +51,7 @@ module _ {masks : List ℕ} {coefficients : List ℤ} {counts : List ℕ} {n fed
   left_is w e = rw (e, own a) (left_held w s ∙ ap (λ x. is_left x w) a.sum_is)
 
   -- how the sum changes, as the code computes it
-  change_is : 1 ≤ n → {change : Change} → change ≡ change_of masks coefficients ((n - 1) * max_terms) (get_or counts (n - 1) 0) (fed + 1 * 2 ^ (n - 1) % 4294967296 + (1 * 2 ^ (n - 1) % 4294967296 - 1)) (fed + 1 * 2 ^ (n - 1) % 4294967296) →
+  change_is : 1 ≤ n → {change : Change} → change ≡ change_of masks coefficients ((n - 1) * max_terms) (get_or counts (n - 1) 0) (fed + 1 * 2 ^ (n - 1) % 18446744073709551616 + (1 * 2 ^ (n - 1) % 18446744073709551616 - 1)) (fed + 1 * 2 ^ (n - 1) % 18446744073709551616) →
       change ≡ change_of masks coefficients ((n - 1) * max_terms) (get_or counts (n - 1) 0) (fed + 2 ^ (n - 1) + (2 ^ (n - 1) - 1)) (fed + 2 ^ (n - 1))
   change_is l e = rw (shifted (n - 1) (omega (arith, a.few))) at e
 

@@ -1,13 +1,10 @@
 -- `search::search_from` meets its contract. The terms are listed, and the walk begins with the sum at the empty partial plan.
-use Prim.Native.Nat.{ℕ, ◌-◌, ◌*◌, ◌%◌, ◌^◌, ◌≤◌}
-use native.Mathlib.Omega.{arith}
-use mathlib.Core.Path.{◌≡◌, refl, sym, ◌∙◌}
+use Prim.Native.Nat.{ℕ, ◌-◌, ◌*◌, ◌%◌, ◌^◌}
+use mathlib.Core.Path.{◌≡◌, refl, ◌∙◌}
 use mir.Syntax.{w64}
 use mir.Val.{SFits, to_z, of_z}
 use mir.Facts.{to_z-of_z}
 use Rattle.std.proofs.lemmas.Result.{err_from_is_err_and}
-use Rattle.integers.proofs.Machine.{one_shifted}
-use Rattle.register.specs.Limits.{max_choices}
 use mathlib.Core.List.{List}
 use lib.IntN.{ℤ}
 use Rattle.std.proofs.Common.{Bool, rules}
@@ -20,13 +17,9 @@ use Rattle.search.specs.Walk.{Best, start, walk}
 use Rattle.search.specs.Answer.{search as rule}
 use Rattle.search.specs.Lent.{terms_in, sum_to, lent_sum, AllListed, At, walked_of, UpTo}
 use Rattle.search.proofs.Sums.{within_small}
-use Rattle.search.proofs.Going.{empty_sum, empty_at}
+use Rattle.search.proofs.Going.{shifted, empty_sum, empty_at}
 use Rattle.search.proofs.Answers.{search_lent, passes, answers, best_err, best_ok}
 use Rattle.search.proofs.search_from.Goals as goal
-
--- a power of 2 as the code has it
-shifted : (n : ℕ) → n ≤ max_choices → 1 * 2 ^ n % 18446744073709551616 ≡ 2 ^ n
-shifted n l = sym (one_shifted w64 n (omega arith))
 
 module _ {r : Register} (w : Within r) {masks : List ℕ} {coefficients : List ℤ} {counts : List ℕ} {s : ℤ} (listed : AllListed (terms_in r) r.choices masks coefficients counts) (fits : SFits w64 s)
     (is : s ≡ sum_to r.base (terms_in r) r.terms 0 (1 * 2 ^ r.choices % 18446744073709551616 - 1)) where

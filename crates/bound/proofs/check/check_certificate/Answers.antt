@@ -99,7 +99,7 @@ put_residual-requires-clause-reads c =
 pub first_short-requires-clause-side_le_square_entries : goal.first_short-requires-clause-side_le_square_entries
 first_short-requires-clause-side_le_square_entries c =
     let k = (goal.at.first_short-requires-clause-side_le_square_entries c).After-put_residual in
-    omega (arith, (reg_within k).choices.few, k.args.quadratization.now.scheme_valid.within.products_within, c.side.ensures)
+    omega (arith, k.args.quadratization.now.scheme_valid.within.variables_within, c.side.ensures)
 
 pub first_short-requires-clause-bounded : goal.first_short-requires-clause-bounded
 first_short-requires-clause-bounded c = rw c.side.ensures (bounded (goal.at.first_short-requires-clause-bounded c).After-put_residual)

@@ -2,7 +2,7 @@ use Prim.Native.Nat.{◌^◌}
 use native.Mathlib.Omega.{arith}
 use native.Mathlib.Numerals.{add-one}
 use mathlib.Core.Path.{◌≡◌, sym}
-use mir.Syntax.{w32}
+use mir.Syntax.{w64}
 use Rattle.integers.proofs.Machine.{one_shifted}
 use Rattle.scheme.proofs.Variables.{E_choice}
 use Rattle.scheme.proofs.Sets.{sets_none, sets_put}
@@ -13,7 +13,7 @@ loop-i-init c = record { so_far = sets_none _ }
 
 pub loop-i-preserved : goal.loop-i-preserved
 loop-i-preserved c = record {
-  so_far = λ s. rw (← (one_shifted w32 c.loop-i.i (omega arith)), add-one) (sets_put (c.loop-i.invariant.so_far s) (2 ^ c.loop-i.i) (omega arith) (sym (E_choice _ s c.loop-i.i (omega arith))));
+  so_far = λ s. rw (← (one_shifted w64 c.loop-i.i (omega arith)), add-one) (sets_put (c.loop-i.invariant.so_far s) (2 ^ c.loop-i.i) (omega arith) (sym (E_choice _ s c.loop-i.i (omega arith))));
 }
 
 pub returns : goal.returns

@@ -35,16 +35,16 @@ module _ (c : In_ok-reduce) where
   came = rw c.choices_of-members.ensures at (c.in_ok-reduce.ensures.same)
 
   splits : short.scheme.splits ≡ w.scheme.splits
-  splits = term_splits w.choices c.args.mask w.scheme w.ready.within c.requires.le_mask c.requires.mask_bound short.scheme members came
+  splits = term_splits w.choices c.args.mask w.scheme c.requires.le_mask c.requires.mask_bound short.scheme members came
 
   count : (1 ≤ members.count) × (members.count ≤ 2)
-  count = term_count w.choices c.args.mask w.scheme w.ready.within c.requires.le_mask c.requires.mask_bound short.scheme members came
+  count = term_count w.choices c.args.mask w.scheme c.requires.le_mask c.requires.mask_bound short.scheme members came
 
   ends : (made : Scheme) → made ≡ split_of short.scheme (listed members) → next made ≡ build_term w.choices w.scheme c.args.mask
-  ends = term_ends w.choices c.args.mask w.scheme w.ready.within c.requires.le_mask c.requires.mask_bound short.scheme members came
+  ends = term_ends w.choices c.args.mask w.scheme c.requires.le_mask c.requires.mask_bound short.scheme members came
 
   more : (made : Scheme) → made ≡ split_of short.scheme (listed members) → made.splits ≡ suc w.scheme.splits
-  more = term_more w.choices c.args.mask w.scheme w.ready.within c.requires.le_mask c.requires.mask_bound short.scheme members came
+  more = term_more w.choices c.args.mask w.scheme c.requires.le_mask c.requires.mask_bound short.scheme members came
 
 pub split-requires-clause-splits_lt_max_terms : goal.split-requires-clause-splits_lt_max_terms
 split-requires-clause-splits_lt_max_terms c = rw (splits (goal.at.split-requires-clause-splits_lt_max_terms c).In_ok-reduce) c.requires.splits_lt_max_terms

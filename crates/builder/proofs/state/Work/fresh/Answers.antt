@@ -11,6 +11,7 @@ invariant_of-result c = record {
   ready = record {
     few = c.requires;
     within = rw c.fresh.ensures (omega arith);
+    variables_within = rw c.fresh.ensures (omega (arith, c.requires));
     lengths = rw c.fresh.ensures (record { lefts = refl; rights = refl; split_lefts = refl; split_rights = refl });
     sets_are = rw (c.fresh.ensures, add-zero) (c.choice_sets.ensures fresh);
   };
