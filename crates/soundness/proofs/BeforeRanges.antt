@@ -2,7 +2,7 @@
 -- each plan chooses the register's own coefficients.
 use Prim.Native.Nat.{ℕ, ◌+◌, ◌<◌}
 use mathlib.Core.Path.{◌≡◌, refl, sym, ◌∙◌, ap, ap₂}
-use mathlib.Core.Logic.{inl, inr, ⊎_elim, ◌↔◌}
+use mathlib.Core.Logic.{inr, ◌↔◌}
 use mathlib.Core.Bool.{Bool, true, false, cond}
 use mathlib.Core.List.{List, [], ◌∷◌, ◌++◌}
 use lib.Dec.{ltb}
@@ -21,15 +21,16 @@ use Rattle.wire.proofs.Accepting.{reached}
 use Rattle.wire.proofs.Outcome.{next_same}
 use Rattle.forms.specs.Table.{table_numbers}
 use Rattle.register.specs.declared.Register.{Register}
-use Rattle.register.specs.Limits.{max_terms}
+use Rattle.register.specs.Limits.{max_terms, usual_day}
 use Rattle.register.specs.Register.{fresh, mask, coefficient, has_range}
 use Rattle.register.specs.Valid.{Terms, Within, Valid}
-use Rattle.register.specs.Encoding.{encode_base, encode_length, encode_terms, encode_entry, encode_with_length, encode_without_length, SaysRange}
+use Rattle.register.specs.Encoding.{Encodes, MasksNarrow, encode_base, encode_terms, encode_entry, encode_after, not_narrow, SaysLength, SaysRange, SaysWide}
 use Rattle.register.specs.Format.{register_in_job, register_by_itself}
 use Rattle.register.specs.Answer.{register_answer}
 use Rattle.register.specs.BeforeRanges.{by_itself_before_ranges}
 use Rattle.register.proofs.Accept as R
 use Rattle.register.proofs.SaysRange.{said_in_job, said_by_itself}
+use Rattle.register.proofs.SaysWide.{narrow_terms, unsaid_forms}
 use Rattle.register.proofs.BeforeRanges.{range_byte, as_before_ranges_in_job, as_before_ranges, no_ranges}
 use Rattle.plan.specs.declared.CostAnswer.{CostAnswer}
 use Rattle.plan.specs.Plan.{cost}
@@ -59,8 +60,8 @@ use Rattle.job.specs.Answer.{after_job, job_answer, job_table}
 use Rattle.job.proofs.EachRead.{all_read}
 use Rattle.soundness.specs.Calls.{register_call, cost_call, check_call, plain_call, job_call}
 use Rattle.soundness.specs.BeforeRanges.{TermsBefore, encode_terms_before, without_ranges, open_before_ranges, cost_before_ranges, check_before_ranges, plain_before_ranges, part_three_before, outcome_before_ranges, table_before_ranges, after_job_before_ranges, job_before_ranges}
-use Rattle.soundness.specs.PriceRanges.{ValidBeforeRanges, after_before_ranges, AsBeforeRanges}
-use Rattle.soundness.proofs.Written.{forms}
+use Rattle.soundness.specs.PriceRanges.{ValidBeforeRanges, after_before_ranges, EncodesBeforeRanges, AsBeforeRanges}
+use Rattle.soundness.proofs.Written.{after_same, unsaid}
 
 -- ---- the terms of a register
 
@@ -95,9 +96,11 @@ terms_before n m ms cs = (to, from)
       };
     }
 
--- and their bytes
-pub encoded_before : (r : Register) → encode_terms (without_ranges r) ≡ encode_terms_before r
-encoded_before r = join_cong r.terms _ _ (λ t l. ap (λ b. encode_entry b (mask r t) (coefficient r t) (coefficient r t)) (replicate_rest max_terms t false))
+-- and their bytes, each by `12` where the masks are narrow
+encoded_before : (r : Register) → MasksNarrow r → encode_terms (without_ranges r) ≡ encode_terms_before r
+encoded_before r narrow =
+    narrow_terms (without_ranges r) narrow
+    ∙ join_cong r.terms _ _ (λ t l. ap (λ b. encode_entry false b (mask r t) (coefficient r t) (coefficient r t)) (replicate_rest max_terms t false))
 
 -- ---- part 1
 
@@ -129,11 +132,27 @@ module _ (r : Register) where
     some_choice = b.some_choice;
   }
 
-  with_length : encode_with_length (without_ranges r) ≡ after_before_ranges (encode_base r.base ++ encode_length r.day_length) r
-  with_length = rw (encoded_before r)
+  -- after a header
+  bytes_before : MasksNarrow r → (header : List ℕ) → encode_after (not_narrow r) header (without_ranges r) ≡ after_before_ranges header r
+  bytes_before narrow header = rw (encoded_before r narrow)
 
-  without_length : encode_without_length (without_ranges r) ≡ after_before_ranges (encode_base r.base) r
-  without_length = rw (encoded_before r)
+  -- the encodings that say no `15`
+
+  module _ (s : List ℕ) (v : Valid (without_ranges r)) (none : SaysWide s → ⊥) where
+    pub forms_before : Encodes (without_ranges r) s ↔ (MasksNarrow r × EncodesBeforeRanges r s)
+    forms_before =
+        let (to, from) = unsaid_forms (without_ranges r) v s none in (
+          (λ x. let (narrow, e) = to x in (narrow, after_same r (bytes_before narrow) s e)),
+          (λ (narrow, e). from (narrow, after_same r (λ header. sym (bytes_before narrow header)) s e)),
+        )
+
+    -- and no length
+    pub unsaid_before : (SaysLength s → ⊥) → Encodes (without_ranges r) s ↔ (MasksNarrow r × (r.day_length ≡ usual_day) × (s ≡ after_before_ranges (encode_base r.base) r))
+    unsaid_before no_length =
+        let (to, from) = unsaid (without_ranges r) s v none no_length in (
+          (λ x. let (narrow, day, e) = to x in (narrow, day, e ∙ bytes_before narrow _)),
+          (λ (narrow, day, e). from (narrow, day, e ∙ sym (bytes_before narrow _))),
+        )
 
 -- ---- a register without a range
 
@@ -310,9 +329,8 @@ kept_before_ranges = record {
   in_job = as_before_ranges_in_job;
   by_itself = as_before_ranges;
   outcome = outcome_before;
-  part_1 = λ register reg.
-      let (to, from) = forms (without_ranges reg) register in (
-        (λ p. (before_none reg p.conditions, ⊎_elim (λ e. inl (e ∙ with_length reg)) (λ (day, e). inr (day, e ∙ without_length reg)) (to p.bytes))),
-        (λ (b, e). record { conditions = with_none reg b; bytes = from (⊎_elim (λ e. inl (e ∙ sym (with_length reg))) (λ (day, e). inr (day, e ∙ sym (without_length reg))) e) }),
-      );
+  part_1 = λ register reg none. (
+    (λ p. let (narrow, e) = (forms_before reg register p.conditions none).0 p.bytes in (before_none reg p.conditions, narrow, e)),
+    (λ (b, narrow, e). let v = with_none reg b in record { conditions = v; bytes = (forms_before reg register v none).1 (narrow, e) }),
+  );
 }

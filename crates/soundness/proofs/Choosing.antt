@@ -3,6 +3,7 @@
 use Prim.Native.Nat.{ℕ, ◌-◌, ◌^◌, ◌≤◌, ◌<◌}
 use native.Mathlib.Omega.{arith}
 use mathlib.Core.Path.{◌≡◌, refl, sym, ◌∙◌, ap, ap₂, fun_ext}
+use mathlib.Core.Logic.{⊎_elim}
 use mathlib.Core.Bool.{true, false}
 use mathlib.Core.List.{List, ◌++◌}
 use lib.IntN.{ℤ, pos}
@@ -23,12 +24,14 @@ use Rattle.register.specs.declared.Register.{Register}
 use Rattle.register.specs.Limits.{max_choices}
 use Rattle.register.specs.Register.{coefficient, has_range}
 use Rattle.register.specs.Valid.{Valid}
+use Rattle.register.specs.Encoding.{Narrow}
 use Rattle.scheme.specs.declared.Scheme.{Scheme}
 use Rattle.scheme.proofs.Opened.{Opened, opens, opened_encodings}
 use Rattle.plan.specs.Fits.{Fits, fits}
 use Rattle.plan.specs.Format.{plan_checks, plan_part, plan_in_job, plan_by_itself}
-use Rattle.plan.specs.Encoding.{encode_plan}
+use Rattle.plan.specs.Encoding.{Encodes, encode_narrow_plan, encode_wide_plan}
 use Rattle.plan.specs.Chosen.{chosen}
+use Rattle.plan.proofs.Accept.{encodings}
 use Rattle.plan.proofs.Coefficients.{chosen_known}
 use Rattle.plan.proofs.Fits.{register_fits}
 use Rattle.bound.specs.Opening.{open_chosen}
@@ -64,17 +67,26 @@ choosing_none reg plan none = record { part_4 = λ some. cc; none = λ e. refl }
 
 -- ---- the plan's command at the front
 
-module _ (reg : Register) (fed : ℕ) (rest : List ℕ) (small : fed < 2 ^ 32) where
-  abbrev bytes : List ℕ
-  bytes = encode_plan fed ++ rest
-
-  -- it is refused by its own checks
-  pub plan_stands : (n : ℕ) → refusal (plan_checks reg.choices fed (fits reg fed)) ≡ n → (n ≡ 0 → ⊥) → plan_in_job reg bytes ≡ refused n 0
-  unfolding plan_in_job read_part checks_at command_checks refusal row_of operands_at total encode_plan bytes_of
-  plan_stands n e d =
+module _ (reg : Register) (fed : ℕ) (rest : List ℕ) (n : ℕ) (own : refusal (plan_checks reg.choices fed (fits reg fed)) ≡ n) (d : n ≡ 0 → ⊥) where
+  by_narrow : Narrow fed → plan_in_job reg (encode_narrow_plan fed ++ rest) ≡ refused n 0
+  unfolding plan_in_job read_part checks_at command_checks refusal row_of operands_at total encode_narrow_plan bytes_of
+  by_narrow small =
+      let bytes = encode_narrow_plan fed ++ rest in
       read_from_refused (plan_part reg) bytes (plan_part reg).start 0 n (omega arith)
-      (rw (le-ltb (length bytes - 0) 5 (omega arith), nat_at_front 4 bytes 1 fed rest refl small) e) d
+      (rw (le-ltb (length bytes - 0) 5 (omega arith), nat_at_front 4 bytes 1 fed rest refl small) own) d
 
+  by_wide : fed < 2 ^ 64 → plan_in_job reg (encode_wide_plan fed ++ rest) ≡ refused n 0
+  unfolding plan_in_job read_part checks_at command_checks refusal row_of operands_at total encode_wide_plan bytes_of
+  by_wide small =
+      let bytes = encode_wide_plan fed ++ rest in
+      read_from_refused (plan_part reg) bytes (plan_part reg).start 0 n (omega arith)
+      (rw (le-ltb (length bytes - 0) 9 (omega arith), nat_at_front 8 bytes 1 fed rest refl small) own) d
+
+  -- in either form it is refused by its own checks
+  pub plan_stands : (front : List ℕ) → Encodes reg fed front → fed < 2 ^ 64 → plan_in_job reg (front ++ rest) ≡ refused n 0
+  plan_stands front e small = ⊎_elim (λ (narrow, q). rw q (by_narrow narrow)) (λ q. rw q (by_wide small)) ((encodings reg fed front).0 e)
+
+module _ (reg : Register) (fed : ℕ) where
   misfit_checks : fed < 2 ^ reg.choices → (Fits reg fed → ⊥) → refusal (plan_checks reg.choices fed (fits reg fed)) ≡ 15
   unfolding plan_checks refusal
   misfit_checks l h = rw (lt-leb (2 ^ reg.choices) fed l, flag (fits reg fed) (λ e. absurd (h ((register_fits reg fed).0 e))) (λ e. e))
@@ -83,14 +95,12 @@ module _ (reg : Register) (fed : ℕ) (rest : List ℕ) (small : fed < 2 ^ 32) w
   unfolding plan_checks refusal
   unnamed_checks l = rw (le-leb (2 ^ reg.choices) fed l)
 
-pub plan_misfit : (reg : Register) (fed : ℕ) (rest : List ℕ) → reg.choices ≤ max_choices → fed < 2 ^ reg.choices → (Fits reg fed → ⊥) → plan_in_job reg (encode_plan fed ++ rest) ≡ refused 15 0
-plan_misfit reg fed rest few l h =
-    let small : fed < 2 ^ 32 = omega (arith, l, pow_mono few) in
-    plan_stands reg fed rest small 15 (misfit_checks reg fed rest small l h) (λ e. omega arith)
+  pub plan_misfit : (front rest : List ℕ) → Encodes reg fed front → reg.choices ≤ max_choices → fed < 2 ^ reg.choices → (Fits reg fed → ⊥) → plan_in_job reg (front ++ rest) ≡ refused 15 0
+  plan_misfit front rest e few l h = plan_stands reg fed rest 15 (misfit_checks l h) (λ z. omega arith) front e (omega (arith, l, pow_mono few))
 
 module _ (t plan : List ℕ) (k : Misfit t plan) where
   pub misfit_read : plan_in_job k.reg plan ≡ refused 15 0
-  misfit_read = ap (plan_in_job k.reg) k.bytes ∙ plan_misfit k.reg k.fed k.rest k.part_1.conditions.within.choices.few k.inside k.misfit
+  misfit_read = ap (plan_in_job k.reg) k.bytes ∙ plan_misfit k.reg k.fed k.front k.rest k.encodes k.part_1.conditions.within.choices.few k.inside k.misfit
 
   -- where the register has a range, it is refused between parts 2 and 3
   module _ (s : List ℕ) (sch : Scheme) (some : has_range k.reg ≡ true) (q : Part2 k.reg s sch) where

@@ -20,15 +20,15 @@ use Rattle.register.specs.declared.Register.{Register}
 use Rattle.register.specs.Limits.{max_base, max_tank, usual_day, long_day}
 use Rattle.register.specs.Register.{tank, minute, has_range, fresh, set_length, with_base, with_length, with_choice}
 use Rattle.register.specs.Valid.{DayLength, Within, Valid}
-use Rattle.register.specs.Encoding.{encode_base, encode_length, encode_choice, encode_with_length, encode_without_length, encode_register, SaysLength, length_in}
+use Rattle.register.specs.Encoding.{encode_base, encode_length, encode_choice, not_narrow, encode_with_length, encode_without_length, encode_register, SaysLength, length_in}
 use Rattle.register.specs.Ranges.{OutOfRange}
 use Rattle.register.specs.Format.{register_in_job, register_by_itself}
 use Rattle.register.specs.Answer.{register_answer}
 use Rattle.register.specs.Answer as R
 use Rattle.register.proofs.Passes.{length_within}
 use Rattle.register.proofs.Entries.{rows_none, fresh_within, base_more, length_more, choice_at, choice_new, choice_more}
-use Rattle.register.proofs.Accept.{encoding_accepted}
-use Rattle.register.proofs.Canonical.{canonical, encodes_with, encodes_without}
+use Rattle.register.proofs.Accept.{encoding_accepted, answer_iff}
+use Rattle.register.proofs.Canonical.{canonical, encodes_with, encodes_without, encodes_ranges, unranged_narrow}
 use Rattle.register.proofs.Opened.{opened, opened_refused}
 use Rattle.register.proofs.DayLengths.{length_said, out_of_range, other_length}
 use Rattle.register.proofs.SaysRow.{length_byte}
@@ -46,8 +46,9 @@ use Rattle.soundness.specs.Jobs.{Accepted}
 use Rattle.soundness.specs.DayLengths.{OfDay, KeepsLength, FeedsOfDay, JobOfDay, UsualDay, ValidBeforeLengths, bytes_before_lengths, LengthsKept, AsBeforeLengths}
 use Rattle.soundness.specs.BeforeRanges.{without_ranges}
 use Rattle.soundness.specs.Windows.{without_rows}
-use Rattle.soundness.proofs.Written.{unsaid, says_length_iff}
-use Rattle.soundness.proofs.BeforeRanges.{terms_before, encoded_before}
+use Rattle.soundness.specs.PriceRanges.{after_before_ranges}
+use Rattle.soundness.proofs.Written.{says_length_iff, says_length_narrow, with_bytes, without_bytes}
+use Rattle.soundness.proofs.BeforeRanges.{terms_before, unsaid_before}
 use Rattle.soundness.proofs.Jobs.{accepted_job, accepted_leads}
 use Rattle.soundness.proofs.Windows.{register_valid, accepted_valid, fed_lines_lem, windows_kept}
 
@@ -145,9 +146,9 @@ now_valid reg b day = record {
   some_choice = b.some_choice;
 }
 
-bytes_before : (reg : Register) → encode_without_length (without_rows (without_ranges reg)) ≡ bytes_before_lengths reg
+bytes_none : (reg : Register) → after_before_ranges (encode_base reg.base) (without_rows reg) ≡ bytes_before_lengths reg
 unfolding join_below
-bytes_before reg = rw (encoded_before reg) (simp append-nil)
+bytes_none reg = simp append-nil
 
 -- ---- an accepted register
 
@@ -280,7 +281,7 @@ module _ (length t m : ℕ) (day : DayLength length) (above : 1 ≤ t) (below : 
 
   fed : let answer = register_call bytes in (answer.number ≡ 0) × ((answer.register.choices ≡ 1) × ((tank answer.register 0 ≡ t) × (minute answer.register 0 ≡ m)))
   unfolding fresh
-  fed = rw (encoding_accepted bytes one one_valid (rw one_bytes at (encodes_with one))) (refl, (refl, (ap (λ c. c.0) one_choice, ap (λ c. c.1) one_choice)))
+  fed = rw (encoding_accepted bytes one one_valid (rw one_bytes at (encodes_with one (unranged_narrow one refl)))) (refl, (refl, (ap (λ c. c.0) one_choice, ap (λ c. c.1) one_choice)))
 
 -- ---- a length that is none of the three
 
@@ -304,7 +305,7 @@ lengths_kept = record {
   of_job = job_of_day;
   nothing_more = λ register reg x.
       let own = accepted_valid register reg x in
-      let long = accepted_valid (encode_register (set_length reg long_day)) (set_length reg long_day) (canonical (set_length reg long_day)) in (
+      let long = accepted_valid (encode_register (set_length reg long_day)) (set_length reg long_day) (canonical (set_length reg long_day) (encodes_ranges reg x)) in (
         (λ e. let v = own.0 e in (long.1 (longest_valid reg v), v.day_length, of_day reg v)),
         (λ (e, d, o). own.1 (own_valid reg (long.0 e) d o)),
       );
@@ -313,9 +314,11 @@ lengths_kept = record {
   each_minute = fed;
   other_length = length_refused;
   said_or_not = λ reg day.
-      let said = accepted_valid (encode_with_length reg) reg (encodes_with reg) in
-      let not_said = accepted_valid (encode_without_length reg) reg (encodes_without reg day) in
-      ((λ e. not_said.1 (said.0 e)), λ e. said.1 (not_said.0 e));
+      let said = answer_iff (encode_with_length reg) reg (with_bytes reg (not_narrow reg)) in
+      let not_said = answer_iff (encode_without_length reg) reg (without_bytes reg (not_narrow reg)) in (
+        (λ e. let (v, x) = said.0 e in not_said.1 (v, encodes_without reg (encodes_ranges reg x) day)),
+        (λ e. let (v, x) = not_said.0 e in said.1 (v, encodes_with reg (encodes_ranges reg x))),
+      );
   usual = usual;
   read_as_before = λ register none no_row_lem no_range. ap register_answer (as_before_lengths register none no_row_lem no_range);
 }
@@ -323,12 +326,13 @@ lengths_kept = record {
 pub kept_before_lengths : AsBeforeLengths
 kept_before_lengths = record {
   length_byte = length_byte;
-  says_length = λ register reg x. says_length_iff reg register x;
+  says_length = λ register reg. says_length_iff reg register;
+  says_length_narrow = λ register reg. says_length_narrow reg register;
   in_job = as_before_lengths_in_job;
   by_itself = as_before_lengths;
-  part_1 = λ register reg none.
-      let one = unsaid (without_rows (without_ranges reg)) register none in (
-        (λ p. let (day, e) = one.0 p.bytes in (before_lengths reg p.conditions day, day, e ∙ bytes_before reg)),
-        (λ (b, day, e). record { conditions = now_valid reg b day; bytes = one.1 (day, e ∙ sym (bytes_before reg)) }),
+  part_1 = λ register reg no_length none.
+      let bytes = λ (v : Valid (without_rows (without_ranges reg))). unsaid_before (without_rows reg) register v none no_length in (
+        (λ p. let (narrow, day, e) = (bytes p.conditions).0 p.bytes in (before_lengths reg p.conditions day, narrow, day, e ∙ bytes_none reg)),
+        (λ (b, narrow, day, e). let v = now_valid reg b day in record { conditions = v; bytes = (bytes v).1 (narrow, day, e ∙ sym (bytes_none reg)) }),
       );
 }

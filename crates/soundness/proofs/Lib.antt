@@ -28,5 +28,7 @@ pub mod NullEveryPlan
 pub mod ReadBeforeRowMultipliers
 pub mod EveryPlan
 pub mod PriceRanges
+pub mod MoreChoices
+pub mod BeforeMoreChoices
 pub mod Suppliers
 pub mod SupplierListing

@@ -5,7 +5,7 @@ use native.Mathlib.Omega.{arith}
 use native.Mathlib.Decide.{dec_lt}
 use mathlib.Core.Path.{◌≡◌, refl, sym, ◌∙◌, ap, subst}
 use mathlib.Core.Logic.{◌⊎◌, inl, inr, ⊎_elim}
-use mathlib.Core.Bool.{true, true≢false}
+use mathlib.Core.Bool.{true, true≢false, false≢true}
 use mathlib.Core.List.{List, [], ◌∷◌, ◌++◌, append_assoc}
 use lib.IntN.{ℤ}
 use lib.Dec.{eqb, ltb, leb}
@@ -14,16 +14,17 @@ use lib.Seq.{drop-cons, drop_at}
 use borrow.Author.Tests.{leb-false, ltb-false}
 use Rattle.integers.specs.Lists.{All}
 use Rattle.integers.proofs.Lists.{◌▹◌, cond_cases, flag}
-use Rattle.wire.specs.Number.{Bytes, nat_at}
+use Rattle.wire.specs.Number.{Bytes, nat_at, bytes_of}
 use Rattle.wire.specs.Checks.{Check, Fails, refusal, command_checks}
 use Rattle.wire.specs.Part.{Part, Reading, refused, size, checks_at, operands_at, total, read_part}
-use Rattle.wire.specs.Rows.{Progress, Row, row_of, part_of}
+use Rattle.wire.specs.Rows.{Progress, Row, is_among, row_of, part_of}
+use Rattle.wire.specs.Grammar.{Among}
 use Rattle.wire.specs.Refused.{Lowest, RefusedAt, RefusedByItself}
 use Rattle.wire.specs.Outcome.{refuses}
 use Rattle.wire.specs.declared.WriterAnswer.{WriterAnswer}
-use Rattle.wire.proofs.Number.{bytes_drop, bytes_of-nat_at}
-use Rattle.wire.proofs.Part.{own_at, Ways, by_ways}
-use Rattle.wire.proofs.Rest.{only_last}
+use Rattle.wire.proofs.Number.{bytes_drop, nat_at_below, bytes_of-nat_at}
+use Rattle.wire.proofs.Part.{own, own_at, Ways, by_ways}
+use Rattle.wire.proofs.Rest.{no_row_lem, by_bytes}
 use Rattle.wire.proofs.Lowest.{own_refused}
 use Rattle.wire.proofs.Encoding.{after_first}
 use Rattle.wire.proofs.Outcome.{itself_refused, refused_itself}
@@ -43,10 +44,11 @@ use Rattle.bound.proofs.Same.{certificate_same}
 use Rattle.bound.proofs.Accept as CA
 use Rattle.plan.specs.Chosen.{chosen}
 use Rattle.plan.specs.Fits.{Fits, fits}
-use Rattle.plan.specs.Format.{plan_checks, plan_row, plan_part, plan_in_job, plan_by_itself}
-use Rattle.plan.specs.Encoding.{encode_plan}
+use Rattle.plan.specs.Format.{plan_checks, plan_rows, plan_part, plan_in_job, plan_by_itself}
+use Rattle.plan.specs.Encoding.{Encodes, encode_narrow_plan, encode_wide_plan}
 use Rattle.plan.specs.declared.CostAnswer.{CostAnswer}
-use Rattle.plan.specs.Answer.{cost_answer}
+use Rattle.plan.specs.Answer.{plan_bytes, cost_answer}
+use Rattle.plan.proofs.Accept.{narrow_encodes, wide_encodes}
 use Rattle.plan.proofs.Coefficients.{chosen_known}
 use Rattle.plan.proofs.Fits.{register_fits}
 use Rattle.plan.proofs.Lowest.{plan_refused_by_itself, plan_refused as plan_refused_at}
@@ -77,9 +79,8 @@ module _ (t plan : List ℕ) (reg : Register) (p : Part1 t reg) where
 pub misfit : (register plan : List ℕ) → Misfit register plan → cost_call register plan ≡ plan_refused 15
 misfit register plan m = cost_of register plan m.reg m.part_1 15 (misfit_read register plan m)
 
-pub names_first : (register rest : List ℕ) (reg : Register) (fed : ℕ) → Part1 register reg → 2 ^ reg.choices ≤ fed → fed < 2 ^ 32 → cost_call register (encode_plan fed ++ rest) ≡ plan_refused 5
-names_first register rest reg fed p l small =
-    cost_of register (encode_plan fed ++ rest) reg p 5 (plan_stands reg fed rest small 5 (unnamed_checks reg fed rest small l) (λ e. omega arith))
+pub names_first : (register front rest : List ℕ) (reg : Register) (fed : ℕ) → Part1 register reg → 2 ^ reg.choices ≤ fed → fed < 2 ^ 64 → Encodes reg fed front → cost_call register (front ++ rest) ≡ plan_refused 5
+names_first register front rest reg fed p l small e = cost_of register (front ++ rest) reg p 5 (plan_stands reg fed rest 5 (unnamed_checks reg fed l) (λ z. omega arith) front e small)
 
 -- ---- in a job
 
@@ -109,7 +110,7 @@ module _ (job : List ℕ) (position : ℕ) (m : MisfitLast job position) where
       let sch = h.sch in
       let v = h.part_1.conditions in
       let v' = h.part_2.conditions in
-      let plan = encode_plan m.fed ++ m.rest in
+      let plan = m.front ++ m.rest in
       let front = m.register ++ m.scheme in
       let whole : job ≡ front ++ (m.certificate ++ plan) = m.bytes ∙ append_assoc front m.certificate plan in
       let here = there job m.register m.scheme (m.certificate ++ plan) reg sch h.part_1 h.part_2 whole in
@@ -120,17 +121,17 @@ module _ (job : List ℕ) (position : ℕ) (m : MisfitLast job position) where
       ∙ CA.encoding_front reg v sch v' (coefficient reg) h.cert m.certificate plan h.part_3.conditions h.part_3.bytes in
       let size : position ≡ length front + length m.certificate = m.position_is ∙ length-append front m.certificate in
       behind_two job m.register m.scheme (m.certificate ++ plan) reg sch h.part_1 h.part_2 whole plan_last (rw h.no_range refl)
-      ∙ rw (here, third, after, plan_misfit reg m.fed m.rest v.within.choices.few m.inside m.misfit, add-zero, size) refl
+      ∙ rw (here, third, after, plan_misfit reg m.fed m.front m.rest m.encodes v.within.choices.few m.inside m.misfit, add-zero, size) refl
 
 -- or it comes before the certificate
 module _ (job : List ℕ) (position : ℕ) (m : MisfitFirst job position) where
   first_misfit : outcome job ≡ refuses 15 4 position
   first_misfit =
       let h = m.before in
-      let plan = encode_plan m.fed ++ m.rest in
+      let plan = m.front ++ m.rest in
       let here = there job m.register m.scheme plan h.reg h.sch h.part_1 h.part_2 m.bytes in
       behind_two job m.register m.scheme plan h.reg h.sch h.part_1 h.part_2 m.bytes plan_first (rw m.ranged refl)
-      ∙ rw (here, plan_misfit h.reg m.fed m.rest h.part_1.conditions.within.choices.few m.inside m.misfit, add-zero, m.position_is) refl
+      ∙ rw (here, plan_misfit h.reg m.fed m.front m.rest m.encodes h.part_1.conditions.within.choices.few m.inside m.misfit, add-zero, m.position_is) refl
 
 misfit_outcome : (job : List ℕ) (position : ℕ) → MisfitJob job position → outcome job ≡ refuses 15 4 position
 misfit_outcome job position m = ⊎_elim (last_misfit job position) (first_misfit job position) m
@@ -181,6 +182,7 @@ module _ (n : ℕ) (l : 13 < n) where
       ▹ (λ r xs. (λ k. absurd (omega arith)) ▹ (λ k. absurd (omega arith)) ▹ (λ k. absurd (omega arith)) ▹ (λ k. absurd (omega arith)) ▹ tt)
       ▹ (λ r xs. (λ k. absurd (omega arith)) ▹ (λ k. absurd (omega arith)) ▹ (λ k. absurd (omega arith)) ▹ (λ k. absurd (omega arith)) ▹ tt)
       ▹ (λ r xs. (λ k. absurd (omega arith)) ▹ (λ k. absurd (omega arith)) ▹ (λ k. absurd (omega arith)) ▹ tt)
+      ▹ (λ r xs. (λ k. absurd (omega arith)) ▹ (λ k. absurd (omega arith)) ▹ (λ k. absurd (omega arith)) ▹ (λ k. absurd (omega arith)) ▹ tt)
       ▹ (λ r xs. (λ k. absurd (omega arith)) ▹ (λ k. absurd (omega arith)) ▹ (λ k. absurd (omega arith)) ▹ (λ k. absurd (omega arith)) ▹ (λ k. absurd (omega arith)) ▹ tt)
       ▹ (λ r xs. (λ k. absurd (omega arith)) ▹ tt)
       ▹ (λ r xs. (λ k. absurd (omega arith)) ▹ tt)
@@ -219,32 +221,56 @@ room_for P s read at n l e =
     (λ t. flag (ltb (length s - at) (size P (get_or s at 0))) (λ u. absurd (omega (arith, rw (t, u) at e))) (λ u. ltb-false _ _ u))
     (λ t. absurd (omega (arith, rw t at e)))
 
-record Stood (reg : Register) (s : List ℕ) (n : ℕ) : Type 0 where
-  room : 5 ≤ length s
-  byte : get_or s 0 0 ≡ 0x40
-  own_is : refusal (plan_checks reg.choices (nat_at 4 s 1) (fits reg (nat_at 4 s 1))) ≡ n
+-- it is of so many bytes
+record Stood (byte width : ℕ) (reg : Register) (s : List ℕ) (n : ℕ) : Type 0 where
+  room : width + 1 ≤ length s
+  byte_is : get_or s 0 0 ≡ byte
+  own_is : refusal (plan_checks reg.choices (nat_at width s 1) (fits reg (nat_at width s 1))) ≡ n
+
+abbrev EitherStood : Register → List ℕ → ℕ → Type 0
+EitherStood reg s n = Stood 0x40 4 reg s n ⊎ Stood 0x41 8 reg s n
 
 module _ (reg : Register) (s : List ℕ) (n at : ℕ) (l : 2 < n) where
   abbrev P : Part (Progress ℕ)
   P = plan_part reg
 
-  only_plan : (read : Progress ℕ) (k : ℕ) → P.here read (get_or s k 0) ≡ true → get_or s k 0 ≡ 0x40
-  only_plan read k h = only_last (plan_row reg) (get_or s k 0) [] tt read.previous h
+  only_plan : (read : Progress ℕ) (k : ℕ) → P.here read (get_or s k 0) ≡ true → Among (get_or s k 0) plan_bytes
+  unfolding row_of
+  only_plan read k =
+      let b = get_or s k 0 in
+      by_bytes (λ c. is_among read.previous (row_of (plan_rows reg) c).follows ≡ true → Among c plan_bytes) (plan_rows reg) b
+      (λ z h. absurd (false≢true (rw (no_row_lem (plan_rows reg) b z) at h)))
+      ((λ h. inl refl) ▹ (λ h. inr (inl refl)) ▹ tt)
 
-  stands_here : (read : Progress ℕ) → refusal (checks_at P s read 0) ≡ n → Stood reg s n
+  stands_here : (read : Progress ℕ) → refusal (checks_at P s read 0) ≡ n → EitherStood reg s n
   unfolding row_of operands_at total
-  stands_here read f =
-      let (here, own_refused) = own_refused P s read 0 n l f in
-      let byte = only_plan read 0 here in
-      let room : size P 0x40 ≤ length s - 0 = rw byte at (room_for P s read 0 n l f) in
-      record { room = omega (arith, room); byte = byte; own_is = rw (own_at P s read 0 0x40 byte) at own_refused }
+  stands_here read f = by (only_plan read 0 stands.0)
+    where
+      stands : (P.here read (get_or s 0 0) ≡ true) × (refusal (own P s read 0) ≡ n)
+      stands = own_refused P s read 0 n l f
 
-  stood : plan_in_job reg s ≡ refused n at → (at ≡ 0) × Stood reg s n
-  unfolding plan_in_job read_part row_of
+      by : Among (get_or s 0 0) plan_bytes → EitherStood reg s n
+      by (inl e) =
+          let room : size P 0x40 ≤ length s - 0 = rw e at (room_for P s read 0 n l f) in
+          inl (record { room = omega (arith, room); byte_is = e; own_is = rw (own_at P s read 0 0x40 e) at stands.1 })
+      by (inr (inl e)) =
+          let room : size P 0x41 ≤ length s - 0 = rw e at (room_for P s read 0 n l f) in
+          inr (record { room = omega (arith, room); byte_is = e; own_is = rw (own_at P s read 0 0x41 e) at stands.1 })
+      by (inr (inr z)) = absurd z
+
+  -- it is the last command
+  ends_part : (b : ℕ) → Among b plan_bytes → P.last b ≡ true
+  unfolding row_of
+  ends_part b (inl e) = rw e refl
+  ends_part b (inr (inl e)) = rw e refl
+  ends_part b (inr (inr z)) = absurd z
+
+  stood : plan_in_job reg s ≡ refused n at → (at ≡ 0) × EitherStood reg s n
+  unfolding plan_in_job read_part
   stood e = by_ways P s Q ways P.start 0 e refl
     where
       Q : Progress ℕ → ℕ → Reading (Progress ℕ) → Type 0
-      Q read k x = x ≡ refused n at → k ≡ 0 → (at ≡ 0) × Stood reg s n
+      Q read k x = x ≡ refused n at → k ≡ 0 → (at ≡ 0) × EitherStood reg s n
 
       ways : Ways P s Q
       ways = record {
@@ -254,43 +280,58 @@ module _ (reg : Register) (s : List ℕ) (n at : ℕ) (l : 2 < n) where
             let o : m ≡ n = cc in
             let f' : refusal (checks_at P s read 0) ≡ n = rw (z, o) at f in
             (sym i ∙ z, stands_here read f');
-        goes = λ read k x p last rest q z. absurd (true≢false (rw (only_plan read k p.here) at last));
+        goes = λ read k x p last rest q z. absurd (true≢false (sym (ends_part _ (only_plan read k p.here)) ∙ last));
         ends = λ read k p last q z. let c : ◌≡◌ {A = ℕ} 0 1 = cc in absurd (omega arith);
       }
 
 -- so a plan stands there, of the register's choices, which does not fit
 record MisfitRead (reg : Register) (s : List ℕ) (at : ℕ) : Type 0 where
   fed : ℕ
-  rest : List ℕ
   at_start : at ≡ 0
   inside : fed < 2 ^ reg.choices
   misfit : Fits reg fed → ⊥
-  bytes : s ≡ encode_plan fed ++ rest
+  front : List ℕ
+  encodes : Encodes reg fed front
+  rest : List ℕ
+  bytes : s ≡ front ++ rest
+
+checked_15 : (reg : Register) (fed : ℕ) → refusal (plan_checks reg.choices fed (fits reg fed)) ≡ 15 → (fed < 2 ^ reg.choices) × (Fits reg fed → ⊥)
+unfolding plan_checks refusal
+checked_15 reg fed own =
+    flag (leb (2 ^ reg.choices) fed)
+    (λ t. absurd (omega (arith, rw t at own)))
+    (λ t. flag (fits reg fed)
+    (λ f. absurd (omega (arith, rw (t, f) at own)))
+    (λ f. (leb-false _ _ t, λ g. true≢false (sym ((register_fits reg fed).1 g) ∙ f))))
 
 module _ (reg : Register) (s : List ℕ) (at : ℕ) (b : Bytes s) where
-  abbrev read_here : ℕ
-  read_here = nat_at 4 s 1
-
-  checked_15 : refusal (plan_checks reg.choices read_here (fits reg read_here)) ≡ 15 → (read_here < 2 ^ reg.choices) × (Fits reg read_here → ⊥)
-  unfolding plan_checks refusal
-  checked_15 own =
-      flag (leb (2 ^ reg.choices) read_here)
-      (λ t. absurd (omega (arith, rw t at own)))
-      (λ t. flag (fits reg read_here)
-      (λ f. absurd (omega (arith, rw (t, f) at own)))
-      (λ f. (leb-false _ _ t, λ g. true≢false (sym ((register_fits reg read_here).1 g) ∙ f))))
-
-  bytes_are : Stood reg s 15 → s ≡ encode_plan read_here ++ drop 4 (drop 1 s)
-  unfolding encode_plan
-  bytes_are h =
+  -- the command's bytes are those of the number that is read
+  stands_whole : (byte width : ℕ) → Stood byte width reg s 15 → s ≡ (byte ∷ bytes_of width (nat_at width s 1)) ++ drop width (drop 1 s)
+  stands_whole byte width h =
       drop-cons s 0 0 (omega (arith, h.room))
-      ∙ rw (h.byte, bytes_of-nat_at 4 s 1 b (omega (arith, h.room)), take-append-drop 4 (drop 1 s))
+      ∙ rw (h.byte_is, bytes_of-nat_at width s 1 b (omega (arith, h.room)), take-append-drop width (drop 1 s))
+
+  by_stood : (byte width : ℕ) → at ≡ 0 → Stood byte width reg s 15 → Encodes reg (nat_at width s 1) (byte ∷ bytes_of width (nat_at width s 1)) → MisfitRead reg s at
+  by_stood byte width z h e =
+      let (l, d) = checked_15 reg (nat_at width s 1) h.own_is in
+      record {
+        fed = nat_at width s 1;
+        at_start = z;
+        inside = l;
+        misfit = d;
+        front = byte ∷ bytes_of width (nat_at width s 1);
+        encodes = e;
+        rest = drop width (drop 1 s);
+        bytes = stands_whole byte width h;
+      }
 
   misfit_at : plan_in_job reg s ≡ refused 15 at → MisfitRead reg s at
+  unfolding encode_narrow_plan encode_wide_plan
   misfit_at q =
       let (z, h) = stood reg s 15 at (omega arith) q in
-      let (l, d) = checked_15 h.own_is in
-      record { fed = read_here; rest = drop 4 (drop 1 s); at_start = z; inside = l; misfit = d; bytes = bytes_are h }
+      ⊎_elim
+      (λ h. by_stood 0x40 4 z h (narrow_encodes reg (nat_at 4 s 1) (omega (arith, nat_at_below 4 s 1 b))))
+      (λ h. by_stood 0x41 8 z h (wide_encodes reg (nat_at 8 s 1))) h
 
   module _ (n : ℕ) (e : n ≡ 15) where
     misfit_in : RefusedAt (plan_part reg) s n at → MisfitRead reg s at
@@ -328,7 +369,7 @@ only_misfit t s b b' e = go (cost_refusals t s b b' (λ z. absurd (omega arith))
     go (inl f) = absurd (no_register a.number e a.part a.position t f)
     go (inr f) =
         let m = misfit_whole f.before.reg s a.position b' a.number e f.refused in
-        record { reg = f.before.reg; part_1 = f.before.part_1; fed = m.fed; inside = m.inside; misfit = m.misfit; rest = m.rest; bytes = m.bytes }
+        record { reg = f.before.reg; part_1 = f.before.part_1; fed = m.fed; inside = m.inside; misfit = m.misfit; front = m.front; encodes = m.encodes; rest = m.rest; bytes = m.bytes }
 
 -- what is refused behind some bytes is bytes
 behind_bytes : (front s : List ℕ) (position : ℕ) (Refused : List ℕ → ℕ → Type 0) → Bytes s → (k : Behind front s position Refused) → Bytes k.rest
@@ -336,7 +377,7 @@ behind_bytes front s position Refused b k = subst Bytes (ap (drop (length front)
 
 -- the plan at the start of them
 module _ (front s : List ℕ) (position : ℕ) (Refused : List ℕ → ℕ → Type 0) (k : Behind front s position Refused) (reg : Register) (m : MisfitRead reg k.rest k.at) where
-  stands_behind : s ≡ front ++ (encode_plan m.fed ++ m.rest)
+  stands_behind : s ≡ front ++ (m.front ++ m.rest)
   stands_behind = k.job_is ∙ ap (λ x. front ++ x) m.bytes
 
   at_front : position ≡ length front
@@ -360,7 +401,7 @@ module _ (n : ℕ) (e : n ≡ 15) (part at : ℕ) where
       let m = misfit_whole h.reg q at b n e f.refused in
       record {
         sch = h.sch;
-        misfit = record { reg = h.reg; part_1 = h.part_1; fed = m.fed; inside = m.inside; misfit = m.misfit; rest = m.rest; bytes = m.bytes };
+        misfit = record { reg = h.reg; part_1 = h.part_1; fed = m.fed; inside = m.inside; misfit = m.misfit; front = m.front; encodes = m.encodes; rest = m.rest; bytes = m.bytes };
         ranged = f.ranged;
         part_2 = h.part_2;
       }
@@ -444,6 +485,8 @@ only_misfit_in_job s table supplier tally b l e = go (job_refusals.refused s b t
           fed = m.fed;
           inside = m.inside;
           misfit = m.misfit;
+          front = m.front;
+          encodes = m.encodes;
           rest = m.rest;
           bytes = stands_behind front s a.position _ k f.before.reg m;
           position_is = at_front front s a.position _ k f.before.reg m;
@@ -460,6 +503,8 @@ only_misfit_in_job s table supplier tally b l e = go (job_refusals.refused s b t
           fed = m.fed;
           inside = m.inside;
           misfit = m.misfit;
+          front = m.front;
+          encodes = m.encodes;
           rest = m.rest;
           bytes = stands_behind front s a.position _ k f.before.reg m;
           position_is = at_front front s a.position _ k f.before.reg m;

@@ -67,7 +67,7 @@ outside_in_job job table supplier tally at k l c = (table_enough job table suppl
 -- none of part 4 is 13
 plan_never : (reg : Register) (n : ℕ) → n ≡ 13 → All (Never n) (plan_rows reg)
 unfolding plan_checks
-plan_never reg n e = (λ r xs. (λ k. absurd (omega arith)) ▹ (λ k. absurd (omega arith)) ▹ tt) ▹ tt
+plan_never reg n e = (λ r xs. (λ k. absurd (omega arith)) ▹ (λ k. absurd (omega arith)) ▹ tt) ▹ (λ r xs. (λ k. absurd (omega arith)) ▹ (λ k. absurd (omega arith)) ▹ tt) ▹ tt
 
 no_plan : (reg : Register) (n : ℕ) → n ≡ 13 → (s : List ℕ) (at : ℕ) → RefusedAt (plan_part reg) s n at → ⊥
 no_plan reg n e = never n _ (plan_rows reg) (plan_never reg n e) (omega arith)

@@ -1,5 +1,5 @@
 -- What a refusal says and hands back, proved of our calls.
-use Prim.Native.Nat.{ℕ, ◌+◌, ◌≤◌, ◌<◌}
+use Prim.Native.Nat.{ℕ, ◌+◌, ◌<◌}
 use native.Mathlib.Omega.{arith}
 use mathlib.Core.Path.{◌≡◌, refl, sym, ap, ap₂, ◌∙◌}
 use mathlib.Core.Logic.{◌⊎◌, inl, inr, ⊎_elim}
@@ -32,7 +32,6 @@ use Rattle.register.specs.Valid as R
 use Rattle.register.proofs.Accept as Ra
 use Rattle.register.proofs.Lowest.{register_refused, register_refused_by_itself}
 use Rattle.scheme.specs.declared.Scheme.{Scheme}
-use Rattle.scheme.specs.Scheme.{max_variables, variables}
 use Rattle.scheme.specs.Scheme as OfScheme
 use Rattle.scheme.specs.Format.{scheme_in_job, scheme_by_itself}
 use Rattle.scheme.specs.Answer.{open_parts}
@@ -278,8 +277,7 @@ module _ (c : ℕ → ℤ) (reg : Register) (v : R.Valid reg) (sch : Scheme) (v'
   -- where a certificate stands up to `3F`
   table_reached : (k : Certificate) (end : ℕ) → Within reg sch k → Encodes k (take end s) → with_residual c reg sch (commands_in_job reg sch s) lent ≡ with_r c reg sch k lent
   table_reached k end w e =
-      let few : variables reg.choices sch ≤ max_variables = omega (arith, v.within.choices.few, v'.within.products_within) in
-      let q = certificate_front reg sch few v.within.rows.few k (take end s) (drop end s) w e in
+      let q = certificate_front reg sch v'.within.variables_within v.within.rows.few k (take end s) (drop end s) w e in
       ap (λ x. with_residual c reg sch x lent) (ap (commands_in_job reg sch) (sym (take-append-drop end s)) ∙ q)
 
   table_refused_lem : (r : CertificateRefused c reg sch s n at) → with_residual c reg sch (commands_in_job reg sch s) lent ≡ table_refused c reg sch lent r

@@ -1,8 +1,8 @@
 -- Rows, of our calls.
 use Prim.Native.Nat.{ℕ, ◌^◌, ◌<◌}
 use native.Mathlib.Omega.{arith}
-use mathlib.Core.Path.{◌≡◌, refl, sym, ◌∙◌, ap}
-use mathlib.Core.Logic.{inl, inr, ⊎_elim}
+use mathlib.Core.Path.{◌≡◌, refl, sym, ap}
+use mathlib.Core.Logic.{inr}
 use mathlib.Core.List.{List, ◌++◌, append-nil}
 use lib.IntN.{ℤ}
 use lib.ListN.{length}
@@ -15,8 +15,8 @@ use Rattle.register.specs.Register.{fresh, set_rows}
 use Rattle.register.specs.Format.{register_by_itself}
 use Rattle.register.specs.Answer.{register_answer}
 use Rattle.register.specs.Valid.{Valid}
-use Rattle.register.specs.Encoding.{encode_base, encode_length, encode_with_length, encode_without_length, encode_register, SaysRow}
-use Rattle.register.proofs.Canonical.{canonical}
+use Rattle.register.specs.Encoding.{encode_register, SaysRow}
+use Rattle.register.proofs.Canonical.{canonical, encodes_ranges}
 use Rattle.register.proofs.Entries.{rows_none, in_rows}
 use Rattle.register.proofs.Accept as R
 use Rattle.register.proofs.Opened.{opened}
@@ -30,8 +30,9 @@ use Rattle.soundness.specs.Calls.{register_call, cost_call, check_call, job_call
 use Rattle.soundness.specs.BeforeRanges.{without_ranges}
 use Rattle.soundness.specs.Windows.{without_rows}
 use Rattle.soundness.specs.Rows.{RowsRight, ValidBeforeRows, after_before_rows, RowsKept, AsBeforeRows}
-use Rattle.soundness.proofs.Written.{forms}
-use Rattle.soundness.proofs.BeforeRanges.{terms_before, encoded_before}
+use Rattle.soundness.specs.PriceRanges.{after_before_ranges}
+use Rattle.soundness.proofs.Written.{after_same}
+use Rattle.soundness.proofs.BeforeRanges.{terms_before, forms_before}
 use Rattle.soundness.proofs.Windows.{register_valid, accepted_valid, windows_kept}
 use Rattle.soundness.proofs.RowForms.{rows_named}
 use Rattle.soundness.proofs.Misfit.{misfit, names_first, misfit_in_job, only_misfit, only_misfit_in_job}
@@ -83,13 +84,9 @@ module _ (r : Register) where
 
   -- and the bytes
 
-  with_length : encode_with_length (without_rows (without_ranges r)) ≡ after_before_rows (encode_base r.base ++ encode_length r.day_length) r
+  bytes_none : (header : List ℕ) → after_before_ranges header (without_rows r) ≡ after_before_rows header r
   unfolding join_below
-  with_length = rw (encoded_before r) (simp append-nil)
-
-  without_length : encode_without_length (without_rows (without_ranges r)) ≡ after_before_rows (encode_base r.base) r
-  unfolding join_below
-  without_length = rw (encoded_before r) (simp append-nil)
+  bytes_none header = simp append-nil
 
 -- ---- bytes that say no row
 
@@ -114,7 +111,7 @@ rows_kept = record {
   of_register = λ register z. (register_valid register z).within.rows;
   nothing_more = λ register reg x.
       let own = accepted_valid register reg x in
-      let none = accepted_valid (encode_register (without_rows reg)) (without_rows reg) (canonical (without_rows reg)) in (
+      let none = accepted_valid (encode_register (without_rows reg)) (without_rows reg) (canonical (without_rows reg) (encodes_ranges reg x)) in (
         (λ e. let v = own.0 e in (none.1 (none_valid reg v), v.within.rows)),
         (λ (e, w). own.1 (own_valid reg (none.0 e) w)),
       );
@@ -142,10 +139,10 @@ kept_before_rows = record {
   says_row = λ register rest reg p. said_in_job (register ++ rest) (reached 0x1F reg) (length register) (R.register_accepted reg register rest p.conditions p.bytes);
   in_job = as_before_rows_in_job;
   by_itself = as_before_rows;
-  part_1 = λ register reg.
-      let (to, from) = forms (without_rows (without_ranges reg)) register in (
-        (λ p. (before_none reg p.conditions, ⊎_elim (λ e. inl (e ∙ with_length reg)) (λ (day, e). inr (day, e ∙ without_length reg)) (to p.bytes))),
-        (λ (b, e). record { conditions = with_none reg b; bytes = from (⊎_elim (λ e. inl (e ∙ sym (with_length reg))) (λ (day, e). inr (day, e ∙ sym (without_length reg))) e) }),
+  part_1 = λ register reg none.
+      let bytes = λ (v : Valid (without_rows (without_ranges reg))). forms_before (without_rows reg) register v none in (
+        (λ p. let (narrow, e) = (bytes p.conditions).0 p.bytes in (before_none reg p.conditions, narrow, after_same reg (bytes_none reg) register e)),
+        (λ (b, narrow, e). let v = with_none reg b in record { conditions = v; bytes = (bytes v).1 (narrow, after_same reg (λ header. sym (bytes_none reg header)) register e) }),
       );
   part_4_in_job = plan_as_before_rows_in_job;
   part_4_by_itself = plan_as_before_rows;

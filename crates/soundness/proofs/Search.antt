@@ -6,7 +6,7 @@ use mathlib.Core.Logic.{◌↔◌}
 use mathlib.Core.Bool.{false, true≢false}
 use mathlib.Core.List.{List}
 use lib.IntN.{ℤ}
-use lib.Pow.{pow_pos}
+use lib.Pow.{pow_pos, pow_mono}
 use lib.ListN.{length}
 use lib.Signed.{◌≤ℤ◌, ≤ℤ_refl}
 use Rattle.integers.proofs.Lists.{flag}
@@ -171,10 +171,10 @@ module _ (t : List ℕ) (r : Register) (limit : ℕ) (p : Part1 t r) where
       let (said, tested) = none_fit r in
       ((λ e. let (n, l) = to e in (tested n, l)), (λ (n, l). from (said n, l)))
 
-  none_32 : r.choices ≡ 32 → NoneFit r → limit < 2 ^ 32 → search_answer t limit ≡ limit_passed
-  none_32 e n l =
-      let most : suc (visits_of r) ≡ 2 ^ 33 = most_visits r n ∙ ap (λ k. 2 ^ suc k) e in
-      past_limit.1 (omega (arith, most, l))
+  none_32 : 32 ≤ r.choices → NoneFit r → limit < 2 ^ 32 → search_answer t limit ≡ limit_passed
+  none_32 many n l =
+      let few : 33 ≤ suc r.choices = omega (arith, many) in
+      past_limit.1 (omega (arith, most_visits r n, pow_mono few, l))
 
   enough : (plan : ℕ) → plan < 2 ^ r.choices → Fits r plan → 2 ^ suc r.choices ≤ suc limit → (search_answer t limit).number ≡ 0
   enough plan i f l =

@@ -21,10 +21,10 @@ use Rattle.register.specs.Register.{tank, minute, window_tank, fresh, set_window
 use Rattle.register.specs.Format.{register_by_itself}
 use Rattle.register.specs.Answer.{register_answer}
 use Rattle.register.specs.Valid.{Valid, MayFeed, window_at}
-use Rattle.register.specs.Encoding.{Encodes, encode_register, encode_without_length, SaysLength, SaysRow, SaysRange}
+use Rattle.register.specs.Encoding.{Encodes, encode_base, encode_register, SaysLength, SaysRow, SaysRange}
 use Rattle.register.proofs.Accept.{encoding_accepted}
 use Rattle.register.proofs.Entries.{windows_none, rows_none, in_windows}
-use Rattle.register.proofs.Canonical.{canonical}
+use Rattle.register.proofs.Canonical.{canonical, encodes_ranges}
 use Rattle.register.proofs.BeforeWindows.{as_before_windows_in_job, as_before_windows, no_windows}
 use Rattle.register.proofs.Opened.{opened}
 use Rattle.plan.proofs.Answers.{costed, costed_valid, costed_plan}
@@ -38,8 +38,8 @@ use Rattle.soundness.specs.Acceptance.{register_accepted}
 use Rattle.soundness.specs.BeforeRanges.{without_ranges}
 use Rattle.soundness.specs.Jobs.{Accepted, Listed, shown, AcceptedJob}
 use Rattle.soundness.specs.Windows.{InWindow, ChoicesInside, Feeding, KeepsWindows, JobInside, WindowsRight, without_windows, without_rows, ValidBeforeWindows, bytes_before_windows, WindowsKept, AsBeforeWindows}
-use Rattle.soundness.proofs.Written.{unsaid}
-use Rattle.soundness.proofs.BeforeRanges.{terms_before, encoded_before}
+use Rattle.soundness.specs.PriceRanges.{after_before_ranges}
+use Rattle.soundness.proofs.BeforeRanges.{terms_before, unsaid_before}
 use Rattle.soundness.proofs.Jobs.{accepted_job}
 use Rattle.soundness.proofs.Outside.{outside_call, outside_in_job, only_outside_call, only_outside_in_job}
 
@@ -162,9 +162,9 @@ module _ (r : Register) where
     some_choice = b.some_choice;
   }
 
-  bytes_none : encode_without_length (without_windows (without_rows (without_ranges r))) ≡ bytes_before_windows r
+  bytes_none : after_before_ranges (encode_base r.base) (without_windows (without_rows r)) ≡ bytes_before_windows r
   unfolding join_below
-  bytes_none = rw (encoded_before r) (simp append-nil)
+  bytes_none = simp append-nil
 
 -- ---- bytes without a window that say no length, no row and no range
 
@@ -193,7 +193,7 @@ windows_kept = record {
   of_job = job_inside;
   nothing_more = λ register reg x.
       let own = accepted_valid register reg x in
-      let none = accepted_valid (encode_register (without_windows reg)) (without_windows reg) (canonical (without_windows reg)) in (
+      let none = accepted_valid (encode_register (without_windows reg)) (without_windows reg) (canonical (without_windows reg) (encodes_ranges reg x)) in (
         (λ e. let v = own.0 e in (none.1 (none_valid reg v), v.within.windows, inside reg v)),
         (λ (e, w, h). own.1 (own_valid reg (none.0 e) w h)),
       );
@@ -209,9 +209,9 @@ pub kept_before_windows : AsBeforeWindows
 kept_before_windows = record {
   in_job = as_before_windows_in_job;
   by_itself = as_before_windows;
-  part_1 = λ register reg no_length.
-      let one = unsaid (without_windows (without_rows (without_ranges reg))) register no_length in (
-        (λ p. let (day, e) = one.0 p.bytes in (before_none reg day p.conditions, e ∙ bytes_none reg)),
-        (λ (b, e). record { conditions = with_none reg b; bytes = one.1 (b.day, e ∙ sym (bytes_none reg)) }),
+  part_1 = λ register reg no_length none.
+      let bytes = λ (v : Valid (without_windows (without_rows (without_ranges reg)))). unsaid_before (without_windows (without_rows reg)) register v none no_length in (
+        (λ p. let (narrow, day, e) = (bytes p.conditions).0 p.bytes in (before_none reg day p.conditions, narrow, e ∙ bytes_none reg)),
+        (λ (b, narrow, e). let v = with_none reg b in record { conditions = v; bytes = (bytes v).1 (narrow, b.day, e ∙ sym (bytes_none reg)) }),
       );
 }

@@ -150,7 +150,7 @@ module _ (t s q : List ℕ) (k : WithPlan t s q) where
   plain_writes : Writes (plain_call t s q) (own_bytes k.reg k.sch k.fed) own_room
   plain_writes =
       let o = chosen_parts k.part_1 k.part_2 k.choosing in
-      writes_bytes (plain_call t s q) (own_bytes k.reg k.sch k.fed) own_room (λ lent. let (a, b) = parts_accepted t s q lent k.reg k.sch k.fed o in rw (a, b) refl) (plain_bytes c k.reg k.sch k.part_1.conditions k.part_2.conditions)
+      writes_bytes (plain_call t s q) (own_bytes k.reg k.sch k.fed) own_room (λ lent. let (a, b) = parts_accepted t s q lent k.reg k.sch k.fed o in rw (a, b) refl) (plain_bytes c k.reg k.sch k.part_2.conditions)
 
   module _ (lent : List ℕ) (z : (plain_call t s q lent).0.number ≡ 0) where
     plain_reads : Part3 c k.reg k.sch (front (plain_call t s q lent)) (own_certificate k.reg k.sch k.fed)

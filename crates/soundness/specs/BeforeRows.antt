@@ -1,6 +1,6 @@
 -- The cost and the search before registers had rows. The cost: no 15. The search: a walk without a test of full plans, and no 16; what a
--- walk has come to (`Best`), the sum at a partial plan and the test for leaving are those of today. So are the forms of the answers. For a
--- register without rows both are still so.
+-- walk has come to (`Best`), the sum at a partial plan and the test for leaving are those of today. So are the forms of the answers, and what
+-- came later, `15`, `41` and more than 32 choices. For a register without rows both are still so.
 use Rattle.std.specs.Prelude.{ℕ, zero, suc, ◌+◌, ◌^◌, ◌≤◌, ◌≡◌, cond, List, ltb, ℤ}
 use Rattle.wire.specs.Number.{Bytes}
 use Rattle.wire.specs.Outcome.{Outcome, refuses, accepts, given, and_then, answer_by}
@@ -71,7 +71,7 @@ cost_answer_before_rows register plan = answer_by refused_cost accepted_cost (co
 
 pub record CostAsBeforeRows (cost_call : CostCall) : Type 0 where
   -- bytes that say no row, and no range, which came later, are answered as they were, with every plan: refused as part 1 is or as part 4
-  -- is, or given the cost
+  -- is, or given the cost; but for `15`, `41` and more than 32 choices, which came later too and are read as today
   pub answers : (register plan : List ℕ) → (SaysRow register → ⊥) → (SaysRange register → ⊥) → cost_call register plan ≡ cost_answer_before_rows register plan
   -- where the register has no row, 15 is never answered
   pub never_15 : (register plan : List ℕ) → Bytes register → Bytes plan → (register_of register).rows ≡ 0 → (cost_call register plan).number ≡ 15 → ⊥
@@ -79,7 +79,8 @@ pub record CostAsBeforeRows (cost_call : CostCall) : Type 0 where
 pub record SearchAsBeforeRows (search_call : SearchCall) : Type 0 where
   -- without rows the rule comes to what it did, in plan, cost, visits, and in whether a full plan has been met
   pub rule : (c : ℕ → ℤ) (reg : Register) → reg.rows ≡ 0 → search c reg ≡ search_before_rows c reg
-  -- bytes that say no row, and no range, are answered as they were, with every limit: refused as part 1 is, or 14, or given the plan
+  -- bytes that say no row, and no range, are answered as they were, with every limit: refused as part 1 is, or 14, or given the plan; but
+  -- for `15` and more than 32 choices
   pub answers : (register : List ℕ) (limit : ℕ) → (SaysRow register → ⊥) → (SaysRange register → ⊥) → search_call register limit ≡ search_answer_before_rows register limit
   -- where the register has no row, 16 is never answered
   pub never_16 : (register : List ℕ) (limit : ℕ) → Bytes register → (register_of register).rows ≡ 0 → (search_call register limit).number ≡ 16 → ⊥

@@ -1,15 +1,15 @@
 -- R-4, the day's length: what a farm is promised of it, as a predicate of any such calls. No minute that the day does not have is
 -- accepted, and none that it has is out of range. The other calls take a register just where the register call does: `Acceptance`,
 -- `Refusals` and `Writers` say it of parts that meet their conditions.
-use Rattle.std.specs.Prelude.{ℕ, ◌^◌, ◌<◌, ◌≤◌, ◌≡◌, ◌↔◌, List, [], ◌∷◌, ◌++◌, ℤ, pos, nat_abs}
+use Rattle.std.specs.Prelude.{ℕ, Bool, ◌^◌, ◌<◌, ◌≤◌, ◌≡◌, ◌↔◌, List, [], ◌∷◌, ◌++◌, ℤ, pos, nat_abs}
 use Rattle.integers.specs.Lists.{Column, Table}
 use Rattle.wire.specs.Number.{Bytes}
 use Rattle.register.specs.declared.Register.{Register}
 use Rattle.register.specs.declared.RegisterAnswer.{RegisterAnswer}
 use Rattle.register.specs.Limits.{max_choices, max_windows, max_base, max_tank, usual_day, long_day}
 use Rattle.register.specs.Register.{tank, minute, window_from, window_to, set_length}
-use Rattle.register.specs.Valid.{DayLength, Before, MayFeed, window_at}
-use Rattle.register.specs.Encoding.{Encodes, encode_base, encode_length, encode_choice, encode_windows, encode_choices, encode_with_length, encode_without_length, encode_register, HasByte, SaysLength, length_in, SaysRow, SaysRange}
+use Rattle.register.specs.Valid.{DayLength, Before, MayFeed, window_at, Valid}
+use Rattle.register.specs.Encoding.{Encodes, encode_base, encode_length, encode_choice, encode_windows, encode_choices, encode_with_length, encode_without_length, encode_register, HasByte, SaysLength, length_in, SaysRow, SaysRange, MasksNarrow, SaysWide, encode_after}
 use Rattle.register.specs.Ranges.{OutOfRange}
 use Rattle.register.specs.Format.{register_in_job, register_by_itself}
 use Rattle.register.specs.Answer.{refused_answer, register_answer}
@@ -87,7 +87,7 @@ pub record ValidBeforeLengths (r : Register) : Type 0 where
   pub may_feed : (i : ℕ) → i < r.choices → MayFeed r.windows (window_at r) (tank r i) (minute r i)
   pub some_choice : 1 ≤ r.choices
 
--- and its bytes: `10`, each `13`, each `11`, each `12`, `1F`
+-- and its bytes: `10`, each `13`, each `11`, each `12`, `1F`. They are those of the register where every mask is below 2^32
 abbrev pub bytes_before_lengths : Register → List ℕ
 bytes_before_lengths r = encode_base r.base ++ encode_windows r ++ encode_choices r ++ encode_terms_before r ++ (0x1F ∷ [])
 
@@ -122,16 +122,21 @@ pub record LengthsKept (register_call : RegisterCall) (cost_call : CostCall) (jo
       (register_call (encode_with_length reg) ≡ register_accepted reg) ↔ (register_call (encode_without_length reg) ≡ register_accepted reg)
   -- bytes that say no length have the usual one, with rows and ranges or without
   pub usual : (register : List ℕ) → (SaysLength register → ⊥) → UsualDay (register_call register)
-  -- and are answered as they were, accepted or refused, where they say no row and no range, which came later
+  -- and are answered as they were, accepted or refused, where they say no row and no range, which came later; but for `15` and more than 32
+  -- choices, which came later too and are read as today
   pub read_as_before : (register : List ℕ) → (SaysLength register → ⊥) → (SaysRow register → ⊥) → (SaysRange register → ⊥) → register_call register ≡ register_answer (by_itself_before_lengths register)
 
 -- A register that says no length, no row and no range is what it was, of no call in particular: each call reads part 1 at the front of a job or
--- by itself, and what is said of part 1 has its earlier form.
+-- by itself, and what is said of part 1 has its earlier form. `15` and more than 32 choices, which came later too, are read as today.
 pub record AsBeforeLengths : Type 0 where
-  -- bytes that say a length have a byte `18`; and an encoding of a register says one just where it is the one with `18`
+  -- bytes that say a length have a byte `18`. An encoding of a register says one just where it is one of those with `18`, which differ in the
+  -- terms that are said by `15`. And where it says no `15` and the register is valid, it says a length just where it is the writer's with
+  -- `18`, as before there was `15`
   pub length_byte : (s : List ℕ) → SaysLength s → HasByte 0x18 s
-  pub says_length : (register : List ℕ) (reg : Register) → Encodes reg register → SaysLength register ↔ (register ≡ encode_with_length reg)
+  pub says_length : (register : List ℕ) (reg : Register) → Encodes reg register →
+      SaysLength register ↔ ((wide : ℕ → Bool) × (register ≡ encode_after wide (encode_base reg.base ++ encode_length reg.day_length) reg))
+  pub says_length_narrow : (register : List ℕ) (reg : Register) → Valid reg → (SaysWide register → ⊥) → Encodes reg register → SaysLength register ↔ (register ≡ encode_with_length reg)
   pub in_job : (s : List ℕ) → (SaysLength s → ⊥) → (SaysRow s → ⊥) → (SaysRange s → ⊥) → register_in_job s ≡ in_job_before_lengths s
   pub by_itself : (s : List ℕ) → (SaysLength s → ⊥) → (SaysRow s → ⊥) → (SaysRange s → ⊥) → register_by_itself s ≡ by_itself_before_lengths s
-  pub part_1 : (register : List ℕ) (reg : Register) → (SaysLength register → ⊥) →
-      Part1 register (without_rows (without_ranges reg)) ↔ (ValidBeforeLengths reg × (reg.day_length ≡ usual_day) × (register ≡ bytes_before_lengths reg))
+  pub part_1 : (register : List ℕ) (reg : Register) → (SaysLength register → ⊥) → (SaysWide register → ⊥) →
+      Part1 register (without_rows (without_ranges reg)) ↔ (ValidBeforeLengths reg × MasksNarrow reg × (reg.day_length ≡ usual_day) × (register ≡ bytes_before_lengths reg))

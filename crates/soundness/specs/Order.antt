@@ -25,9 +25,9 @@ certificate_order =
     ∷ record { often = once; bytes = 0x3F ∷ [] }
     ∷ []
 
--- part 4: `40`
+-- part 4: `40` or `41`
 abbrev pub plan_order : List Group
-plan_order = record { often = once; bytes = 0x40 ∷ [] } ∷ []
+plan_order = record { often = once; bytes = 0x40 ∷ 0x41 ∷ [] } ∷ []
 
 -- of no call in particular: by these rows each call reads its parts
 pub record InOrders : Type 0 where

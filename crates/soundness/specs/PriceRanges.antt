@@ -7,7 +7,7 @@ use Rattle.wire.specs.Number.{Bytes}
 use Rattle.forms.specs.Table.{table_numbers}
 use Rattle.register.specs.declared.Register.{Register}
 use Rattle.register.specs.Register.{tank, minute, mask, coefficient, high, has_range}
-use Rattle.register.specs.Encoding.{encode_base, encode_length, encode_windows, encode_choices, encode_rows, HasByte, SaysRange}
+use Rattle.register.specs.Encoding.{encode_base, encode_length, encode_windows, encode_choices, encode_rows, HasByte, SaysRange, MasksNarrow, SaysWide}
 use Rattle.register.specs.Limits.{max_base, usual_day}
 use Rattle.register.specs.Valid as R
 use Rattle.register.specs.Answer.{register_answer}
@@ -125,7 +125,8 @@ pub record RangesKept (register_call : RegisterCall) (cost_call : CostCall) (che
   pub plan_unread : (register scheme certificate plan other : List ℕ) (table : List ℤ) → has_range (register_call register).register ≡ false →
       check_call register scheme certificate plan table ≡ check_call register scheme certificate other table
   pub plan_unread_own : (register scheme plan other lent : List ℕ) → has_range (register_call register).register ≡ false → plain_call register scheme plan lent ≡ plain_call register scheme other lent
-  -- bytes that say no range are answered as they were, accepted or refused, with no range, and with every plan
+  -- bytes that say no range are answered as they were, accepted or refused, with no range, and with every plan; but for `15`, `41` and more
+  -- than 32 choices, which came later and are read as today
   pub register_as_before : (register : List ℕ) → (SaysRange register → ⊥) →
       (register_call register ≡ register_answer (by_itself_before_ranges register)) × (without_ranges (register_call register).register ≡ (register_call register).register)
   pub cost_as_before : (register plan : List ℕ) → (SaysRange register → ⊥) → cost_call register plan ≡ cost_before_ranges register plan
@@ -148,7 +149,8 @@ pub record ValidBeforeRanges (r : Register) : Type 0 where
   pub day_length : R.DayLength r.day_length
   pub some_choice : 1 ≤ r.choices
 
--- and its bytes: `10`, `18`, which may be missing where the length is the usual one, each `13`, each `11`, each `14`, each `12`, `1F`
+-- and its bytes: `10`, `18`, which may be missing where the length is the usual one, each `13`, each `11`, each `14`, each `12`, `1F`. They are
+-- those of the register where every mask is below 2^32
 
 abbrev pub after_before_ranges : List ℕ → Register → List ℕ
 after_before_ranges header r = header ++ encode_windows r ++ encode_choices r ++ encode_rows r ++ encode_terms_before r ++ (0x1F ∷ [])
@@ -157,7 +159,8 @@ abbrev pub EncodesBeforeRanges : Register → List ℕ → Type 0
 EncodesBeforeRanges r s =
     (s ≡ after_before_ranges (encode_base r.base ++ encode_length r.day_length) r) ⊎ ((r.day_length ≡ usual_day) × (s ≡ after_before_ranges (encode_base r.base) r))
 
--- A register that says no range is what it was, of no call in particular: each call reads part 1 at the front of a job or by itself.
+-- A register that says no range is what it was, of no call in particular: each call reads part 1 at the front of a job or by itself. `15`, `41`
+-- and more than 32 choices, which came later, are read as today.
 pub record AsBeforeRanges : Type 0 where
   -- bytes that say a range have a byte `16`: all others are as before
   pub range_byte : (s : List ℕ) → SaysRange s → HasByte 0x16 s
@@ -166,4 +169,5 @@ pub record AsBeforeRanges : Type 0 where
   pub in_job : (s : List ℕ) → (SaysRange s → ⊥) → register_in_job s ≡ in_job_before_ranges s
   pub by_itself : (s : List ℕ) → (SaysRange s → ⊥) → register_by_itself s ≡ by_itself_before_ranges s
   pub outcome : (s : List ℕ) → (SaysRange s → ⊥) → outcome s ≡ outcome_before_ranges s
-  pub part_1 : (register : List ℕ) (reg : Register) → Part1 register (without_ranges reg) ↔ (ValidBeforeRanges reg × EncodesBeforeRanges reg register)
+  pub part_1 : (register : List ℕ) (reg : Register) → (SaysWide register → ⊥) →
+      Part1 register (without_ranges reg) ↔ (ValidBeforeRanges reg × MasksNarrow reg × EncodesBeforeRanges reg register)

@@ -108,7 +108,8 @@ module _ (number part at : ℕ) where
     pub before : Before2 register
     pub refused : RefusedByItself (plan_part before.reg) plan number at
 
-  -- the builder, with a register that is right: the command of the term that needs a 33rd product, in whichever form it stands there
+  -- the builder, with a register that is right: the command of the term that needs a 33rd product or a 65th variable, in whichever form it
+  -- stands there
   pub record InTerm (register : List ℕ) : Type 0 where
     pub number_is : number ≡ 10
     pub part_is : part ≡ 1

@@ -14,7 +14,7 @@ use Rattle.register.specs.Limits.{max_base, usual_day}
 use Rattle.register.specs.Register.{tank, minute, row_total, row_entry, has_range}
 use Rattle.register.specs.Valid as R
 use Rattle.register.specs.Valid.{DayLength, Choices, Windows, MayFeed, window_at}
-use Rattle.register.specs.Encoding.{Encodes, encode_base, encode_length, encode_windows, encode_choices, encode_register, HasByte, SaysRow, SaysRange}
+use Rattle.register.specs.Encoding.{Encodes, encode_base, encode_length, encode_windows, encode_choices, encode_register, HasByte, SaysRow, SaysRange, MasksNarrow, SaysWide}
 use Rattle.register.specs.Answer.{register_answer}
 use Rattle.register.specs.Format.{register_in_job, register_by_itself}
 use Rattle.register.specs.BeforeRows.{in_job_before_rows, by_itself_before_rows}
@@ -24,7 +24,6 @@ use Rattle.plan.specs.Fits.{Fits, fed_sum}
 use Rattle.plan.specs.Chosen.{chosen}
 use Rattle.plan.specs.Format.{plan_in_job, plan_by_itself}
 use Rattle.plan.specs.BeforeRows.{plan_in_job_before_rows, plan_by_itself_before_rows}
-use Rattle.plan.specs.Encoding.{encode_plan}
 use Rattle.plan.specs.Encoding as PE
 use Rattle.scheme.specs.declared.Scheme.{Scheme}
 use Rattle.scheme.specs.Filling.{Filling, factor, induced}
@@ -59,7 +58,8 @@ RowsRight r = R.Rows r.choices r.rows r.row_totals r.row_entries
 
 -- ---- an accepted plan
 
--- row k counts the feedings of a tank: its entry is 1 for each choice of the tank and 0 for every other
+-- row k counts the feedings of a tank: its entry is 1 for each choice of the tank and 0 for every other. Choices from 32 on are in no row,
+-- so a row counts no tank that has one of them
 pub record Counts (reg : Register) (k t : ℕ) : Type 0 where
   pub there : k < reg.rows
   pub own : (i : ℕ) → i < reg.choices → tank reg i ≡ t → row_entry reg k i ≡ pos 1
@@ -94,8 +94,10 @@ pub record Misfit (register plan : List ℕ) : Type 0 where
   pub fed : ℕ
   pub inside : fed < 2 ^ reg.choices
   pub misfit : Fits reg fed → ⊥
+  pub front : List ℕ
+  pub encodes : PE.Encodes reg fed front
   pub rest : List ℕ
-  pub bytes : plan ≡ encode_plan fed ++ rest
+  pub bytes : plan ≡ front ++ rest
 
 -- in a job whose register has no range: parts 1 to 3, and at a position such a plan
 pub record MisfitLast (job : List ℕ) (position : ℕ) : Type 0 where
@@ -106,8 +108,10 @@ pub record MisfitLast (job : List ℕ) (position : ℕ) : Type 0 where
   pub fed : ℕ
   pub inside : fed < 2 ^ before.reg.choices
   pub misfit : Fits before.reg fed → ⊥
+  pub front : List ℕ
+  pub encodes : PE.Encodes before.reg fed front
   pub rest : List ℕ
-  pub bytes : job ≡ ((register ++ scheme) ++ certificate) ++ (encode_plan fed ++ rest)
+  pub bytes : job ≡ ((register ++ scheme) ++ certificate) ++ (front ++ rest)
   pub position_is : position ≡ length ((register ++ scheme) ++ certificate)
 
 -- in one whose register has a range: parts 1 and 2, and at a position such a plan
@@ -119,8 +123,10 @@ pub record MisfitFirst (job : List ℕ) (position : ℕ) : Type 0 where
   pub fed : ℕ
   pub inside : fed < 2 ^ before.reg.choices
   pub misfit : Fits before.reg fed → ⊥
+  pub front : List ℕ
+  pub encodes : PE.Encodes before.reg fed front
   pub rest : List ℕ
-  pub bytes : job ≡ (register ++ scheme) ++ (encode_plan fed ++ rest)
+  pub bytes : job ≡ (register ++ scheme) ++ (front ++ rest)
   pub position_is : position ≡ length (register ++ scheme)
 
 abbrev pub MisfitJob : List ℕ → ℕ → Type 0
@@ -215,7 +221,8 @@ pub record ValidBeforeRows (r : Register) : Type 0 where
   pub day_length : DayLength r.day_length
   pub some_choice : 1 ≤ r.choices
 
--- and its bytes: `10`, `18`, which may be missing where the length is the usual one, each `13`, each `11`, each `12`, `1F`
+-- and its bytes: `10`, `18`, which may be missing where the length is the usual one, each `13`, each `11`, each `12`, `1F`. They are those of
+-- the register where every mask is below 2^32
 
 abbrev pub after_before_rows : List ℕ → Register → List ℕ
 after_before_rows header r = header ++ encode_windows r ++ encode_choices r ++ encode_terms_before r ++ (0x1F ∷ [])
@@ -246,8 +253,8 @@ pub record RowsKept (register_call : RegisterCall) (cost_call : CostCall) (check
   pub only_misfit_in_job : (job : List ℕ) (table : List ℤ) (supplier : ℕ) (tally : Tally) → Bytes job → table_numbers ≤ length table →
       (job_call job table supplier tally).0.number ≡ 15 → MisfitJob job (job_call job table supplier tally).0.position
   -- a choice that is not there is refused 5, whether or not the others fit
-  pub names_first : (register rest : List ℕ) (reg : Register) (fed : ℕ) → Part1 register reg → 2 ^ reg.choices ≤ fed → fed < 2 ^ 32 →
-      cost_call register (encode_plan fed ++ rest) ≡ plan_refused 5
+  pub names_first : (register front rest : List ℕ) (reg : Register) (fed : ℕ) → Part1 register reg → 2 ^ reg.choices ≤ fed → fed < 2 ^ 64 → PE.Encodes reg fed front →
+      cost_call register (front ++ rest) ≡ plan_refused 5
   -- a `3B` of a row that is not there is refused 5, and an accepted certificate has none
   pub row_absent : (register scheme certificate plan : List ℕ) (reg : Register) (sch : Scheme) (fed : ℕ) (table : List ℤ) → table_numbers ≤ length table →
       Part1 register reg → Part2 reg scheme sch → Choosing reg plan fed → RowAbsent reg certificate → (check_call register scheme certificate plan table).0 ≡ row_absent
@@ -260,12 +267,14 @@ pub record RowsKept (register_call : RegisterCall) (cost_call : CostCall) (check
   -- and every set of the choices is accepted for its cost, as before there were rows
   pub cost_every : (register plan : List ℕ) (reg : Register) (fed : ℕ) → Part1 register reg → reg.rows ≡ 0 → fed < 2 ^ reg.choices → PE.Encodes reg fed plan →
       cost_call register plan ≡ cost_accepted (cost (chosen reg fed) reg fed)
-  -- bytes that say no row, and no range, which came later, are answered as they were, accepted or refused, with no row
+  -- bytes that say no row, and no range, which came later, are answered as they were, accepted or refused, with no row; but for `15` and more
+  -- than 32 choices, which came later too and are read as today
   pub read_as_before : (register : List ℕ) → (SaysRow register → ⊥) → (SaysRange register → ⊥) →
       (register_call register ≡ register_answer (by_itself_before_rows register)) × (without_rows (register_call register).register ≡ (register_call register).register)
 
 -- A register that says no row and no range is what it was, of no call in particular: each call reads part 1 at the front of a job or by itself, and
--- what is said of part 1, and of part 4 with such a register, has its earlier form.
+-- what is said of part 1, and of part 4 with such a register, has its earlier form. `15`, `41` and more than 32 choices, which came later too,
+-- are read as today.
 pub record AsBeforeRows : Type 0 where
   -- bytes that say a row have a byte `14`: all others are as before
   pub row_byte : (s : List ℕ) → SaysRow s → HasByte 0x14 s
@@ -273,8 +282,9 @@ pub record AsBeforeRows : Type 0 where
   pub says_row : (register rest : List ℕ) (reg : Register) → Part1 register reg → SaysRow (register ++ rest) ↔ (1 ≤ reg.rows)
   pub in_job : (s : List ℕ) → (SaysRow s → ⊥) → (SaysRange s → ⊥) → register_in_job s ≡ in_job_before_rows s
   pub by_itself : (s : List ℕ) → (SaysRow s → ⊥) → (SaysRange s → ⊥) → register_by_itself s ≡ by_itself_before_rows s
-  pub part_1 : (register : List ℕ) (reg : Register) → Part1 register (without_rows (without_ranges reg)) ↔ (ValidBeforeRows reg × EncodesBeforeRows reg register)
-  -- with a register without rows part 4 is read as it was, accepted or refused
+  pub part_1 : (register : List ℕ) (reg : Register) → (SaysWide register → ⊥) →
+      Part1 register (without_rows (without_ranges reg)) ↔ (ValidBeforeRows reg × MasksNarrow reg × EncodesBeforeRows reg register)
+  -- with a register without rows part 4 is read as it was, accepted or refused, but for `41`, which came later
   pub part_4_in_job : (reg : Register) → reg.rows ≡ 0 → (s : List ℕ) → plan_in_job reg s ≡ plan_in_job_before_rows reg s
   pub part_4_by_itself : (reg : Register) → reg.rows ≡ 0 → (s : List ℕ) → plan_by_itself reg s ≡ plan_by_itself_before_rows reg s
   -- part 4 of a register without rows: each choice that is fed is one of the register's, and nothing more is asked of the plan

@@ -8,7 +8,6 @@ use Rattle.std.specs.Prelude.{ℕ, suc, ◌^◌, ◌≤◌, ◌<◌, ◌≡◌, 
 use Rattle.sets.specs.Sets.{is_member}
 use Rattle.wire.specs.Number.{Bytes}
 use Rattle.register.specs.declared.Register.{Register}
-use Rattle.register.specs.Limits.{max_choices}
 use Rattle.register.specs.Register.{coefficient, has_range}
 use Rattle.plan.specs.Plan as P
 use Rattle.plan.specs.Fits.{Fits}
@@ -83,9 +82,10 @@ pub record SearchSound (search_call : SearchCall) (cost_call : CostCall) (check_
   pub none : (register : List ℕ) (reg : Register) (limit : ℕ) → Part1 register reg → (search_call register limit ≡ none_fits) ↔ (NoneFit reg × (visits_of reg ≤ limit))
   -- where no plan fits, nothing is ever left: the visits are the most that there can be
   pub none_visits : (reg : Register) → NoneFit reg → suc (visits_of reg) ≡ 2 ^ suc reg.choices
-  -- so with as many choices as there may be, and no plan that fits, they pass every limit of 32 bits
-  pub none_32 : (register : List ℕ) (reg : Register) (limit : ℕ) → Part1 register reg → reg.choices ≡ max_choices → NoneFit reg → limit < 2 ^ 32 → search_call register limit ≡ limit_passed
-  -- without rows every plan counts, and some limit is enough for every register, as before there were rows
+  -- so with 32 choices or more, and no plan that fits, they pass every limit of 32 bits: 16 is not answered then
+  pub none_32 : (register : List ℕ) (reg : Register) (limit : ℕ) → Part1 register reg → 32 ≤ reg.choices → NoneFit reg → limit < 2 ^ 32 → search_call register limit ≡ limit_passed
+  -- without rows every plan counts, and a limit of 2 to the power (n + 1), less 1, is enough for every register, as before there were rows.
+  -- With 32 choices or more no limit of 32 bits is that high, so none is sure to be enough
   pub cheapest_every : (register : List ℕ) (limit : ℕ) → (register_of register).rows ≡ 0 → (search_call register limit).number ≡ 0 →
       CheapestEvery cost_call register limit (search_call register limit)
   pub enough_every : (register : List ℕ) (reg : Register) (limit : ℕ) → Part1 register reg → reg.rows ≡ 0 → 2 ^ suc reg.choices ≤ suc limit → (search_call register limit).number ≡ 0

@@ -10,7 +10,7 @@ use Rattle.register.specs.declared.Register.{Register}
 use Rattle.register.specs.Limits.{max_windows, max_rows, row_entries, max_base, usual_day}
 use Rattle.register.specs.Register.{tank, minute, window_tank, set_windows, set_rows}
 use Rattle.register.specs.Valid.{Choices, Windows, Inside, window_at}
-use Rattle.register.specs.Encoding.{Encodes, encode_base, encode_choices, encode_register, SaysLength, SaysRow, SaysRange}
+use Rattle.register.specs.Encoding.{Encodes, encode_base, encode_choices, encode_register, SaysLength, SaysRow, SaysRange, MasksNarrow, SaysWide}
 use Rattle.register.specs.Outside.{ChoiceOutside}
 use Rattle.register.specs.Answer.{refused_answer, register_answer}
 use Rattle.register.specs.Format.{register_in_job, register_by_itself}
@@ -85,7 +85,7 @@ pub record ValidBeforeWindows (r : Register) : Type 0 where
   pub terms : TermsBefore r.choices r.terms r.masks r.coefficients
   pub some_choice : 1 ≤ r.choices
 
--- and its bytes: `10`, each `11`, each `12`, `1F`
+-- and its bytes: `10`, each `11`, each `12`, `1F`. They are those of the register where every mask is below 2^32
 abbrev pub bytes_before_windows : Register → List ℕ
 bytes_before_windows r = encode_base r.base ++ encode_choices r ++ encode_terms_before r ++ (0x1F ∷ [])
 
@@ -120,7 +120,7 @@ pub record WindowsKept (register_call : RegisterCall) (cost_call : CostCall) (jo
   pub only_outside_in_job : (job : List ℕ) (table : List ℤ) (supplier : ℕ) (tally : Tally) → Bytes job → table_numbers ≤ length table →
       (job_call job table supplier tally).0.number ≡ 13 → ChoiceOutside job (job_call job table supplier tally).0.position
   -- bytes without a window, whose `13` would stand at 5, are answered as they were, accepted or refused, with no window, where they
-  -- say no day length, no row and no range, which came later
+  -- say no day length, no row and no range, which came later; but for `15` and more than 32 choices, which came later too and are read as today
   pub read_as_before : (register : List ℕ) → (get_or register 5 0 ≡ 0x13 → ⊥) → (SaysLength register → ⊥) → (SaysRow register → ⊥) → (SaysRange register → ⊥) →
       (register_call register ≡ register_answer (by_itself_before_windows register)) × (without_windows (register_call register).register ≡ (register_call register).register)
 
@@ -131,9 +131,10 @@ pub record RefusedOutside : Type 0 where
   pub by_itself : (s : List ℕ) (at : ℕ) → Bytes s → (register_by_itself s ≡ refused 13 at) ↔ ChoiceOutside s at
 
 -- A register without windows that says no day length, no row and no range is what it was, of no call in particular: each call reads part 1 at the
--- front of a job or by itself, and what is said of part 1 has its earlier form.
+-- front of a job or by itself, and what is said of part 1 has its earlier form. `15` and more than 32 choices, which came later too, are
+-- read as today.
 pub record AsBeforeWindows : Type 0 where
   pub in_job : (s : List ℕ) → (get_or s 5 0 ≡ 0x13 → ⊥) → (SaysLength s → ⊥) → (SaysRow s → ⊥) → (SaysRange s → ⊥) → register_in_job s ≡ in_job_before_windows s
   pub by_itself : (s : List ℕ) → (get_or s 5 0 ≡ 0x13 → ⊥) → (SaysLength s → ⊥) → (SaysRow s → ⊥) → (SaysRange s → ⊥) → register_by_itself s ≡ by_itself_before_windows s
-  pub part_1 : (register : List ℕ) (reg : Register) → (SaysLength register → ⊥) →
-      Part1 register (without_windows (without_rows (without_ranges reg))) ↔ (ValidBeforeWindows reg × (register ≡ bytes_before_windows reg))
+  pub part_1 : (register : List ℕ) (reg : Register) → (SaysLength register → ⊥) → (SaysWide register → ⊥) →
+      Part1 register (without_windows (without_rows (without_ranges reg))) ↔ (ValidBeforeWindows reg × MasksNarrow reg × (register ≡ bytes_before_windows reg))

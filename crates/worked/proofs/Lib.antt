@@ -6,3 +6,4 @@ pub mod Relaxed
 pub mod Full
 pub mod Prices
 pub mod Table
+pub mod Large

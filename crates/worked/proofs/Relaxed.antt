@@ -1,7 +1,7 @@
 -- Two jobs and the relaxed problem, those of the examples `relaxed.triangle` and `relaxed.product`. In the first T·D² is reached at a
 -- point where s times the bound, times D², is more, and s·g by itself less; in the second the function is below T·D² at a list that
 -- keeps to every condition on points but that a product is no less than its operands' sum less D.
-use Prim.Native.Nat.{ℕ, ◌≤◌}
+use Prim.Native.Nat.{ℕ, ◌-◌, ◌≤◌}
 use native.Mathlib.Omega.{arith}
 use mathlib.Core.Path.{◌≡◌, refl}
 use mathlib.Core.List.{List, [], ◌∷◌, ◌++◌, map, flat_map}
@@ -26,6 +26,7 @@ use Rattle.wire.specs.Part.{operands_at, total, checks_at, after_at, step, run, 
 use Rattle.wire.specs.Part as P
 use Rattle.wire.specs.Rows.{row_of}
 use Rattle.wire.specs.Outcome.{accepts}
+use Rattle.register.specs.Limits.{max_choices}
 use Rattle.register.specs.Register.{coefficient, set_base, set_choices}
 use Rattle.register.specs.Register as Reg
 use Rattle.register.specs.Format.{base_checks, choice_checks, term_checks, register_in_job}
@@ -75,7 +76,7 @@ triangle =
 abbrev pub triangle_parts : Parts
 triangle_parts = record {
   register = known_terms
-      (set_choices (set_base example_register (pos 1)) 3 (1 ∷ 1 ∷ 1 ∷ replicate 29 0) (480 ∷ 720 ∷ 960 ∷ replicate 29 0))
+      (set_choices (set_base example_register (pos 1)) 3 (1 ∷ 1 ∷ 1 ∷ replicate (max_choices - 3) 0) (480 ∷ 720 ∷ 960 ∷ replicate (max_choices - 3) 0))
       6 (1 ∷ 2 ∷ 3 ∷ 4 ∷ 5 ∷ 6 ∷ replicate 250 0) (negsuc 0 ∷ negsuc 0 ∷ pos 1 ∷ negsuc 0 ∷ pos 1 ∷ pos 1 ∷ replicate 250 (pos 0));
   scheme = record {
     products = 3;
@@ -111,7 +112,7 @@ product =
 abbrev pub product_parts : Parts
 product_parts = record {
   register = known_terms
-      (set_choices (set_base example_register (pos 0)) 2 (1 ∷ 1 ∷ replicate 30 0) (480 ∷ 960 ∷ replicate 30 0))
+      (set_choices (set_base example_register (pos 0)) 2 (1 ∷ 1 ∷ replicate (max_choices - 2) 0) (480 ∷ 960 ∷ replicate (max_choices - 2) 0))
       3 (1 ∷ 2 ∷ 3 ∷ replicate 253 0) (negsuc 0 ∷ negsuc 0 ∷ pos 1 ∷ replicate 253 (pos 0));
   scheme = record {
     products = 1;

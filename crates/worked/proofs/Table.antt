@@ -1,6 +1,6 @@
--- The paper's rows W1 to W9, with the bytes that they are about, and three rows more: weights where two ways lead to a product, a
--- certificate with as many commands as it may have, and a register with a range. −6 is written neg_ℤ (pos 6).
-use Prim.Native.Nat.{ℕ, ◌+◌, ◌≤◌, ◌<◌}
+-- The paper's rows W1 to W9, with the bytes that they are about, and four rows more: weights where two ways lead to a product, a
+-- certificate with as many commands as it may have, a register with a range, and registers with 48 choices. −6 is written neg_ℤ (pos 6).
+use Prim.Native.Nat.{ℕ, suc, ◌+◌, ◌^◌, ◌≤◌, ◌<◌}
 use mathlib.Core.Path.{◌≡◌, refl}
 use mathlib.Core.Bool.{cond}
 use mathlib.Core.List.{List, [], ◌∷◌, ◌++◌, map}
@@ -11,20 +11,24 @@ use Rattle.integers.specs.Lists.{join_below}
 use Rattle.forms.specs.Form.{value}
 use Rattle.forms.specs.Table.{table_numbers}
 use Rattle.wire.specs.Outcome.{accepts, and_then}
+use Rattle.wire.specs.Writer as WriterCall
 use Rattle.register.specs.declared.Register.{Register}
 use Rattle.register.specs.Register.{coefficient}
 use Rattle.register.specs.Format.{register_by_itself}
+use Rattle.register.specs.Limits.{max_choices}
 use Rattle.register.specs.Answer.{register_answer}
+use Rattle.register.specs.Answer as RegisterCall
 use Rattle.register.proofs.Example.{example_register}
 use Rattle.scheme.specs.declared.Scheme.{Scheme}
 use Rattle.scheme.specs.Scheme.{left, right, split_left, split_right}
 use Rattle.scheme.specs.Variables.{E}
 use Rattle.scheme.specs.Filling.{Filling, factor}
 use Rattle.scheme.specs.Answer.{scheme_answer}
+use Rattle.scheme.specs.Answer as SchemeCall
 use Rattle.scheme.proofs.Example.{example_scheme, built_scheme}
 use Rattle.scheme.proofs.Worked as Scheme
 use Rattle.plan.specs.Encoding.{encode_plan}
-use Rattle.plan.specs.Answer.{accepted_cost, cost_answer}
+use Rattle.plan.specs.Answer.{refused_cost, accepted_cost, cost_answer}
 use Rattle.plan.proofs.Worked as Plan
 use Rattle.search.specs.Answer.{search_answer}
 use Rattle.builder.specs.Builder.{build, built}
@@ -52,6 +56,7 @@ use Rattle.listing.specs.Listing.{listing, supplier_listing}
 use Rattle.worked.proofs.Alone as Alone
 use Rattle.worked.proofs.Own.{w7_checked}
 use Rattle.worked.proofs.Full.{many, with_many, full, full_valid}
+use Rattle.worked.proofs.Large.{front, narrow_term, wide_term, back, large_register, large, large_scheme_bytes, large_scheme, pairs, splits_of_pairs, paired_scheme, whole_register, large_read, large_costed, large_fitted, large_scheme_read, large_product, paired_read, whole_built}
 use Rattle.worked.proofs.Prices.{price_register, price_scheme, price_plan, price_own, price_searched, price_costed, price_written, price_checked}
 use Rattle.worked.proofs.Jobs.{lines, counted, counted_last, unknown, jobs, supplier_jobs}
 
@@ -231,6 +236,42 @@ pub record Worked : Type 0 where
       ∷ (0x52 ∷ 0x20 ∷ 0x39 ∷ 0x20 ∷ 0x31 ∷ 0x30 ∷ 0x37 ∷ 0x0A ∷ [])
       ∷ (0x52 ∷ 0x20 ∷ 0x31 ∷ 0x32 ∷ 0x20 ∷ 0x31 ∷ 0x31 ∷ 0x33 ∷ 0x0A ∷ [])
       ∷ []
+  -- 48 choices, a row over the first 32, and a term that names choice 47; its first term in either form; one choice more; and the term once
+  -- more in the other form
+  pub large_read : map (λ s. register_answer (register_by_itself s))
+      (large_register
+      ∷ (front max_choices ++ (wide_term ++ back))
+      ∷ front (suc max_choices)
+      ∷ (front max_choices ++ (narrow_term ++ (wide_term ++ back)))
+      ∷ [])
+      ≡ record { number = 0; part = 0; position = 0; register = large }
+      ∷ record { number = 0; part = 0; position = 0; register = large }
+      ∷ RegisterCall.refused_answer 3 245
+      ∷ RegisterCall.refused_answer 7 289
+      ∷ []
+  -- plans by `41` and by `40`
+  pub large_costed : map (λ p. cost_answer large_register p)
+      ((0x41 ∷ 1 ∷ 0 ∷ 0 ∷ 0 ∷ 0 ∷ 0xC1 ∷ 0 ∷ 0 ∷ [])
+      ∷ (0x41 ∷ 1 ∷ 0 ∷ 0 ∷ 0 ∷ 0 ∷ 0xC0 ∷ 0 ∷ 0 ∷ [])
+      ∷ (0x41 ∷ 1 ∷ 0 ∷ 0 ∷ 0 ∷ 0 ∷ 0xE1 ∷ 0 ∷ 0 ∷ [])
+      ∷ (0x40 ∷ 1 ∷ 0 ∷ 0 ∷ 0 ∷ [])
+      ∷ [])
+      ≡ map accepted_cost (pos 15 ∷ pos 20 ∷ pos 17 ∷ pos 13 ∷ [])
+  -- choice 33 is in no row, and choice 48 is not there
+  pub large_fitted : map (λ p. cost_answer large_register p)
+      ((0x41 ∷ 1 ∷ 0 ∷ 0 ∷ 0 ∷ 2 ∷ 0 ∷ 0 ∷ 0 ∷ [])
+      ∷ (0x40 ∷ 3 ∷ 0 ∷ 0 ∷ 0 ∷ [])
+      ∷ (0x41 ∷ 1 ∷ 0 ∷ 0 ∷ 0 ∷ 0 ∷ 0 ∷ 1 ∷ 0 ∷ [])
+      ∷ [])
+      ≡ accepted_cost (pos 13) ∷ refused_cost 15 4 0 ∷ refused_cost 5 4 0 ∷ []
+  -- the product of choices 46 and 47
+  pub large_scheme_read : scheme_answer large_register large_scheme_bytes ≡ record { number = 0; part = 0; position = 0; scheme = large_scheme }
+  pub large_product : E max_choices large_scheme 48 ≡ 2 ^ 46 + 2 ^ 47
+  -- 64 variables, and one more
+  pub paired_read : map (scheme_answer large_register) ((pairs ++ splits_of_pairs) ∷ (pairs ++ (0x21 ∷ 0 ∷ 1 ∷ splits_of_pairs)) ∷ [])
+      ≡ record { number = 0; part = 0; position = 0; scheme = paired_scheme } ∷ SchemeCall.refused_answer 3 2 48 ∷ []
+  -- the builder stops at a 65th variable
+  pub whole_built : (buffer : List ℕ) → (build_answer whole_register buffer ≡ WriterCall.refused_answer 10 1 280) × (build_buffer whole_register buffer ≡ buffer)
 
 pub worked : Worked
 unfolding join_below
@@ -266,6 +307,13 @@ worked = record {
   price_costed = price_costed;
   price_written = price_written;
   price_checked = price_checked;
+  large_read = large_read;
+  large_costed = large_costed;
+  large_fitted = large_fitted;
+  large_scheme_read = large_scheme_read;
+  large_product = large_product;
+  paired_read = paired_read;
+  whole_built = whole_built;
   w8 = Certificate.w8;
   w9 = λ lent supplier tally k l e. counted lent supplier tally k l e;
   w9_limit = λ lent supplier tally k l e. counted_last lent supplier tally k l e;

@@ -1,6 +1,6 @@
 -- A small job with one tank and with another, and with one coefficient and with another. A farm's listing tells the first two apart,
 -- a supplier's the last two: what is promised of the supplier's listing is not true of every listing, nor with a coefficient hidden.
-use Prim.Native.Nat.{ℕ, zero, suc, ◌≤◌}
+use Prim.Native.Nat.{ℕ, zero, suc, ◌-◌, ◌≤◌}
 use native.Mathlib.Omega.{arith}
 use mathlib.Core.Path.{◌≡◌, refl, sym, ◌∙◌, ap}
 use mathlib.Core.Bool.{Bool, ◌&&◌, true, false, true≢false}
@@ -27,6 +27,7 @@ use Rattle.wire.specs.Rows.{row_of}
 use Rattle.wire.specs.Outcome.{accepts}
 use Rattle.text.specs.Text.{digits_to, digits, decimal, line}
 use Rattle.register.specs.declared.Register.{Register}
+use Rattle.register.specs.Limits.{max_choices}
 use Rattle.register.specs.Register.{set_base, set_choices}
 use Rattle.register.specs.Register as Reg
 use Rattle.register.specs.Format.{base_checks, choice_checks, term_checks, register_in_job}
@@ -71,7 +72,7 @@ job tank coefficient = 0x10 ∷ 0 ∷ 0 ∷ 0 ∷ 0 ∷ 0x11 ∷ tank ∷ 0 ∷ 
 -- the example's register with other base cost, choices and terms
 abbrev register : (tank coefficient : ℕ) → Register
 register tank coefficient = known_terms
-    (set_choices (set_base example_register (pos 0)) 1 (tank ∷ replicate 31 0) (replicate 32 0))
+    (set_choices (set_base example_register (pos 0)) 1 (tank ∷ replicate (max_choices - 1) 0) (replicate max_choices 0))
     1 (1 ∷ replicate 255 0) (pos coefficient ∷ replicate 255 (pos 0))
 
 abbrev scheme : Scheme
