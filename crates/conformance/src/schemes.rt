@@ -5,15 +5,15 @@ use scheme::{Scheme, feedcheck_scheme};
 use vectors::{Differs, Fields};
 
 // The set of a variable, empty where there is no such variable.
-fn set_of(sets: &[u32], v: u8) -> u32 {
+fn set_of(sets: &[u64], v: u8) -> u64 {
     sets.get(usize::from(v)).copied().unwrap_or(0)
 }
 
 // The products, with their sets by what was answered, and past the count zeros.
 fn products(fields: &mut Fields, choices: usize, scheme: &Scheme) -> Result<(), Differs> {
-    let mut sets = [0u32; Scheme::MAX_VARIABLES];
-    for (set, i) in sets.iter_mut().zip(0..u32::BITS).take(choices) {
-        *set = 1u32.wrapping_shl(i);
+    let mut sets = [0u64; Scheme::MAX_VARIABLES];
+    for (set, i) in sets.iter_mut().zip(0..u64::BITS).take(choices) {
+        *set = 1u64.wrapping_shl(i);
     }
     for k in 0..Scheme::MAX_PRODUCTS {
         let l = scheme.lefts[k];
