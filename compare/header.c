@@ -1,6 +1,6 @@
 // The example of the scope through include/feedcheck.h, every call, a register with windows, days of each length, a register with
-// rows, one with ranges, a tally of several suppliers, what a supplier may read, the names and sentences of the refusals, and the
-// version. Prints a line and exits 1 where an answer is another than the scope's.
+// rows, one with ranges, one of 48 choices, a tally of several suppliers, what a supplier may read, the names and sentences of the
+// refusals, and the version. Prints a line and exits 1 where an answer is another than the scope's.
 #include <stddef.h>
 #include <stdio.h>
 #include <string.h>
@@ -158,6 +158,101 @@ static void try_ranges(int64_t *table) {
     expect("ranges, certificate where the plan is due", j.number == 1 && j.part == 4 && j.position == 61 && table[0] == 77);
 }
 
+// Writes a number, the lowest byte first.
+static uint8_t *put(uint8_t *at, uint64_t number, int bytes) {
+    for (int i = 0; i < bytes; i++)
+        *at++ = (uint8_t)(number >> 8 * i);
+    return at;
+}
+
+static uint8_t *put_plan(uint8_t *at, uint64_t plan) {
+    *at++ = 0x41;
+    return put(at, plan, 8);
+}
+
+enum { ALL_CHOICES = 5 + FEEDCHECK_MAX_CHOICES * 5, WIDE = ALL_CHOICES + 35 + 49 * 13 + 1 };
+
+// Base cost 10, and 48 choices, of tanks 1 to 48.
+static uint8_t *put_choices(uint8_t *at) {
+    *at++ = 0x10;
+    at = put(at, 10, 4);
+    for (int tank = 1; tank <= FEEDCHECK_MAX_CHOICES; tank++) {
+        *at++ = 0x11;
+        at = put(at, (uint64_t)tank, 2);
+        at = put(at, 0, 2);
+    }
+    return at;
+}
+
+static uint8_t *put_term(uint8_t *at, int wide, uint64_t mask, int32_t coefficient) {
+    *at++ = wide ? 0x15 : 0x12;
+    at = put(at, mask, wide ? 8 : 4);
+    return put(at, (uint64_t)coefficient, 4);
+}
+
+// A row: just one of choices 0 and 31 is fed. A term of each choice by itself, by 15 where the number is odd or above 31: choice 0
+// costs 4, choice 31 costs 3, choices 32 and 47 save 5 and 1, each other costs 9. Choices 32 and 47 together cost 7.
+static size_t put_wide(uint8_t *bytes) {
+    uint8_t *at = put_choices(bytes);
+    *at++ = 0x14;
+    at = put(at, 1, 2);
+    memset(at, 0, FEEDCHECK_ROW_ENTRIES);
+    at[0] = at[31] = 1;
+    at += FEEDCHECK_ROW_ENTRIES;
+    for (int i = 0; i < FEEDCHECK_MAX_CHOICES; i++)
+        at = put_term(at, i % 2 == 1 || i > 31, UINT64_C(1) << i, i == 0 ? 4 : i == 31 ? 3 : i == 32 ? -5 : i == 47 ? -1 : 9);
+    at = put_term(at, 1, UINT64_C(1) << 47 | UINT64_C(1) << 32, 7);
+    *at++ = 0x1F;
+    return (size_t)(at - bytes);
+}
+
+// What the builder answers to a term of the first so many of 48 choices.
+static FeedcheckWriterAnswer build_term(int degree) {
+    uint8_t bytes[ALL_CHOICES + 14], buffer[FEEDCHECK_MAX_BUILT], *end;
+    end = put_term(put_choices(bytes), 1, (UINT64_C(1) << degree) - 1, 1);
+    *end = 0x1F;
+    return feedcheck_build(bytes, sizeof bytes, buffer, sizeof buffer);
+}
+
+// The cheapest plan that fits feeds choices 31 and 32. A job of it, with our own certificate.
+static void try_wide(int64_t *table) {
+    const uint64_t cheapest = UINT64_C(3) << 31;
+    uint8_t job[WIDE + FEEDCHECK_MAX_BUILT + FEEDCHECK_MAX_PLAIN + 9], plan[9], lines[FEEDCHECK_MAX_LISTING];
+    size_t length = put_wide(job);
+    FeedcheckRegisterAnswer a = feedcheck_register(job, length);
+    expect("48 choices", a.number == 0 && a.reg.choices == FEEDCHECK_MAX_CHOICES && a.reg.tanks[47] == 48 && a.reg.terms == 49 &&
+                             a.reg.masks[0] == 1 && a.reg.masks[1] == 2 && a.reg.masks[47] == UINT64_C(1) << 47 &&
+                             a.reg.masks[48] == UINT64_C(0x800100000000) && a.reg.masks[49] == 0 && a.reg.coefficients[32] == -5 &&
+                             a.reg.row_entries[31] == 1 && a.reg.row_entries[32] == 0);
+    FeedcheckSearchAnswer s = feedcheck_search(job, length, 1000);
+    expect("48 choices, search", s.number == 0 && s.plan == cheapest && s.cost == 8 && s.visits <= 1000);
+    put_plan(plan, cheapest);
+    FeedcheckCostAnswer c = feedcheck_cost(job, length, plan, sizeof plan);
+    expect("48 choices, cost", c.number == 0 && c.cost == 8);
+    c = feedcheck_cost(job, length, plan, sizeof plan - 1);
+    expect("48 choices, a plan cut off", c.number == 2 && c.part == 4 && c.position == 0);
+    put_plan(plan, cheapest | UINT64_C(1) << 48);
+    c = feedcheck_cost(job, length, plan, sizeof plan);
+    expect("48 choices, choice 48", c.number == 5 && c.part == 4 && c.position == 0);
+    FeedcheckWriterAnswer w = feedcheck_build(job, length, job + length, FEEDCHECK_MAX_BUILT);
+    expect("48 choices, build", w.number == 0 && w.count == 49 * 3 + 1);
+    size_t part_3 = length + w.count;
+    w = feedcheck_plain(job, length, job + length, w.count, plan, 0, job + part_3, FEEDCHECK_MAX_PLAIN);
+    expect("48 choices, plain", w.number == 0);
+    uint8_t *end = put_plan(job + part_3 + w.count, cheapest);
+    FeedcheckTally tally;
+    memset(&tally, 0, sizeof tally);
+    FeedcheckJobAnswer j = feedcheck_job(job, (size_t)(end - job), table, FEEDCHECK_TABLE_NUMBERS, 0, tally);
+    expect("48 choices, job", j.number == 0 && j.cost == 8 && j.gap == 8 - j.bound);
+    w = feedcheck_supplier_listing(job, (size_t)(end - job), table, FEEDCHECK_TABLE_NUMBERS, lines, sizeof lines);
+    expect("48 choices, listing", w.number == 0 && w.count > 326 && memcmp(lines + 207, "C 31 1\nC 32 1\n", 14) == 0);
+    // 16 products make 64 variables.
+    w = build_term(18);
+    expect("64 variables", w.number == 0 && w.count == 16 * 3 + 3 + 1);
+    w = build_term(19);
+    expect("a 65th variable", w.number == 10 && w.part == 1 && w.position == ALL_CHOICES && w.count == 0);
+}
+
 // Unequal counters; those of supplier 15 are at the top and one below it.
 static FeedcheckTally unequal(void) {
     FeedcheckTally tally;
@@ -257,6 +352,8 @@ static void try_refusals(void) {
         expect("refusals, no refusal", strcmp(feedcheck_refusal_text((uint8_t)number), none) == 0);
     expect("refusals, misfit",
            strcmp(feedcheck_refusal_text(FEEDCHECK_REFUSED_MISFIT), "the plan does not fit the rows") == 0);
+    expect("refusals, products", strcmp(feedcheck_refusal_text(FEEDCHECK_REFUSED_NO_PRODUCT_LEFT),
+                                        "the builder needs a 33rd product or a 65th variable") == 0);
 }
 
 static void try_version(void) {
@@ -291,9 +388,10 @@ int main(void) {
     try_days();
     try_rows();
     try_ranges(table);
+    try_wide(table);
     // The places that docs/LINKING.md speaks of.
-    expect("record", sizeof a == 4168 && sizeof a.reg == 4152 && offsetof(FeedcheckRegister, day_length) == 4 &&
-                         offsetof(FeedcheckRegister, choices) == 8);
+    expect("record", sizeof a == 5256 && sizeof a.reg == 5240 && offsetof(FeedcheckRegister, day_length) == 4 &&
+                         offsetof(FeedcheckRegister, choices) == 8 && offsetof(FeedcheckRegister, masks) == 216);
     FeedcheckSchemeAnswer b = feedcheck_scheme(JOB, REGISTER, scheme, SCHEME);
     expect("scheme", b.number == 0 && b.scheme.products == 2 && b.scheme.splits == 3 && b.scheme.rights[1] == 3 &&
                          b.scheme.split_lefts[2] == 4);
@@ -335,8 +433,8 @@ int main(void) {
     try_refusals();
     try_version();
     if (!failed)
-        printf("header %s: the example, the windows, the days, the rows, the ranges, the suppliers and their listing are answered as "
-               "the scope says, and each refusal has its name and sentence\n",
+        printf("header %s: the example, the windows, the days, the rows, the ranges, the 48 choices, the suppliers and their listing "
+               "are answered as the scope says, and each refusal has its name and sentence\n",
                FEEDCHECK_VERSION);
     return failed;
 }

@@ -26,7 +26,8 @@
  * its own: that it is accepted does not say that this is the farm's (docs/REFUSALS.md, "What an accepted job does not say").
  *
  * WHAT A CALL IS GIVEN. Every call is a function of what it is given: it keeps nothing and allocates nothing, so threads may make
- * calls at the same time. A thread that calls feedcheck_plain or feedcheck_search wants a stack of 128 KB or more.
+ * calls at the same time. A thread that calls feedcheck_search wants a stack of 256 KB or more, and one that
+ * calls feedcheck_plain 128 KB.
  *
  * A run of bytes is a pointer and a length. A pointer is never null, also where the length is 0; a table is aligned as int64_t.
  * A table or buffer is lent to a call to write in, and overlaps nothing else that the call is given. A table has at least
@@ -63,18 +64,19 @@ extern "C" {
  * is that of the last change that users asked for (docs/changes/R-NUMBER.md), and the patch number counts what came after it.
  * Before 1.0 a new minor number may change calls and records, a new patch number does not. docs/LINKING.md tells what a program
  * must change, under "Programs compiled with an earlier header". */
-#define FEEDCHECK_VERSION "0.9.0"
+#define FEEDCHECK_VERSION "0.10.0"
 #define FEEDCHECK_VERSION_MAJOR 0
-#define FEEDCHECK_VERSION_MINOR 9
+#define FEEDCHECK_VERSION_MINOR 10
 #define FEEDCHECK_VERSION_PATCH 0
 
 enum {
-    FEEDCHECK_MAX_CHOICES = 32,     /* the most choices of a register, */
+    FEEDCHECK_MAX_CHOICES = 48,     /* the most choices of a register, */
     FEEDCHECK_MAX_TERMS = 256,      /* terms, and so splits of a scheme, */
     FEEDCHECK_MAX_WINDOWS = 64,     /* windows, of all tanks together, */
     FEEDCHECK_MAX_ROWS = 8,         /* and rows */
-    FEEDCHECK_ROW_ENTRIES = 32,     /* entries of a row, one for each choice that a register may have */
-    FEEDCHECK_MAX_PRODUCTS = 32,    /* the most products of a scheme */
+    FEEDCHECK_ROW_ENTRIES = 32,     /* entries of a row, for choices 0 to 31; choices from 32 on are in no row */
+    FEEDCHECK_MAX_PRODUCTS = 32,    /* the most products of a scheme, */
+    FEEDCHECK_MAX_VARIABLES = 64,   /* and variables, choices and products together, so fewer products of more than 32 choices */
     FEEDCHECK_SHORT_DAY = 1380,     /* the lengths of a day in minutes: when the clocks go forward, */
     FEEDCHECK_USUAL_DAY = 1440,     /* when they are left alone, and where a register says no length, */
     FEEDCHECK_LONG_DAY = 1500,      /* when they go back */
@@ -82,8 +84,8 @@ enum {
     FEEDCHECK_MAX_BUILT = 865,      /* a buffer of so many bytes is enough for every scheme that is built, */
     FEEDCHECK_MAX_PLAIN = 1294,     /* for every certificate that feedcheck_plain writes, */
     FEEDCHECK_MAX_LISTING = 4096,   /* for every listing, the farm's and the supplier's */
-    FEEDCHECK_MAX_JOB = 27061,      /* no job of more bytes is accepted */
-    FEEDCHECK_MAX_JOB_READ = 27195  /* a longer job is answered as its first so many bytes are */
+    FEEDCHECK_MAX_JOB = 27097,      /* no job of more bytes is accepted */
+    FEEDCHECK_MAX_JOB_READ = 27231  /* a longer job is answered as its first so many bytes are */
 };
 
 /* How many suppliers a tally counts apart; their numbers begin at 0. A macro, so that #ifdef tells headers without suppliers. */
@@ -136,7 +138,7 @@ static inline const char *feedcheck_refusal_text(uint8_t number) {
     case FEEDCHECK_REFUSED_FALLS_SHORT:
         return "the certificate does not carry its target";
     case FEEDCHECK_REFUSED_NO_PRODUCT_LEFT:
-        return "the builder needs a 33rd product";
+        return "the builder needs a 33rd product or a 65th variable";
     case FEEDCHECK_REFUSED_TOO_SHORT:
         return "a lent table or buffer is short";
     case FEEDCHECK_REFUSED_PAST_END:
@@ -164,18 +166,19 @@ static inline const char *feedcheck_refusal_text(uint8_t number) {
  * and then by minute.
  * Term number t is of each choice i for which bit i of masks[t] is set, at least one. Masks rise. Where ranged[t] is false its
  * coefficient is coefficients[t], which is not 0, and highs[t] is the same number. Where ranged[t] is true the term has a range,
- * from coefficients[t] to highs[t]; each may be 0, and they may be equal. Coefficients, low and high, are -1,000,000 to 1,000,000.
+ * from coefficients[t] to highs[t]; each may be 0, and they may be equal, and it is of choices 0 to 31. Coefficients, low and high,
+ * are -1,000,000 to 1,000,000.
  * Window number w is of the tank window_tanks[w]: window_froms[w] is its first minute, window_tos[w] the first minute after it.
  * Where a tank has no window, every minute of the day is allowed. Windows rise by tank and then by first minute; they may overlap.
- * Row number k has the total row_totals[k], -4,064 to 4,064, and for choice j the entry row_entries[FEEDCHECK_ROW_ENTRIES * k + j],
- * -128 to 127, 0 where there is no choice j. A plan fits where, for each row, the entries of the choices that it feeds add up to
- * the row's total. */
+ * Row number k has the total row_totals[k], -4,064 to 4,064, and for each choice j below FEEDCHECK_ROW_ENTRIES the entry
+ * row_entries[FEEDCHECK_ROW_ENTRIES * k + j], -128 to 127, 0 where there is no choice j; choices from FEEDCHECK_ROW_ENTRIES on are
+ * in no row. A plan fits where, for each row, the entries of the choices that it feeds add up to the row's total. */
 typedef struct {
     int32_t base;
     uint16_t day_length;
     size_t choices, terms;
     uint16_t tanks[FEEDCHECK_MAX_CHOICES], minutes[FEEDCHECK_MAX_CHOICES];
-    uint32_t masks[FEEDCHECK_MAX_TERMS];
+    uint64_t masks[FEEDCHECK_MAX_TERMS];
     int32_t coefficients[FEEDCHECK_MAX_TERMS], highs[FEEDCHECK_MAX_TERMS];
     bool ranged[FEEDCHECK_MAX_TERMS];
     size_t windows;
@@ -199,7 +202,8 @@ static inline bool feedcheck_has_range(const FeedcheckRegister *reg) {
 }
 
 /* What a scheme says. Variables 0 to n - 1 are the register's n choices, and variable n + k is product number k: 1 where both its
- * operands are 1, which are the variables lefts[k] and rights[k], with lefts[k] < rights[k] < n + k.
+ * operands are 1, which are the variables lefts[k] and rights[k], with lefts[k] < rights[k] < n + k. n and products together are at
+ * most FEEDCHECK_MAX_VARIABLES.
  * There are as many splits as the register has terms. Term number t is the product of the variables split_lefts[t] and
  * split_rights[t], the left at most the right; where they are the same it is that variable. Entries past the counts are 0. */
 typedef struct {
@@ -246,13 +250,14 @@ typedef struct {
     int64_t cost;
 } FeedcheckCostAnswer;
 
-/* plan: bit i is set where choice i is fed. cost: with the low coefficients where there are ranges. visits: the partial plans that
- * the search came to, the empty one, full ones and those that it left at once included; with n choices never more than 2 to the
- * power (n + 1), less 1. */
+/* plan: bit i is set where choice i is fed. As part 4 it is the byte 0x40 and the lower 4 bytes of it where the others are 0, else
+ * 0x41 and all 8, the lowest first. cost: with the low coefficients where there are ranges. visits: the partial plans that the search
+ * came to, the empty one, full ones and those that it left at once included; with n choices never more than 2 to the power (n + 1),
+ * less 1. */
 typedef struct {
     uint8_t number, part;
     size_t position;
-    uint32_t plan;
+    uint64_t plan;
     int64_t cost;
     uint32_t visits;
 } FeedcheckSearchAnswer;
@@ -290,7 +295,7 @@ FeedcheckRegisterAnswer feedcheck_register(const uint8_t *reg, size_t reg_length
 FeedcheckSchemeAnswer feedcheck_scheme(const uint8_t *reg, size_t reg_length, const uint8_t *scheme, size_t scheme_length);
 
 /* Builds a scheme of a register and writes its bytes. Refused 10, in part 1 at the command of the term, where a term needs a 33rd
- * product. libbuilder.a */
+ * product, or one that is the 65th variable. libbuilder.a */
 FeedcheckWriterAnswer feedcheck_build(const uint8_t *reg, size_t reg_length, uint8_t *buffer, size_t buffer_length);
 
 /* The cost of a plan, the bytes of part 4, of a range with the high coefficient. Refused 15, at the plan's command, where the plan

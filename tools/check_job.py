@@ -26,7 +26,7 @@ class Refused(Exception):
 
 
 class Job:
-    """A job, read part by part. A term is a mask, its low coefficient and its high one, which are the same for a `12`."""
+    """A job, read part by part. A term is a mask, its low coefficient and its high one, which are the same for a `12` and a `15`."""
 
     def __init__(self, job):
         self.job, self.at, self.next, self.part = job, 0, 0, 1
@@ -56,7 +56,7 @@ class Job:
             before_terms = [] if self.terms else [0x14]
             before_rows = [] if self.terms or self.rows else [0x11]
             before_choices = [] if self.terms or self.rows or self.choices else [0x13]
-            byte, v = self.take(0x12, 0x16, 0x1F, *after_base, *before_choices, *before_rows, *before_terms)
+            byte, v = self.take(0x12, 0x15, 0x16, 0x1F, *after_base, *before_choices, *before_rows, *before_terms)
             after_base = []
             if byte == 0x18:
                 self.need(v["length"] in DAYS, 4)
@@ -68,7 +68,7 @@ class Job:
                 self.need(not self.windows or self.windows[-1][:2] < (v["tank"], v["from"]), 7)
                 self.windows.append((v["tank"], v["from"], v["to"]))
             elif byte == 0x11:
-                self.need(len(self.choices) < 32, 3)
+                self.need(len(self.choices) < 48, 3)
                 self.need(1 <= v["tank"] <= 9_999 and v["minute"] < self.day, 4)
                 choice = v["tank"], v["minute"]
                 self.need(not self.choices or self.choices[-1] < choice, 7)
@@ -81,7 +81,7 @@ class Job:
                 self.need(abs(v["b"]) <= 4_064, 4)
                 self.need(not any(entries[len(self.choices):]), 5)
                 self.rows.append((v["b"], entries))
-            elif byte == 0x12:
+            elif byte in (0x12, 0x15):
                 self.need(len(self.terms) < 256, 3)
                 self.need(1 <= abs(v["coefficient"]) <= 1_000_000, 4)
                 self.term(v["mask"], v["coefficient"], v["coefficient"])
@@ -110,7 +110,7 @@ class Job:
                 return
             l, r, k = v["l"], v["r"], len(self.sets)
             if byte == 0x21:
-                self.need(len(self.products) < 32, 3)
+                self.need(len(self.products) < 32 and k < 64, 3)
                 self.need(l < k and r < k, 5)
                 self.need(l < r, 6)
                 self.need(self.sets[l] | self.sets[r] not in self.sets, 8)
@@ -219,7 +219,7 @@ class Job:
         return [row[i] + abs(row[i]) - sum(map(abs, row)) for i, row in enumerate(self.table)]
 
     def plan(self):
-        _, v = self.take(0x40)
+        _, v = self.take(0x40, 0x41)
         self.need(v["fed"] < 1 << len(self.choices), 5)
         self.need(self.fits(v["fed"]), 15)
         self.fed = v["fed"]

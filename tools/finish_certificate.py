@@ -39,7 +39,7 @@ class Unfinished(Exception):
 
 class Given(Job):
     """A job whose certificate is to be finished: its target and squares are not looked at, and its table is B for T = 0. The multipliers
-    are added up by their command byte and what they name."""
+    are added up by their command byte and what they name. What stands before the certificate and behind it stays, byte for byte."""
 
     def scale(self, v):
         super().scale({**v, "T": 0})
@@ -53,11 +53,11 @@ class Given(Job):
         pass
 
     def carry(self):
-        pass
+        self.behind = self.next
 
     def with_certificate(self, target, sums, squares):
-        scale, plan = encode(0x30, {"s": self.s, "T": target}), b"" if self.ranged else encode(0x40, {"fed": self.fed})
-        return self.front + scale + b"".join(commands(sums)) + b"".join(squares) + b"\x3F" + plan
+        scale, end = encode(0x30, {"s": self.s, "T": target}), b"\x3F"
+        return self.front + scale + b"".join(commands(sums)) + b"".join(squares) + end + self.job[self.behind:]
 
 
 def limit(byte):

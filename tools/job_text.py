@@ -11,10 +11,12 @@
 A line is a command: position, part, command byte, name, operands, and in parentheses what they mean. `make` looks only at the command byte
 and the operands, so positions need not be mended after a change, and in lines written by hand `-` may stand in their place; it passes over
 empty lines and lines that begin with `#`. A number may be decimal, hexadecimal (0x7) or binary (0b111). A square's entries are c for the
-constant and z0 to z63 for the variables, those of a row of the register z0 to z31 for the choices; those that are 0 are left out. A range
-is a term with a low and a high coefficient; "at high" stands behind a plan with the ranges whose choices it feeds, of which the high one
-counts beside it. A time is hours and minutes since the day began, 24:59 for the last minute of a day of 25 hours; it is left out where the
-minute is not one of the day, whose length is that of the `18` directly after `10`, or the usual one.
+constant and z0 to z63 for the variables, those of a row of the register z0 to z31 for the first 32 choices; those that are 0 are left out.
+`12` and `40` have 32 bits for a mask or a plan, `15` and `41` have 64. The command byte says which of the two a term or a plan is, also
+where the number has room in either. A range is a term with a low and a high coefficient; "at high" stands behind a plan with the ranges
+whose choices it feeds, of which the high one counts beside it. A time is hours and minutes since the day began, 24:59 for the last minute
+of a day of 25 hours; it is left out where the minute is not one of the day, whose length is that of the `18` directly after `10`, or the
+usual one.
 Where a file begins with a command of part 2, 3 or 4, only that is said which holds whatever register stands before it. A scheme, a
 certificate or a plan is explained in full behind its register (`cat my.register my.scheme > both`, and `show both`).
 From the first byte that is no command, or begins a command that is cut off, or stands after the job's end, the bytes are shown as they
@@ -23,7 +25,8 @@ it is right. What stands behind part 3 is NAME.plan. Where part 1 has a range, t
 NAME.certificate. So the four files, one after the other in the job's order of parts, are the job.
 
 LINES is what `cheapest` or `feedcheck` prints. Each line `F tank minute` feeds the choice of part 1 of REGISTER that has this tank and
-this minute; lines that begin with T, S or B, and empty ones, are passed over. Of the register `plan` looks only at the choices.
+this minute; lines that begin with T, S or B, and empty ones, are passed over. Of the register `plan` looks only at the choices. It writes
+`40` where no choice from 32 on is fed, else `41`.
 
 The exit status is 0, or 2 where that can't be done; one line on standard error then says why, and nothing is on standard output.
 Where a part has no end, or NAME is empty or ends with /, `cut` writes no file.
@@ -40,7 +43,7 @@ SHORT_DAY, USUAL_DAY, LONG_DAY = 1_380, 1_440, 1_500
 DAYS = SHORT_DAY, USUAL_DAY, LONG_DAY
 
 # command byte: part, name, operands; an operand is a name, a width in bytes and whether it is signed
-U8, U16, U32, I8, I16, I32, I64 = (1, False), (2, False), (4, False), (1, True), (2, True), (4, True), (8, True)
+U8, U16, U32, U64, I8, I16, I32, I64 = (1, False), (2, False), (4, False), (8, False), (1, True), (2, True), (4, True), (8, True)
 SQUARE = ["c"] + [f"z{i}" for i in range(64)]
 ROW = [f"z{i}" for i in range(32)]
 COMMANDS = {
@@ -49,6 +52,7 @@ COMMANDS = {
     0x12: (1, "term", [("mask", U32), ("coefficient", I32)]),
     0x13: (1, "window", [("tank", U16), ("from", U16), ("to", U16)]),
     0x14: (1, "row", [("b", I16)] + [(name, I8) for name in ROW]),
+    0x15: (1, "term", [("mask", U64), ("coefficient", I32)]),
     0x16: (1, "range", [("mask", U32), ("low", I32), ("high", I32)]),
     0x18: (1, "day", [("length", U16)]),
     0x1F: (1, "end", []),
@@ -69,19 +73,20 @@ COMMANDS = {
     0x3B: (3, "add", [("row", U8), ("i", U8), ("m", I64)]),
     0x3F: (3, "end", []),
     0x40: (4, "plan", [("fed", U32)]),
+    0x41: (4, "plan", [("fed", U64)]),
 }
 HEXADECIMAL = ("mask", "fed")
 # operands on which the supplier's lines of an accepted job do not depend
 HIDDEN = ("tank", "minute", "from", "to")
 # command byte: entries that are left out where they are 0
 ENTRIES = {0x14: ROW, 0x3A: SQUARE}
-# the parts in the order in which a job has them, without a range in part 1 and with one, and the command that ends each
+# the parts in the order in which a job has them, without a range in part 1 and with one, and the commands of which one ends each
 USUAL_ORDER, RANGED_ORDER = (1, 2, 3, 4), (1, 2, 4, 3)
-ENDS = {1: 0x1F, 2: 0x2F, 3: 0x3F, 4: 0x40}
+ENDS = {1: (0x1F,), 2: (0x2F,), 3: (0x3F,), 4: (0x40, 0x41)}
 # the names that `cut` gives the files of the four parts
 PARTS = {1: "register", 2: "scheme", 3: "certificate", 4: "plan"}
 # the choices of a register, whose fed ones have a bit each in the plan's mask
-MOST_CHOICES = 32
+MOST_CHOICES = 48
 # what looks like a minus sign and is none in a number here
 NO_MINUS = "\u2010\u2011\u2012\u2013\u2014\u2015\u207b\u2212\u2796\ufe58\ufe63\uff0d"
 
@@ -113,6 +118,11 @@ def encode(byte, values):
     return b"".join(parts)
 
 
+def plan_command(fed):
+    """The bytes of a plan, in the form that a writer takes: `40` where the choices that are fed have room in it, else `41`."""
+    return encode(0x41 if fed >> 32 else 0x40, {"fed": fed})
+
+
 def commands(job):
     """The position and byte of each command, up to the first byte that is none, or begins one that is cut off, or stands after the end of
     the job, which is the plan, or, where a range was met, the end of part 3."""
@@ -121,7 +131,7 @@ def commands(job):
         yield at, job[at]
         if job[at] == 0x16:
             last = ENDS[RANGED_ORDER[-1]]
-        at = len(job) if job[at] == last else at + size(job[at])
+        at = len(job) if job[at] in last else at + size(job[at])
 
 
 def order_of(job):
@@ -132,7 +142,7 @@ def order_of(job):
 def choices_of(mask):
     if mask is None:
         return "names what is not there"
-    return "choices " + " ".join(str(i) for i in range(32) if mask >> i & 1) if mask else "no choice"
+    return "choices " + " ".join(str(i) for i in range(mask.bit_length()) if mask >> i & 1) if mask else "no choice"
 
 
 def time_of(minute):
@@ -219,7 +229,7 @@ class Meaning:
             time = f", {time_of(v['minute'])}" if v["minute"] < self.day else ""
             outside = ", in no window of its tank" if self.outside(v["tank"], v["minute"]) else ""
             return f"choice {len(self.sets) - 1}{time}{outside}"
-        if byte in (0x12, 0x16):
+        if byte in (0x12, 0x15, 0x16):
             if byte == 0x16:
                 self.ranges[self.terms] = v["mask"]
             self.terms += 1
@@ -254,7 +264,7 @@ class Meaning:
             return self.form(byte, v)
         if byte == 0x3B:
             return "" if self.is_apart else self.row_form(v)
-        if byte == 0x40:
+        if byte in (0x40, 0x41):
             return choices_of(v["fed"]) + self.at_high(v["fed"]) + "".join(f", does not fit row {k}" for k in self.unfit(v["fed"]))
         return ""
 
@@ -264,8 +274,9 @@ def show(job):
     meaning, end, lines = Meaning(), 0, []
     for at, byte in commands(job):
         values, end = operands(job, at), at + size(byte)
-        part, name, _ = COMMANDS[byte]
-        shown = [f"{f} 0x{x:08X}" if f in HEXADECIMAL else f"{f} {x}" for f, x in values.items() if x or f not in ENTRIES.get(byte, ())]
+        part, name, forms = COMMANDS[byte]
+        named = [(f, values[f], width) for f, (width, _) in forms if values[f] or f not in ENTRIES.get(byte, ())]
+        shown = [f"{f} 0x{x:0{2 * width}X}" if f in HEXADECIMAL else f"{f} {x}" for f, x, width in named]
         said = meaning.after(byte, values)
         lines.append("  ".join([f"{at:05}", str(part), f"{byte:02X} {name:8}"] + shown + ([f"({said})"] if said else [])).rstrip())
     for start in range(end, len(job), 16):
@@ -374,7 +385,7 @@ def cut(job):
         part = order[len(parts)]
         if part == order[-1] or COMMANDS[byte][0] != part:
             break
-        if byte == ENDS[part]:
+        if byte in ENDS[part]:
             end = at + size(byte)
             parts.append(job[start:end])
             start = end
@@ -458,7 +469,7 @@ def plan_of(register, file):
     if lines is None:
         raise Trouble(f"{file}: bytes where lines of cheapest or feedcheck are due")
     try:
-        return encode(0x40, {"fed": fed_by(lines, [[str(v["tank"]), str(v["minute"])] for v in found], register)})
+        return plan_command(fed_by(lines, [[str(v["tank"]), str(v["minute"])] for v in found], register))
     except Trouble as trouble:
         raise Trouble(f"{file}: {trouble}") from None
 

@@ -3,8 +3,10 @@
 other tanks and minutes, five times; each time the supplier's lines must stay and the farm's must not. A job that is refused must have its
 one line in both, and R is there to be printed exactly where `3F` is reached. Of each with ranges that has the gap 0 no plan that fits may
 cost less than its plan, whether a range is at its low or at its high, and no plan that fits less than the bound, with the coefficients
-that count. Then the two listings side by side, of one job of each kind, and of the pair of jobs in `examples` that differ only in tanks,
-minutes and windows; and jobs with ranges, right ones and others, with the last line of each, which was worked out by hand.
+that count; the least cost is that of all plans, or with more than 16 choices what the search of tools/cheapest.py finds. Then the two
+listings side by side, of one job of each kind, and of the pair of jobs in `examples` that differ only in tanks, minutes and windows; and
+jobs with ranges, and jobs with many choices or with the commands `15` and `41`, right ones and others, with the last line of each, which
+was worked out by hand.
 
     tools/test_check_job.py [FOLDER ..]
 """
@@ -15,11 +17,15 @@ import sys
 
 sys.dont_write_bytecode = True
 
+from cheapest import Search
 from check_job import Job, both, farm, rest, supplier
 from command_line import files, run, tally
 from job_text import USUAL_DAY, blank, commands, encode, operands
 
 EXAMPLES = pathlib.Path(__file__).resolve().parent.parent / "examples"
+
+# with so many choices at most the costs of all plans are worked out; a search is to take no more visits than these
+EVERY, VISITS = 16, 1_000_000
 
 # rows of both listings
 BOTH = {
@@ -58,8 +64,8 @@ def cheaper(m):
 
 def many(kinds):
     """A register of nine choices and of terms with the masks 1, 2, 3, .. and of the kinds given, without its end."""
-    terms = {"12": "01000000", "16": "00000000 01000000"}
-    named = (f"{kind} {mask.to_bytes(4, 'little').hex()} {terms[kind]} " for mask, kind in enumerate(kinds, 1))
+    terms = {"12": (4, "01000000"), "15": (8, "01000000"), "16": (4, "00000000 01000000")}
+    named = (f"{kind} {mask.to_bytes(terms[kind][0], 'little').hex()} {terms[kind][1]} " for mask, kind in enumerate(kinds, 1))
     return "10 00000000 " + "".join(f"11 {tank:02}00 0000 " for tank in range(1, 10)) + "".join(named)
 
 
@@ -127,6 +133,157 @@ RANGED = [
 ]
 
 
+def choices(n):
+    """A register of n choices, choice i being tank 1 at minute i, with the base cost 0 and without its end."""
+    return "10 00000000 " + "".join(f"11 0100 {minute:02X}00 " for minute in range(n))
+
+
+def wide(*named):
+    """A mask of 64 bits that names choices."""
+    return sum(1 << i for i in named).to_bytes(8, "little").hex() + " "
+
+
+def products(n, count):
+    """So many products of two choices of the first n, first those of neighbours, then those with one choice between them."""
+    pairs = [(i, i + 1) for i in range(n - 1)] + [(i, i + 2) for i in range(n - 2)]
+    return "".join(f"21 {l:02X} {r:02X} " for l, r in pairs[:count])
+
+
+def alone(i):
+    """The end of a register with one term, of choice i alone and with the coefficient 1, a scheme for it, and a certificate with T = 0."""
+    return f"1F 22 {i:02X} {i:02X} 2F " + scale(0) + f"38 {i:02X} 0100000000000000 3F "
+
+
+# a certificate with T = 0; the end of a register without terms and a scheme without products before it
+ZERO = scale(0) + "3F "
+BARE = "1F 2F " + ZERO
+NONE, ALL_32 = "40 00000000", "40 FFFFFFFF"
+# w = 1 and the last of the 65 entries 1, that of variable 63
+LAST = "3A 01000000 " + 64 * "0000" + "0100 "
+# one at the places of all 32 entries, and at the last alone
+ROW_OF_ALL, ROW_OF_31 = "14 0000 " + 32 * "01", "14 0000 " + 31 * "00" + "01 "
+# terms of choices 31, 32 and of both, and what stands behind them: 3 and 4 saved, 1 paid for both
+ACROSS = "12 00000080 FDFFFFFF 15 " + wide(32) + "FCFFFFFF 15 " + wide(31, 32) + "01000000 1F 22 1F 1F 22 20 20 22 1F 20 2F "
+ACROSS_BOUND = scale(-9) + "31 1F 0100000000000000 31 20 0100000000000000 39 1F 0400000000000000 39 20 0500000000000000 3F "
+
+LARGE = [
+    # 48 choices, and a 49th, whatever else is wrong with it but that it is cut off; a `40` names the first 32 of them
+    (choices(48) + BARE + NONE, "B 0 0 0"),
+    (choices(48) + BARE + ALL_32, "B 0 0 0"),
+    (choices(48) + BARE + "41 " + wide(*range(48)), "B 0 0 0"),
+    (choices(49) + BARE + NONE, "R 3 245"),
+    (choices(48) + "11 0000 0000", "R 3 245"),
+    (choices(48) + "11 0100 30", "R 2 245"),
+    # `41` in each number of choices, and what it names that isn't there, in either half
+    (choices(1) + BARE + "41 " + wide(0), "B 0 0 0"),
+    (choices(1) + BARE + "41 " + wide(1), "R 5 26"),
+    (choices(1) + BARE + "41 " + wide(32), "R 5 26"),
+    (choices(1) + BARE + "41 " + wide(63), "R 5 26"),
+    (choices(32) + BARE + "41 " + wide(*range(32)), "B 0 0 0"),
+    (choices(32) + BARE + "41 " + wide(32), "R 5 181"),
+    (choices(33) + BARE + "41 " + wide(32), "B 0 0 0"),
+    (choices(33) + BARE + "41 " + wide(0, 33), "R 5 186"),
+    (choices(33) + BARE + ALL_32, "B 0 0 0"),
+    (choices(48) + BARE + "41 " + wide(48), "R 5 261"),
+    (choices(48) + BARE + "41 " + wide(0, 47, 63), "R 5 261"),
+    (choices(31) + BARE + ALL_32, "R 5 176"),
+    # cut off, with four bytes too many, twice, where part 3 is due, and in part 1
+    (choices(33) + BARE + "41 " + wide(32)[:14], "R 2 186"),
+    (choices(33) + BARE + NONE + "00000000", "R 12 191"),
+    (choices(33) + BARE + "41 " + wide(32) + NONE, "R 12 195"),
+    (choices(33) + "1F 2F 41 " + wide(32) + ZERO, "R 1 172"),
+    (choices(33) + "41 " + wide(32), "R 1 170"),
+    # `15` in each number of choices, a small mask too, and what it names that isn't there
+    (choices(1) + "15 " + wide(0) + "01000000 " + alone(0) + "40 01000000", "B 0 1 1"),
+    (choices(1) + "15 " + wide(0) + "01000000 " + alone(0) + "41 " + wide(0), "B 0 1 1"),
+    (choices(1) + "15 " + wide(1) + "01000000", "R 5 10"),
+    (choices(1) + "15 " + wide(0, 32) + "01000000", "R 5 10"),
+    (choices(32) + "15 " + wide(31) + "01000000 " + alone(31) + "41 " + wide(31), "B 0 1 1"),
+    (choices(32) + "15 " + wide(32) + "01000000", "R 5 165"),
+    (choices(33) + "15 " + wide(32) + "01000000 " + alone(32) + "41 " + wide(32), "B 0 1 1"),
+    (choices(33) + "15 " + wide(32) + "01000000 " + alone(32) + ALL_32, "B 0 0 0"),
+    (choices(33) + "15 " + wide(0, 33) + "01000000", "R 5 170"),
+    (choices(48) + "15 " + wide(47) + "01000000 " + alone(47) + "41 " + wide(47), "B 0 1 1"),
+    (choices(48) + "15 " + wide(0, 48) + "01000000", "R 5 245"),
+    (choices(48) + "15 " + wide(63) + "01000000", "R 5 245"),
+    (choices(48) + "15 " + wide() + "01000000", "R 5 245"),
+    (choices(48) + "12 00000000 01000000", "R 5 245"),
+    # its coefficient: 0 and past both limits before the mask, and at both limits
+    (choices(33) + "15 " + wide() + "00000000", "R 4 170"),
+    (choices(33) + "15 " + wide(33) + "41420F00", "R 4 170"),
+    (choices(33) + "15 " + wide(32) + "BFBDF0FF", "R 4 170"),
+    (choices(33) + "15 " + wide(32) + "C0BDF0FF 1F 22 20 20 2F " + scale(-1_000_000) + "39 20 40420F0000000000 3F 41 " + wide(32),
+     "B -1000000 -1000000 0"),
+    (choices(33) + "15 " + wide(32) + "40420F00 1F 22 20 20 2F " + scale(0) + "38 20 40420F0000000000 3F 41 " + wide(32),
+     "B 0 1000000 1000000"),
+    # masks rise through `12`, `15` and `16`, as numbers: equal ones, lower ones, and halves of which only one rises
+    (choices(33) + "12 02000000 01000000 15 " + wide(1) + "01000000", "R 7 179"),
+    (choices(33) + "15 " + wide(1) + "01000000 12 02000000 01000000", "R 7 183"),
+    (choices(33) + "15 " + wide(1) + "01000000 15 " + wide(1) + "01000000", "R 7 183"),
+    (choices(33) + "16 02000000 00000000 01000000 15 " + wide(1) + "01000000", "R 7 183"),
+    (choices(33) + "15 " + wide(1) + "01000000 16 02000000 00000000 01000000", "R 7 183"),
+    (choices(33) + "15 " + wide(32) + "01000000 12 FFFFFFFF 01000000", "R 7 183"),
+    (choices(33) + "15 " + wide(32) + "01000000 16 FFFFFFFF 00000000 01000000", "R 7 183"),
+    (choices(34) + "15 " + wide(33) + "01000000 15 " + wide(0, 32) + "01000000", "R 7 188"),
+    (choices(34) + "15 " + wide(0, 32) + "01000000 15 " + wide(33) + "01000000 7E", "R 1 201"),
+    (choices(33) + "15 " + wide(0) + "01000000 12 02000000 01000000 15 " + wide(32) + "01000000 7E", "R 1 205"),
+    # out of its place: before any choice, before a choice, a row, a window and a length, and behind the end; and cut off
+    ("10 00000000 15 " + wide(0) + "01000000", "R 5 5"),
+    (choices(1) + "15 " + wide(0) + "01000000 11 0200 0000", "R 1 23"),
+    (choices(1) + "15 " + wide(0) + "01000000 " + ROW_OF_31, "R 1 23"),
+    (choices(1) + "15 " + wide(0) + "01000000 13 0100 0000 0100", "R 1 23"),
+    (choices(1) + "15 " + wide(0) + "01000000 18 A005", "R 1 23"),
+    (choices(1) + "1F 15 " + wide(0) + "01000000", "R 1 11"),
+    (choices(1) + "15 " + wide(0) + "010000", "R 2 10"),
+    # 256 of all three kinds are allowed, and the next is too many, whatever is wrong with it
+    (many(["12", "15", "16", "15"] * 64) + "1F 7E", "R 1 3123"),
+    (many(["12", "15", "16", "15"] * 64) + "15 " + wide() + "00000000", "R 3 3122"),
+    (many(["15"] * 256) + "12 00000000 00000000", "R 3 3378"),
+    # 32 products, and no more than 64 variables: with 48 choices 16 products, with 33 of them 31, with 31 of them 32 and 63 variables
+    (choices(48) + "1F " + products(48, 16) + "2F " + ZERO + NONE, "B 0 0 0"),
+    (choices(48) + "1F " + products(48, 17) + "2F " + ZERO + NONE, "R 3 294"),
+    (choices(48) + "1F " + products(48, 16) + "21 FF 00", "R 3 294"),
+    (choices(33) + "1F " + products(33, 31) + "2F " + ZERO + NONE, "B 0 0 0"),
+    (choices(33) + "1F " + products(33, 32) + "2F " + ZERO + NONE, "R 3 264"),
+    (choices(32) + "1F " + products(32, 32) + "2F " + ZERO + NONE, "B 0 0 0"),
+    (choices(32) + "1F " + products(32, 33) + "2F " + ZERO + NONE, "R 3 262"),
+    (choices(31) + "1F " + products(31, 32) + "2F " + ZERO + NONE, "B 0 0 0"),
+    (choices(31) + "1F " + products(31, 33) + "2F " + ZERO + NONE, "R 3 257"),
+    # variable 63 and the last entry of a square, where there are 64 variables and where there are 63
+    (choices(48) + "1F " + products(48, 16) + "2F " + scale(-1) + "31 3F 0100000000000000 " + LAST + "3F " + NONE, "B -1 0 1"),
+    (choices(48) + "1F " + products(48, 16) + "2F " + scale(0) + "38 40 0000000000000000", "R 5 308"),
+    (choices(48) + "1F " + products(48, 15) + "2F " + scale(0) + LAST, "R 5 305"),
+    # rows with 31, 32, 33 and 48 choices: which entries are free, and which choices count
+    (choices(31) + ROW_OF_31, "R 5 160"),
+    (choices(32) + ROW_OF_31 + BARE + ALL_32, "R 15 216"),
+    (choices(33) + ROW_OF_31 + BARE + "41 " + wide(0, 32), "B 0 0 0"),
+    (choices(33) + ROW_OF_31 + BARE + "41 " + wide(31, 32), "R 15 221"),
+    (choices(48) + ROW_OF_ALL + BARE + "41 " + wide(*range(32, 48)), "B 0 0 0"),
+    (choices(48) + ROW_OF_ALL + BARE + "41 " + wide(31, 32), "R 15 296"),
+    (choices(48) + ROW_OF_ALL + BARE + "41 " + wide(31, 48), "R 5 296"),
+    # a row form with a choice that is in no row has one product, and with choice 31 a square
+    (choices(33) + ROW_OF_31 + "1F 2F " + scale(0) + "3B 00 1F 0100000000000000 3F " + NONE, "B 0 0 0"),
+    (choices(33) + ROW_OF_31 + "1F 2F " + scale(0) + "3B 00 20 0100000000000000 3F " + NONE, "R 9 231"),
+    (choices(33) + ROW_OF_31 + "1F 2F " + scale(-1) + "3B 00 1F 0100000000000000 3B 00 20 0100000000000000 "
+     "31 20 0100000000000000 3F " + NONE, "B -1 0 1"),
+    # costs of terms on both sides of bit 32
+    (choices(48) + ACROSS + ACROSS_BOUND + "41 " + wide(31, 32), "B -9 -6 3"),
+    (choices(48) + ACROSS + ACROSS_BOUND + "41 " + wide(32, 47), "B -9 -4 5"),
+    (choices(48) + ACROSS + ACROSS_BOUND + "40 00000080", "B -9 -3 6"),
+    (choices(48) + ACROSS + ACROSS_BOUND + "41 " + wide(0, 47), "B -9 0 9"),
+    # with a range: of all choices that it can name, of one that the plan doesn't feed and of one that it feeds; `41` where the plan is due,
+    # right and wrong, and behind part 3
+    (choices(34) + "16 FFFFFFFF 00000000 01000000 7E", "R 1 188"),
+    (choices(34) + "16 01000000 00000000 01000000 1F 22 00 00 2F 41 " + wide(32, 33) + ZERO, "B 0 0 0"),
+    (choices(34) + "16 01000000 00000000 01000000 1F 22 00 00 2F 41 " + wide(0, 33) + scale(0) + "38 00 0100000000000000 3F", "B 0 1 1"),
+    (choices(34) + "16 01000000 00000000 01000000 1F 22 00 00 2F 41 " + wide(0, 33) + ZERO, "R 9 215"),
+    (choices(34) + "16 01000000 00000000 01000000 1F 22 00 00 2F 41 " + wide(34) + "7E", "R 5 193"),
+    (choices(34) + ROW_OF_ALL + "16 01000000 00000000 01000000 1F 22 00 00 2F 41 " + wide(0, 33) + "7E", "R 15 228"),
+    (choices(34) + "16 01000000 00000000 01000000 1F 22 00 00 2F 41 " + wide(33) + ZERO + "00", "R 12 216"),
+    (choices(34) + "16 01000000 00000000 01000000 1F 22 00 00 2F " + ZERO + "41 " + wide(33), "R 1 193"),
+]
+
+
 def moved(job, chance):
     """A job with other tanks and minutes: those that it names are exchanged for others in the same order, minutes for ones of its day."""
     parts = [(byte, operands(job, at)) for at, byte in commands(job)]
@@ -150,21 +307,36 @@ def reaches_end(job, read):
     return kind == "T" or number == "9" or int(position[0]) >= end
 
 
+class Known:
+    """A register with one coefficient for each term, as a search looks at it."""
+
+    def __init__(self, read, coefficients):
+        self.base, self.choices, self.fits = read.base, read.choices, read.fits
+        self.terms = [(mask, c, c) for (mask, _, _), c in zip(read.terms, coefficients)]
+
+
+def least_costs(read):
+    """What works out the least cost of a plan that fits, with such coefficients."""
+    if len(read.choices) > EVERY:
+        return lambda coefficients: Search(Known(read, coefficients), VISITS).best
+    fitting = list(filter(read.fits, range(1 << len(read.choices))))
+    return lambda coefficients: min(read.total(plan, coefficients) for plan in fitting)
+
+
 def costs_most(job, most):
-    """What is not true of an accepted job, by the costs of all plans, None where all is. With the coefficients that count no plan that fits
-    is to cost less than the bound. If the gap is 0 and there are at most so many ranges, the plan is to be a cheapest one that fits with
-    each range at its low or its high; costs are linear in the coefficients, so it is one then with all between."""
+    """What is not true of an accepted job, by the least costs, None where all is. With the coefficients that count no plan that fits is to
+    cost less than the bound. If the gap is 0 and there are at most so many ranges, the plan is to be a cheapest one that fits with each
+    range at its low or its high; costs are linear in the coefficients, so it is one then with all between."""
     read = Job(job)
     read.listings()
-    fitting = list(filter(read.fits, range(1 << len(read.choices))))
-    bound = -(-read.T // read.s)
-    if min(read.total(plan, read.coefficients()) for plan in fitting) < bound:
+    least, bound = least_costs(read), -(-read.T // read.s)
+    if least(read.coefficients()) < bound:
         return "a plan costs less than the bound"
     ends = [sorted({low, high}) for _, low, high in read.terms]
     if read.cost(read.fed) > bound or sum(len(both) > 1 for both in ends) > most:
         return None
     for coefficients in itertools.product(*ends):
-        if min(read.total(plan, coefficients) for plan in fitting) < read.total(read.fed, coefficients):
+        if least(coefficients) < read.total(read.fed, coefficients):
             return f"another plan is cheaper with {coefficients}"
     return None
 
@@ -188,9 +360,9 @@ def main(folders):
     for name, rows in BOTH.items():
         trials.append((f"not the rows of both listings: {name}", lines(both, (EXAMPLES / f"{name}.job").read_bytes()) == rows))
     trials.append(("not the rows of both listings: nothing fed", lines(both, NOTHING) == NOTHING_BOTH))
-    for job, line in RANGED:
-        read = lines(both, bytes.fromhex(job))
-        trials.append((f"not the last line of a job with ranges: {line}, but {read}: {job}", read[-1] == f"{line} | {line}"))
+    for job, line in RANGED + LARGE:
+        last = lines(both, bytes.fromhex(job))[-1].split("|")
+        trials.append((f"not the last line: {line}, but {last}: {job}", [it.strip() for it in last] == [line, line]))
     night, other = ((EXAMPLES / f"windows.{name}.job").read_bytes() for name in ("night", "night.moved"))
     trials.append(("not the same but for tanks, minutes and windows", night != other and blank(night) == blank(other)))
     trials.append(("the supplier reads something else of the pair", lines(supplier, night) == lines(supplier, other)))

@@ -5,8 +5,8 @@ that is damaged in several ways. What is finished must be accepted, as tools/che
 plan and the scale of the job, the largest target that its certificate carries, and a bound that is not worse than the one that the job
 has as it is. What is not finished must be refused as it is. The jobs of `examples` that have multipliers of a solver must come to the
 bound of the solver's own squares, and those with a certificate of our own to its target, which squares only make smaller. Then a
-certificate with wrong squares, certificates that take several `31` of one variable, or more than 1,024 multipliers, and jobs
-that are refused, with the line of each.
+certificate with wrong squares, certificates that take several `31` of one variable, or more than 1,024 multipliers, jobs whose masks and
+plan are of 64 bits without need, and jobs that are refused, with the line of each.
 
     tools/test_finish_certificate.py [FOLDER ..]
 """
@@ -77,6 +77,11 @@ def joined(commands_and_operands):
 def bare(job):
     """A job without its squares and with 0 for its target."""
     return joined((byte, {**v, "T": 0} if byte == 0x30 else v) for byte, v in parts(job) if byte != 0x3A)
+
+
+def widened(job):
+    """A job with each `12` written as `15` and each `40` as `41`."""
+    return joined(({0x12: 0x15, 0x40: 0x41}.get(byte, byte), v) for byte, v in parts(job))
 
 
 def enlarged(job):
@@ -172,6 +177,10 @@ class Trials:
         wrong = joined((byte, {**v, "weight": 0, "z63": 10_001} if byte == 0x3A else v) for byte, v in parts(square))
         self.job("wrong squares", wrong)
         self.expect("not finished as without squares", "wrong squares", said_of(wrong) == "" and finish(wrong) == finish(bare(square)))
+        for name in ("labs05.csdp.bad-t-up", "prices.wide"):
+            narrow = bare((EXAMPLES / f"{name}.job").read_bytes())
+            self.job(f"{name}, 64 bits", widened(narrow))
+            self.expect("not the same but for the width", name, finish(widened(narrow))[0] == widened(finish(narrow)[0]))
         example = (EXAMPLES / "example.job").read_bytes()
         for at, other, line in REFUSED:
             job = example[:at] + bytes.fromhex(other)

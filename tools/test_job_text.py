@@ -1,11 +1,11 @@
 #!/usr/bin/env python3
 """Tries tools/job_text.py: bytes to lines and back, and the lines of what `blank` writes, on every example, on every file of the folders
-given, and on damaged copies of six jobs, one without windows, one with them, one with a day's length too, two with a row and one with
-ranges: each front of it, each byte changed to ten others, each byte left out; and that the parts of what can be cut into four are the
-whole of it. Then the bytes that `blank` writes of some others, the lines of registers with windows, lengths, rows and ranges, right ones
-and others, of what names a row, of plans before part 3, and of parts apart from their register, where nothing is said that the whole job
-shows otherwise, lines that are no command and what is said of them, registers written by hand, the parts of jobs, and which bytes are a
-text.
+given, and on damaged copies of seven jobs, one without windows, one with them, one with a day's length too, two with a row, one with
+ranges and one with masks and a plan of 64 bits: each front of it, each byte changed to twelve others, each byte left out; and that the
+parts of what can be cut into four are the whole of it. Then the bytes that `blank` writes of some others, the lines of registers with
+windows, lengths, rows, ranges and masks of 64 bits, right ones and others, of what names a row, of plans before part 3, and of parts apart
+from their register, where nothing is said that the whole job shows otherwise, lines that are no command and what is said of them,
+registers written by hand, the parts of jobs, and which bytes are a text.
 
     tools/test_job_text.py [FOLDER ..]
 """
@@ -175,6 +175,59 @@ SHOWN = [
         ("40 00000000", "00054  4  40 plan      fed 0x00000000  (no choice, does not fit row 0)"),
         ("16 01000000 00000000 010000", "00059  -  raw  16 01 00 00 00 00 00 00 00 01 00 00"),
     ],
+    # masks of 64 bits among those of 32: one that 32 bits can say, one on both sides of bit 32, the largest, none; a plan of 64 bits, and
+    # one behind it, where the job has ended
+    [
+        ("10 00000000", "00000  1  10 base      cost 0"),
+        ("11 0300 6801", "00005  1  11 choice    tank 3  minute 360  (choice 0, 06:00)"),
+        ("12 01000000 FAFFFFFF", "00010  1  12 term      mask 0x00000001  coefficient -6  (term 0: choices 0)"),
+        ("15 0200000000000000 FCFFFFFF", "00019  1  15 term      mask 0x0000000000000002  coefficient -4  (term 1: choices 1)"),
+        ("12 03000000 05000000", "00032  1  12 term      mask 0x00000003  coefficient 5  (term 2: choices 0 1)"),
+        ("15 0100008001800000 40420F00", "00041  1  15 term      mask 0x0000800180000001  coefficient 1000000"
+         "  (term 3: choices 0 31 32 47)"),
+        ("15 FFFFFFFFFFFFFFFF 00000080", "00054  1  15 term      mask 0xFFFFFFFFFFFFFFFF  coefficient -2147483648"
+         f"  (term 4: choices {' '.join(map(str, range(64)))})"),
+        ("15 0000000000000000 00000000", "00067  1  15 term      mask 0x0000000000000000  coefficient 0  (term 5: no choice)"),
+        ("1F", "00080  1  1F end"),
+        ("2F", "00081  2  2F end"),
+        ("30 01000000 0000000000000000", "00082  3  30 scale     s 1  T 0  (bound 0)"),
+        ("3F", "00095  3  3F end"),
+        ("41 0100000000010000", "00096  4  41 plan      fed 0x0000010000000001  (choices 0 40)"),
+        ("41 0000000000000000", "00105  -  raw  41 00 00 00 00 00 00 00 00"),
+    ],
+    # with a range: a plan of 64 bits before part 3, behind which the job ends, and one behind the end
+    [
+        ("11 0300 6801", "00000  1  11 choice    tank 3  minute 360  (choice 0, 06:00)"),
+        ("16 01000000 00000000 01000000", "00005  1  16 range     mask 0x00000001  low 0  high 1  (term 0: choices 0)"),
+        ("15 0000000001000000 01000000", "00018  1  15 term      mask 0x0000000100000000  coefficient 1  (term 1: choices 32)"),
+        ("1F", "00031  1  1F end"),
+        ("41 0100000001000000", "00032  4  41 plan      fed 0x0000000100000001  (choices 0 32, terms 0 at high)"),
+        ("3F", "00041  3  3F end"),
+        ("41 0000000000000000", "00042  -  raw  41 00 00 00 00 00 00 00 00"),
+    ],
+    # 33 choices: a row names the first 32, and choice 32 counts in none; a product with it, and plans of it alone and with others
+    [
+        *((f"11 0100 {i:02X}00", f"{5 * i:05}  1  11 choice    tank 1  minute {i}  (choice {i}, 00:{i:02})") for i in range(33)),
+        ("14 0100 01" + 30 * "00" + "FF", "00165  1  14 row       b 1  z0 1  z31 -1  (row 0: z0 - z31 = 1)"),
+        ("1F", "00200  1  1F end"),
+        ("21 00 20", "00201  2  21 product   l 0  r 32  (variable 33 = z0 z32: choices 0 32)"),
+        ("41 0000000001000000", "00204  4  41 plan      fed 0x0000000100000000  (choices 32, does not fit row 0)"),
+    ],
+    [
+        *((f"11 0100 {i:02X}00", f"{5 * i:05}  1  11 choice    tank 1  minute {i}  (choice {i}, 00:{i:02})") for i in range(33)),
+        ("14 0100 01" + 30 * "00" + "FF", "00165  1  14 row       b 1  z0 1  z31 -1  (row 0: z0 - z31 = 1)"),
+        ("41 0100000001000000", "00200  4  41 plan      fed 0x0000000100000001  (choices 0 32)"),
+    ],
+    # a term and a plan of 64 bits that are cut off, and a plan of 64 bits by itself
+    [
+        ("10 00000000", "00000  1  10 base      cost 0"),
+        ("15 0100000000000000 010000", "00005  -  raw  15 01 00 00 00 00 00 00 00 01 00 00"),
+    ],
+    [
+        ("3F", "00000  3  3F end"),
+        ("41 01000000 000000", "00001  -  raw  41 01 00 00 00 00 00 00"),
+    ],
+    [("41 0300000000000000", "00000  4  41 plan      fed 0x0000000000000003  (choices 0 1)")],
 ]
 
 NO_NUMBER = "is no number: decimal without zeros before it, 0x and hexadecimal, or 0b and binary"
@@ -198,6 +251,11 @@ NO_COMMANDS = [
     ("00015  1  16 range     mask 0x00000001  high 5", "low is missing"),
     ("00015  1  16 range     mask 0x00000001  low -6  high", "high has no number"),
     ("00015  1  16 range     mask 0x00000001  low -6  coefficient 5", "range has no operand coefficient"),
+    ("00015  1  15 term      mask 0x0000000000000001", "coefficient is missing"),
+    ("00015  1  15 term      coefficient 1", "mask is missing"),
+    ("00015  1  15 term      mask 0x0000000000000001  low 1", "term has no operand low"),
+    ("00275  4  41 plan", "fed is missing"),
+    ("00275  4  41 plan      fed", "fed has no number"),
     ("00208  3  3B add       row 0  m 1", "i is missing"),
     ("00208  3  3B add       i 0  m 1", "row is missing"),
     ("00047  1  1F end       to 3", "end has no operand to"),
@@ -217,6 +275,11 @@ NO_COMMANDS = [
     ("00005  1  12 term      mask 0x100000000  coefficient 1", "mask 0x100000000 is not within 0 and 4294967295"),
     ("00015  1  16 range     mask 0x00000001  low -2147483649  high 5", "low -2147483649 is not within -2147483648 and 2147483647"),
     ("00015  1  16 range     mask 0x00000001  low -6  high 2147483648", "high 2147483648 is not within -2147483648 and 2147483647"),
+    ("00005  1  15 term      mask 0x10000000000000000  coefficient 1", f"mask 0x10000000000000000 is not within 0 and {2 ** 64 - 1}"),
+    ("00005  1  15 term      mask -1  coefficient 1", f"mask -1 is not within 0 and {2 ** 64 - 1}"),
+    ("00005  1  15 term      mask 1  coefficient 2147483648", "coefficient 2147483648 is not within -2147483648 and 2147483647"),
+    ("00275  4  40 plan      fed 0x100000000", "fed 0x100000000 is not within 0 and 4294967295"),
+    ("00275  4  41 plan      fed 0x10000000000000000", f"fed 0x10000000000000000 is not within 0 and {2 ** 64 - 1}"),
     ("00208  3  3B add       row -1  i 0  m 1", "row -1 is not within 0 and 255"),
     ("00208  3  3B add       row 256  i 0  m 1", "row 256 is not within 0 and 255"),
     ("-  3  30 scale  s 1  T 9223372036854775808", f"T {2 ** 63} is not within {-2 ** 63} and {2 ** 63 - 1}"),
@@ -235,7 +298,7 @@ NO_COMMANDS = [
     # a column is missing or holds something else
     ("-  1", f"no command byte: {ORDER}"),
     ("-  1  choice  tank 4", f"choice is no command byte: {ORDER}"),
-    ("-  1  15  tank 4  minute 480", f"15 is no command byte: {ORDER}"),
+    ("-  1  1A  tank 4  minute 480", f"1A is no command byte: {ORDER}"),
     ("-  1  111 choice  tank 4  minute 480", f"111 is no command byte: {ORDER}"),
     ("-  1  11  tank 4  minute 480", f"the name choice is missing before tank: {ORDER}"),
     ("-  1  11 choice  tank 4  minute", "minute has no number"),
@@ -250,6 +313,10 @@ LOOSE = [
     ("-  -  0x11 choice  tank 0b100  minute 0x1E0  (at eight", "11 0400 E001"),
     ("99999  1  1f", "1F"),
     ("-  1  1F nothing", "1F"),
+    ("-  1  15 term  coefficient -1  mask 0b1", "15 0100000000000000 FFFFFFFF"),
+    (f"-  1  15 range  mask 0b1{47 * '0'}  coefficient 1", "15 0000000000800000 01000000"),
+    ("-  4  41 plan  fed 0", "41 0000000000000000"),
+    (f"-  4  41 plan  fed {2 ** 47}", "41 0000000000800000"),
 ]
 
 # the register of examples/example.job as a farm may write it: no positions, no meanings, masks in binary
@@ -276,6 +343,12 @@ ROW = bytes.fromhex("10 0A000000 11 0300 6801 11 0300 5802 11 0800 D002 14 0100 
                     "30 01000000 0700000000000000 3B 00 01 0000000000000000 39 02 0300000000000000 3F 40 06000000")
 
 
+# a job with masks and a plan of 64 bits, all of which 32 bits could say
+WIDE = bytes.fromhex("10 0A000000 11 0300 6801 11 0300 5802 12 01000000 FDFFFFFF 15 0200000000000000 FCFFFFFF"
+                     "15 0300000000000000 02000000 1F 21 00 01 22 00 00 22 01 01 22 02 02 2F 30 01000000 0300000000000000"
+                     "39 00 0300000000000000 39 01 0400000000000000 38 02 0200000000000000 3F 41 0300000000000000")
+
+
 # bytes, and what is left of them without tanks, minutes and windows: each command of part 1 and then a byte that is none, a window
 # and a choice that are cut off, a choice behind the plan, no bytes
 BLANK = [
@@ -286,6 +359,9 @@ BLANK = [
     ("11 0400 2705 13 0400 2805 A0", "11 0000 0000 13 0400 2805 A0"),
     ("11 0400 27", "11 0400 27"),
     ("40 03000000 11 0400 2705", "40 03000000 11 0400 2705"),
+    ("11 0400 2705 15 0300000000000000 FDFFFFFF 1F 41 0300000000000000 11 0400 2705",
+     "11 0000 0000 15 0300000000000000 FDFFFFFF 1F 41 0300000000000000 11 0400 2705"),
+    ("15 0300000000000000 FDFFFF", "15 0300000000000000 FDFFFF"),
     ("", ""),
 ]
 
@@ -306,6 +382,11 @@ CUT = [
     (f"{RANGE} 1F 2F 40 000000", [f"{IN_LETTERS} 1f", "2f"]),
     (f"{RANGE} 1F 2F 3F 40 00000000", [f"{IN_LETTERS} 1f", "2f"]),
     (f"1F {RANGE} 2F 3F 40 00000000", ["1f"]),
+    ("1F 2F 3F 41 0000000000000000", ["1f", "2f", "3f", "41 00 00 00 00 00 00 00 00"]),
+    ("1F 2F 41 0000000000000000 3F", ["1f", "2f"]),
+    (f"{RANGE} 1F 2F 41 0000000000000000 3F 7E", [f"{IN_LETTERS} 1f", "2f", "41 00 00 00 00 00 00 00 00", "3f 7e"]),
+    (f"{RANGE} 1F 2F 41 0000000000 3F", [f"{IN_LETTERS} 1f", "2f"]),
+    ("15 0100000000000000 01000000 1F 2F 3F", ["15 01 00 00 00 00 00 00 00 01 00 00 00 1f", "2f", "3f", ""]),
     ("2F 3F", []),
     ("", []),
 ]
@@ -320,20 +401,21 @@ def damaged(job):
     for at in range(len(job)):
         yield job[:at]
         yield job[:at] + job[at + 1:]
-        for byte in (0x00, 0x11, 0x13, 0x14, 0x16, 0x18, 0x3B, 0x3F, 0x40, 0xFF):
+        for byte in (0x00, 0x11, 0x13, 0x14, 0x15, 0x16, 0x18, 0x3B, 0x3F, 0x40, 0x41, 0xFF):
             yield job[:at] + bytes([byte]) + job[at + 1:]
 
 
 # bytes that are a text for `make`, and bytes that are not
 TEXTS = [b"-", b"# a register\n", b"\n\n  00000  1  10 base  cost 0\r\n", b"\xEF\xBB\xBF-  1  1F end\n", "# f\u00fctterung\n".encode()]
-NO_TEXTS = [b"", b"\n", b"\x10", b"~", b"R 1 0\n", b"- \x00", b"- \xFF", b"-\x1F", WRITTEN.encode("utf-16")]
+NO_TEXTS = [b"", b"\n", b"\x10", b"~", b"R 1 0\n", b"- \x00", b"- \xFF", b"-\x1F", b"A- # 0 0 ", WRITTEN.encode("utf-16")]
 
 
 def are_parts(parts, order):
     """Whether each of the first three has commands of its part only, and the end of the part once, as its last command."""
     for number, part in list(zip(order, parts))[:3]:
         run_of_commands = [byte for _, byte in commands(part)]
-        if run_of_commands.index(ENDS[number]) != len(run_of_commands) - 1 or {COMMANDS[byte][0] for byte in run_of_commands} != {number}:
+        ends = [byte in ENDS[number] for byte in run_of_commands]
+        if ends.index(True) != len(ends) - 1 or {COMMANDS[byte][0] for byte in run_of_commands} != {number}:
             return False
     return True
 
@@ -365,6 +447,7 @@ def main(folders):
     for name in JOBS:
         jobs += [(f"{name}, damaged", job) for job in damaged((EXAMPLES / f"{name}.job").read_bytes())]
     jobs += [("a row, damaged", job) for job in [ROW, *damaged(ROW)]]
+    jobs += [("64 bits", WIDE)] + [("64 bits, damaged", job) for job in damaged(WIDE)]
     trials = []
     for name, job in jobs:
         lines = show(job)
@@ -391,7 +474,7 @@ def main(folders):
         for text in (written, written.replace("\n", "\r\n"), written.replace("\n", "\r"), "\ufeff" + written):
             trials.append((f"not the bytes of what a farm wrote: {name}", make(lines_of(text.encode())) == register))
     trials += [(f"not a text: {data}", is_text(data)) for data in TEXTS]
-    trials += [(f"a text: {data}", not is_text(data)) for data in [*NO_TEXTS, ROW]]
+    trials += [(f"a text: {data}", not is_text(data)) for data in [*NO_TEXTS, ROW, WIDE]]
     for name in JOBS:
         job, register = ((EXAMPLES / f"{name}.{kind}").read_bytes() for kind in ("job", "register"))
         trials += [(f"not part 1: {name}", register_of(whole) == register) for whole in (job, register)]

@@ -101,6 +101,7 @@ class Certificate:
         if not self.refused:
             job = check.job
             self.front = next(job[:at] for at, byte in commands(job) if byte == 0x30)
+            self.behind = next(job[at + 1:] for at, byte in commands(job) if byte == 0x3F)
             self.commands = [(byte, operands(job, at)) for at, byte in commands(job) if byte in (*ADDED, *SUBTRACTED, SQUARE)]
             self.multipliers = [(byte, v) for byte, v in self.commands if byte != SQUARE]
             self.terms = {monomial: c for monomial, c in self.polynomial(check.coefficients()).items() if c}
@@ -139,8 +140,7 @@ class Certificate:
     def with_other(self, scale, target, others):
         """The bytes of a job with another certificate for the same register, scheme and plan."""
         front = self.front + encode(0x30, {"s": scale, "T": target})
-        plan = b"" if self.read.ranged else encode(0x40, {"fed": self.read.fed})
-        return front + b"".join(encode(byte, v) for byte, v in others) + b"\x3F" + plan
+        return front + b"".join(encode(byte, v) for byte, v in others) + b"\x3F" + self.behind
 
     def is_refused_with_more(self):
         more = Job(self.with_other(self.read.s, self.read.T + 1, self.commands))

@@ -17,7 +17,7 @@ sys.dont_write_bytecode = True
 
 from check_job import Job, both, farm, rest, supplier, text
 from command_line import expect, run, tally
-from job_text import PARTS, TEXT, blank, cut, order_of, show
+from job_text import ENDS, PARTS, TEXT, blank, cut, order_of, show, size
 
 ROOT = pathlib.Path(__file__).resolve().parent.parent
 EXAMPLES = ROOT / "examples"
@@ -55,7 +55,8 @@ def is_plan(register, plan, said):
     read, fed = Job(register), int.from_bytes(plan[1:], "little")
     read.register()
     cost = read.total(fed, read.lows())
-    return len(plan) == 5 and plan[0] == 0x40 and read.feedings(fed) == said[:-1] and cost == int(said[-1].split()[1])
+    head = b"\x41" if fed >= 2 ** 32 else b"\x40"
+    return plan[:1] == head and len(plan) == size(plan[0]) and read.feedings(fed) == said[:-1] and cost == int(said[-1].split()[1])
 
 
 class Trials:
@@ -138,7 +139,7 @@ class Trials:
                 self.expect(f"not the job: {path.name}", b"".join(bytes_in(name) for name in names) == job)
                 self.expect(f"not part 1: {path.name}", bytes_in(names[0]) == cut(job)[0])
                 plan, certificate = (bytes_in(f"{self.folder}/cut.{part}")[:1] for part in ("plan", "certificate"))
-                self.expect(f"not parts 4 and 3: {path.name}", plan == b"\x40" and certificate == b"\x30")
+                self.expect(f"not parts 4 and 3: {path.name}", plan[0] in ENDS[4] and certificate == b"\x30")
                 for name in names:
                     os.remove(name)
             else:
@@ -199,10 +200,19 @@ class Trials:
         self.call([JOB_TEXT, "plan", self.lines, "-"], 2, said=f"{self.lines}: {TEXT}")
         self.call([JOB_TEXT, "plan", "examples/example.out", "-"], 2, said="examples/example.out: part 1 has no end")
         many = pathlib.Path(self.folder, "many.register")
-        many.write_bytes(b"".join(bytes([0x11, tank, 0, 0, 0]) for tank in range(33)) + b"\x1F")
-        self.call([JOB_TEXT, "plan", str(many), "-"], 2, said=f"{many}: 33 choices, and 32 are allowed", given=b"F 32 0\n")
+        many.write_bytes(b"".join(bytes([0x11, tank, 0, 0, 0]) for tank in range(49)) + b"\x1F")
+        self.call([JOB_TEXT, "plan", str(many), "-"], 2, said=f"{many}: 49 choices, and 48 are allowed", given=b"F 48 0\n")
         many.write_bytes(many.read_bytes()[5:])
-        self.call([JOB_TEXT, "plan", str(many), "-"], 0, bytes.fromhex("40 00000080"), given=b"F 32 0\n")
+        # choice i is tank i + 1: the last that `40` has room for, the first that it has not, the last of all, and all of them
+        everything = "".join(f"F {tank} 0\n" for tank in range(1, 49)).encode()
+        for given, plan in (
+            (b"F 32 0\n", "40 00000080"),
+            (b"F 33 0\n", "41 0000000001000000"),
+            (b"F 48 0\nF 1 0\n", "41 0100000000800000"),
+            (everything[:everything.index(b"F 33 ")], "40 FFFFFFFF"),
+            (everything, "41 FFFFFFFFFFFF0000"),
+        ):
+            self.call([JOB_TEXT, "plan", str(many), "-"], 0, bytes.fromhex(plan), given=given)
 
     def check_job(self):
         self.misuse(CHECK_JOB, "FILE is missing")
@@ -256,6 +266,10 @@ class Trials:
         self.call([CHEAPEST, "--limit", "8", REGISTER], 1, b"R 14 0\n")
         self.call([CHEAPEST, EXAMPLE], 1, b"R 12 48\n")
         self.call([CHEAPEST, NONE_FITS], 1, b"R 16 0\n")
+        large = b"F 1 120\nF 1 1320\nF 6 360\nF 6 600\nF 8 1080\nS 18 327\n"
+        self.call([CHEAPEST, "examples/large.register"], 0, large)
+        self.call([CHEAPEST, "--limit", "327", "examples/large.register"], 0, large)
+        self.call([CHEAPEST, "--limit", "326", "examples/large.register"], 1, b"R 14 0\n")
         ranged = b"F 2 360\nF 2 720\nF 5 360\nF 5 720\nF 9 1080\nS 46 65\n"
         self.call([CHEAPEST, "examples/prices.quoted.register"], 0, ranged)
         self.call([CHEAPEST, self.lines], 1, b"R 1 0\n", said=f"{self.lines}: {TEXT}")

@@ -5,13 +5,16 @@ use crate::random::Random;
 use crate::timing::{self, Parts};
 use reference::certificate::{self, Certificate, Square, ENTRIES, MAX_SQUARES};
 use reference::plan::FEEDS_NONE;
-use reference::register::{self, Choice, Register, Term, MAX_CHOICES, USUAL_DAY};
-use reference::scheme::{self, Scheme, MAX_PRODUCTS};
+use reference::register::{self, Choice, Register, Term, USUAL_DAY};
+use reference::scheme::{self, Scheme, MAX_PRODUCTS, MAX_VARIABLES};
 
 /// The heading of the times.
 pub const TITLE: &str = "check of 64 full squares";
 
 const INPUTS: usize = 16;
+
+/// As many as leave room for all products.
+const CHOICES: usize = MAX_VARIABLES - MAX_PRODUCTS;
 
 /// The largest weight and entry. The squares come to at most 64 · 65 · w · v², less than 4.2 · 10¹¹, in a row, so that one `31`,
 /// whose m may be 10¹², makes a row dominant.
@@ -38,12 +41,12 @@ pub fn inputs() -> Vec<Parts> {
 
 /// The products are of two choices that follow each other, and of the first and the last.
 fn register_and_scheme(random: &mut Random) -> (Register, Scheme) {
-    let mut scheme = Scheme::of_choices(MAX_CHOICES);
-    for r in 1..MAX_CHOICES {
+    let mut scheme = Scheme::of_choices(CHOICES);
+    for r in 1..CHOICES {
         scheme.add_product(r - 1, r);
     }
-    scheme.add_product(0, MAX_CHOICES - 1);
-    let mut sets: Vec<(u32, usize)> = scheme.sets.iter().copied().zip(0..).collect();
+    scheme.add_product(0, CHOICES - 1);
+    let mut sets: Vec<(u64, usize)> = scheme.sets.iter().copied().zip(0..).collect();
     sets.sort();
     scheme.splits = sets.iter().map(|&(_, variable)| (variable, variable)).collect();
     let mut term = |mask| Term::known(mask, random.within(1, 1_000_000) as i32);
@@ -51,7 +54,7 @@ fn register_and_scheme(random: &mut Random) -> (Register, Scheme) {
         base: 0,
         day_length: USUAL_DAY,
         windows: Vec::new(),
-        choices: (1..=MAX_CHOICES as u16).map(|tank| Choice { tank, minute: 0 }).collect(),
+        choices: (1..=CHOICES as u16).map(|tank| Choice { tank, minute: 0 }).collect(),
         rows: Vec::new(),
         terms: sets.iter().map(|&(mask, _)| term(mask)).collect(),
     };
@@ -71,7 +74,7 @@ fn assert_full(parts: &Parts) {
     let (register, _) = register::read(&parts[0]).expect("a register");
     let (scheme, _) = scheme::read(&register, &parts[1]).expect("a scheme");
     let (certificate, _) = certificate::read(&register, &scheme, &parts[2]).expect("a certificate");
-    assert_eq!((scheme.choices, scheme.products.len()), (MAX_CHOICES, MAX_PRODUCTS));
+    assert_eq!((scheme.choices, scheme.products.len()), (CHOICES, MAX_PRODUCTS));
     assert!(register.windows.is_empty() && register.terms.len() == scheme.variables());
     assert_eq!(certificate.squares.len(), MAX_SQUARES);
     assert!(certificate.squares.iter().all(|square| square.entries.iter().all(|&entry| entry != 0)));

@@ -4,9 +4,9 @@ use crate::random::Random;
 use reference::certificate::{self, Certificate, Multiplier, Square};
 use reference::register::{
     Choice, Register, Row, Term, Window, DAY_LENGTHS, LONG_DAY, MAX_CHOICES, MAX_COEFFICIENT, MAX_ROWS, MAX_ROW_TOTAL, MAX_TERMS,
-    MAX_WINDOWS, SHORT_DAY, USUAL_DAY,
+    MAX_WINDOWS, ROW_ENTRIES, SHORT_DAY, USUAL_DAY,
 };
-use reference::scheme::{Scheme, MAX_PRODUCTS};
+use reference::scheme::{Scheme, MAX_PRODUCTS, MAX_VARIABLES};
 use reference::{builder, plain, plan as plans};
 use std::collections::{BTreeMap, BTreeSet};
 
@@ -31,6 +31,8 @@ pub struct Whole {
 #[derive(Clone, Copy, PartialEq, Eq)]
 pub enum Size {
     Small,
+    /// More than 32 choices, and else as small.
+    Wide,
     Middle,
     Full,
 }
@@ -44,6 +46,7 @@ pub fn input(random: &mut Random, seeds: &[Whole]) -> Input {
         if random.chance(20) {
             add_ranges(random, &mut whole);
         }
+        add_wide_forms(random, &mut whole);
         whole
     } else {
         let size = random.pick(&[
@@ -51,7 +54,8 @@ pub fn input(random: &mut Random, seeds: &[Whole]) -> Input {
             Size::Small,
             Size::Small,
             Size::Small,
-            Size::Small,
+            Size::Wide,
+            Size::Wide,
             Size::Middle,
             Size::Middle,
             Size::Full,
@@ -76,14 +80,16 @@ pub fn whole(random: &mut Random, size: Size) -> Whole {
     register.day_length = length;
     register.choices = choices(random, register.choices.len(), end);
     register.windows = windows(random, &register);
-    let plan = random.next() as u32 & register.all();
+    let all = register.all();
+    // Of more than 32 choices now and then only some that a `40` can name.
+    let plan = random.next() & all & random.pick(&[all, all, all, LOWER]);
     register.rows = rows(random, register.choices.len(), plan);
     ranges(random, &mut register);
     // Now and then the certificate is one for another plan.
-    let (all, any) = (register.all(), random.next() as u32 & register.all());
+    let any = random.next() & all;
     let beside = if random.chance(6) { random.pick(&[plans::FEEDS_NONE, all, any]) } else { plan };
     let certificate = any_certificate(random, size, &register, &scheme, beside);
-    Whole {
+    let mut whole = Whole {
         choices: register.choices.len(),
         variables: scheme.variables(),
         parts: [
@@ -92,7 +98,9 @@ pub fn whole(random: &mut Random, size: Size) -> Whole {
             certificate_commands(random, &certificate),
             vec![plan_command(plan)],
         ],
-    }
+    };
+    add_wide_forms(random, &mut whole);
+    whole
 }
 
 /// The commands of a job whose register, scheme and certificate can be read, and its plan where it stands before the certificate,
@@ -118,11 +126,27 @@ pub fn seed(job: &[u8]) -> Option<Whole> {
 
 // Registers and schemes.
 
+/// The choices that a mask or a plan of 32 bits names.
+const LOWER: u64 = u32::MAX as u64;
+
+/// The mask of n choices.
+fn all_of(n: usize) -> u64 {
+    (1 << n) - 1
+}
+
+/// The products that there may be beside so many choices.
+fn most_products(choices: usize) -> usize {
+    MAX_PRODUCTS.min(MAX_VARIABLES - choices)
+}
+
 fn choice_count(random: &mut Random, size: Size) -> usize {
+    let any = 1 + random.below(MAX_CHOICES);
+    let many = random.within(33, MAX_CHOICES as i64) as usize;
     match size {
         Size::Small => 1 + random.below(6),
-        Size::Middle => 1 + random.below(MAX_CHOICES),
-        Size::Full => MAX_CHOICES,
+        Size::Wide => many,
+        Size::Middle => random.pick(&[any, many]),
+        Size::Full => random.pick(&[32, many, MAX_CHOICES]),
     }
 }
 
@@ -205,7 +229,7 @@ fn later(random: &mut Random, minute: u16, length: u16) -> u16 {
 }
 
 /// Rows of n choices. In three of four cases the plan fits them all; else one or all have another total, which may be no plan's.
-fn rows(random: &mut Random, n: usize, plan: u32) -> Vec<Row> {
+fn rows(random: &mut Random, n: usize, plan: u64) -> Vec<Row> {
     let count = match random.below(20) {
         0..=9 => return Vec::new(),
         10..=13 => 1,
@@ -229,7 +253,8 @@ fn rows(random: &mut Random, n: usize, plan: u32) -> Vec<Row> {
 }
 
 /// A row that the plan fits: entries of one kind or of any, and the total that the plan makes of them.
-fn row(random: &mut Random, n: usize, plan: u32) -> Row {
+fn row(random: &mut Random, n: usize, plan: u64) -> Row {
+    let n = n.min(ROW_ENTRIES);
     let any = random.next() as i8;
     let kinds: [&[i8]; 10] = [
         // Exactly so many feedings; of some choices only; one kind against another.
@@ -247,13 +272,13 @@ fn row(random: &mut Random, n: usize, plan: u32) -> Row {
     ];
     let kind = random.pick(&kinds);
     let any_entries = random.chance(25);
-    let mut row = Row { total: 0, entries: [0; MAX_CHOICES] };
+    let mut row = Row { total: 0, entries: [0; ROW_ENTRIES] };
     for entry in &mut row.entries[..n] {
         *entry = if any_entries { random.next() as i8 } else { random.pick(kind) };
     }
-    // The last choice or the first alone, now and then.
+    // The last choice that has an entry or the first alone, now and then.
     if random.chance(5) {
-        row.entries = [0; MAX_CHOICES];
+        row.entries = [0; ROW_ENTRIES];
         row.entries[random.pick(&[0, n - 1])] = random.pick(&[1, -1, 127, -128]);
     }
     // 32 entries of -128 or of 127 and more come to more than a total may be: the last ones are left out.
@@ -269,7 +294,7 @@ fn row(random: &mut Random, n: usize, plan: u32) -> Row {
 
 /// Rows for a job that has none; its plan fits them, mostly.
 fn add_rows(random: &mut Random, whole: &mut Whole) {
-    let plan = whole.parts[3][0].get(1..5).map_or(0, |bytes| u32::from_le_bytes(bytes.try_into().unwrap()));
+    let plan = plan_of(&whole.parts[3][0]).unwrap_or(0);
     let commands = &mut whole.parts[0];
     if commands.iter().all(|command| command[0] != 0x14) {
         let place = commands.iter().rposition(|command| command[0] == 0x11).map_or(1, |at| at + 1);
@@ -283,10 +308,10 @@ fn coefficient(random: &mut Random) -> i32 {
 }
 
 /// The coefficients of a register's terms: of any kind, or alike in some way that a search meets.
-fn coefficients(random: &mut Random, masks: &[u32]) -> Vec<i32> {
-    let manner = random.below(14);
+fn coefficients(random: &mut Random, masks: &[u64]) -> Vec<i32> {
+    let manner = random.below(17);
     let one = coefficient(random);
-    let of_mask = |mask: u32| match manner {
+    let of_mask = |mask: u64| match manner {
         // Few values: many plans cost the same, and sums come to the best cost exactly.
         0 | 1 => random.pick(&[1, -1]),
         2 => random.pick(&[one, -one]),
@@ -298,6 +323,9 @@ fn coefficients(random: &mut Random, masks: &[u32]) -> Vec<i32> {
         // Of terms of one choice each, every plan is cheaper than those before it: a search leaves nothing.
         7 => -(1 << mask.ilog2().min(19)),
         8 => (mask.ilog2() as i32 + 1) * random.pick(&[1, -1]),
+        // Few save anything: also of many choices a search leaves most branches.
+        9..=11 if random.chance(92) => coefficient(random).abs(),
+        9..=11 => -coefficient(random).abs(),
         _ => coefficient(random),
     };
     masks.iter().copied().map(of_mask).collect()
@@ -311,10 +339,12 @@ fn ranges(random: &mut Random, register: &mut Register) {
         6 => 0,
         _ => random.pick(&[10, 50, 80]),
     };
-    let one = random.below(register.terms.len().max(1));
+    // Terms of choices from 32 on, which come last, can't have one.
+    let count = register.terms.iter().filter(|term| term.mask <= LOWER).count();
+    let one = random.below(count.max(1));
     // The lows stay as they were, mostly, so that a search meets what `coefficients` made for it.
     let lows_stay = random.chance(60);
-    for (t, term) in register.terms.iter_mut().enumerate() {
+    for (t, term) in register.terms[..count].iter_mut().enumerate() {
         if t == one || random.chance(percent) {
             let (low, high) = if lows_stay { range_from(random, term.low) } else { range_about(random, term.low) };
             *term = Term { low, high, ranged: true, ..*term };
@@ -357,12 +387,28 @@ fn add_ranges(random: &mut Random, whole: &mut Whole) {
     }
 }
 
-/// Makes a `16` of a `12`.
+/// Makes a `16` of a `12`, or of a `15` whose mask it has room for.
 fn with_range(random: &mut Random, command: &mut Vec<u8>) {
-    let [mask, low] = [1, 5].map(|at| i32::from_le_bytes(command[at..at + 4].try_into().unwrap()));
-    let limit = MAX_COEFFICIENT as i32;
-    let (low, high) = if low.unsigned_abs() <= MAX_COEFFICIENT { range_from(random, low) } else { (low, limit) };
-    *command = term_command(&Term { mask: mask as u32, low, high, ranged: true, position: 0 });
+    let (mask, low) = (mask_of(command), last_number(command));
+    if mask <= LOWER {
+        let limit = MAX_COEFFICIENT as i32;
+        let (low, high) = if low.unsigned_abs() <= MAX_COEFFICIENT { range_from(random, low) } else { (low, limit) };
+        *command = term_command(&Term { mask, low, high, ranged: true, position: 0 });
+    }
+}
+
+/// `15` in place of some `12`, or of all, and at times `41` in place of `40`.
+fn add_wide_forms(random: &mut Random, whole: &mut Whole) {
+    let percent = random.pick(&[0, 0, 20, 60, 100]);
+    let [register, .., plan] = &mut whole.parts;
+    for at in places(register, 0x12) {
+        if random.chance(percent) {
+            register[at] = wide_term(mask_of(&register[at]), last_number(&register[at]));
+        }
+    }
+    if places(plan, 0x40) == [0] && random.chance(30) {
+        plan[0] = wide_plan(plan_of(&plan[0]).unwrap());
+    }
 }
 
 fn base(random: &mut Random) -> i32 {
@@ -371,7 +417,7 @@ fn base(random: &mut Random) -> i32 {
 }
 
 /// A register of masks, each once, in any order; on a day of the usual length, without windows, rows or ranges.
-fn register_of(random: &mut Random, choice_count: usize, mut masks: Vec<u32>) -> Register {
+fn register_of(random: &mut Random, choice_count: usize, mut masks: Vec<u64>) -> Register {
     masks.sort();
     masks.dedup();
     masks.truncate(MAX_TERMS);
@@ -390,11 +436,13 @@ fn register_of(random: &mut Random, choice_count: usize, mut masks: Vec<u32>) ->
 /// A register, and the scheme that the builder makes of it, or of so many of its terms that the builder can.
 fn built(random: &mut Random, size: Size) -> (Register, Scheme) {
     let n = choice_count(random, size);
-    let all = ((1u64 << n) - 1) as u32;
-    let count = random.below(if size == Size::Small { 8 } else { 60 });
-    let sparse = random.chance(50);
-    let mut masks: Vec<u32> = (0..count)
-        .map(|_| random.next() as u32 & if sparse { random.next() as u32 & random.next() as u32 } else { u32::MAX } & all)
+    let all = all_of(n);
+    let count = random.below(if matches!(size, Size::Small | Size::Wide) { 8 } else { 60 });
+    // Of many choices few products are left, and a term of d choices may need d - 2.
+    let thin = if n > 32 { 1 + random.below(5) } else { random.pick(&[0, 2]) };
+    let parts = if n > 32 { [all, all, LOWER, all & !LOWER] } else { [all; 4] };
+    let mut masks: Vec<u64> = (0..count)
+        .map(|_| (0..thin).fold(random.pick(&parts) & random.next(), |mask, _| mask & random.next()))
         .filter(|&mask| mask != 0)
         .collect();
     masks.extend(regular_masks(random, n));
@@ -412,9 +460,9 @@ fn built(random: &mut Random, size: Size) -> (Register, Scheme) {
 }
 
 /// Masks that make a search come to what it rarely comes to by chance; mostly none.
-fn regular_masks(random: &mut Random, n: usize) -> Vec<u32> {
-    let all = ((1u64 << n) - 1) as u32;
-    match random.below(10) {
+fn regular_masks(random: &mut Random, n: usize) -> Vec<u64> {
+    let all = all_of(n);
+    match random.below(if n > 32 { 14 } else { 10 }) {
         // Each choice by itself; with one term of all choices; with each pair of neighbours.
         0 | 1 => (0..n).map(|i| 1 << i).collect(),
         2 => (0..n).map(|i| 1 << i).chain([all]).collect(),
@@ -423,6 +471,12 @@ fn regular_masks(random: &mut Random, n: usize) -> Vec<u32> {
         // The choices up to one, or from one on.
         5 => (0..n).map(|i| all >> i).collect(),
         6 => (0..n).map(|i| all << i & all).collect(),
+        // Of more than 32 one term of as many as the builder has products for, or of one more; or each by itself once more.
+        7 | 8 if n > 32 => {
+            let degree = (most_products(n) + 2 + random.below(2)).min(n);
+            vec![all_of(degree) << random.below(n - degree + 1)]
+        }
+        9..=11 if n > 32 => (0..n).map(|i| 1 << i).collect(),
         _ => Vec::new(),
     }
 }
@@ -430,28 +484,28 @@ fn regular_masks(random: &mut Random, n: usize) -> Vec<u32> {
 /// Products whose sets are new, then terms whose masks are unions of two variables' sets.
 pub fn products_first(random: &mut Random, size: Size) -> (Register, Scheme) {
     let n = choice_count(random, size);
+    products_of(random, size, n)
+}
+
+/// The same of so many choices.
+pub fn products_of(random: &mut Random, size: Size, n: usize) -> (Register, Scheme) {
     let mut scheme = Scheme::of_choices(n);
+    let most = most_products(n);
     let wanted = match size {
-        Size::Small => random.below(5),
-        Size::Middle => random.below(MAX_PRODUCTS + 1),
-        Size::Full => MAX_PRODUCTS,
+        Size::Small | Size::Wide => random.below(5),
+        Size::Middle => random.below(most + 1),
+        Size::Full => most,
     };
-    for _ in 0..20 * wanted {
-        if scheme.products.len() == wanted || scheme.variables() < 2 {
-            break;
-        }
-        let r = 1 + random.below(scheme.variables() - 1);
-        let l = random.below(r);
-        if !scheme.sets.contains(&scheme.union(l, r)) {
-            scheme.add_product(l, r);
-        }
+    add_products(random, &mut scheme, wanted);
+    let mut splits: Vec<(u64, usize, usize)> = Vec::new();
+    if size == Size::Wide && random.chance(60) {
+        splits.extend((0..n).map(|i| (1 << i, i, i)));
     }
     let wanted = match size {
-        Size::Small => random.below(8),
+        Size::Small | Size::Wide => splits.len() + random.below(8),
         Size::Middle => random.below(100),
         Size::Full => MAX_TERMS,
     };
-    let mut splits: Vec<(u32, usize, usize)> = Vec::new();
     for _ in 0..4 * wanted {
         if splits.len() == wanted {
             break;
@@ -469,9 +523,23 @@ pub fn products_first(random: &mut Random, size: Size) -> (Register, Scheme) {
     (register, scheme)
 }
 
+/// Adds products with new sets, up to so many in all, if they are found.
+fn add_products(random: &mut Random, scheme: &mut Scheme, wanted: usize) {
+    for _ in 0..20 * wanted {
+        if scheme.products.len() >= wanted || scheme.variables() < 2 {
+            break;
+        }
+        let r = 1 + random.below(scheme.variables() - 1);
+        let l = random.below(r);
+        if !scheme.sets.contains(&scheme.union(l, r)) {
+            scheme.add_product(l, r);
+        }
+    }
+}
+
 // Certificates, beside a plan.
 
-fn any_certificate(random: &mut Random, size: Size, register: &Register, scheme: &Scheme, plan: u32) -> Certificate {
+fn any_certificate(random: &mut Random, size: Size, register: &Register, scheme: &Scheme, plan: u64) -> Certificate {
     if scheme.splits.len() < register.terms.len() {
         return Certificate { scale: 1, target: 0, multipliers: Vec::new(), squares: Vec::new(), end: 0 };
     }
@@ -502,7 +570,7 @@ pub fn random_certificate(random: &mut Random, size: Size, register: &Register, 
     let n = scheme.variables();
     let most = certificate::MAX_MULTIPLIERS - if room { n } else { 0 };
     let (multipliers, squares) = match size {
-        Size::Small => (random.below(8), random.below(4)),
+        Size::Small | Size::Wide => (random.below(8), random.below(4)),
         Size::Middle => (random.below(100), random.below(12)),
         Size::Full => (most, certificate::MAX_SQUARES),
     };
@@ -530,7 +598,7 @@ fn multiplier(random: &mut Random, register: &Register, scheme: &Scheme, reach: 
     let mut kind = random.within(0x31, 0x39) as u8;
     let mut names = [random.below(n), 0, 0, 0];
     match kind {
-        0x32 => match (0..20)
+        0x32 => match (0..100)
             .map(|_| (random.below(n), random.below(n)))
             .find(|&(i, j)| sets[j] & !sets[i] == 0 && sets[j] != sets[i])
         {
@@ -586,7 +654,7 @@ fn square(random: &mut Random, variables: usize, reach: i64) -> Square {
 }
 
 /// Adds `31` commands that make each row but row 0 dominant, then takes the largest target that row 0 carries.
-pub fn repair(register: &Register, scheme: &Scheme, plan: u32, certificate: &mut Certificate) {
+pub fn repair(register: &Register, scheme: &Scheme, plan: u64, certificate: &mut Certificate) {
     let missing = |table: &reference::table::Table, i: usize| -> i64 {
         (0..table.side).filter(|&j| j != i).map(|j| table.at(i, j).abs()).sum::<i64>() - table.at(i, i)
     };
@@ -638,7 +706,7 @@ fn command(byte: u8, operands: &[&[u8]]) -> Vec<u8> {
     bytes
 }
 
-/// The commands of a register; the usual length of the day is not said.
+/// The commands of a register; the usual length of the day is not said, and a `15` stands only where a `12` has no room.
 pub fn register_commands(register: &Register) -> Vec<Vec<u8>> {
     let mut commands = vec![command(0x10, &[&register.base.to_le_bytes()])];
     if register.day_length != USUAL_DAY {
@@ -673,12 +741,29 @@ fn row_command(row: &Row) -> Vec<u8> {
 }
 
 fn term_command(term: &Term) -> Vec<u8> {
-    let [mask, low, high] = [term.mask.to_le_bytes(), term.low.to_le_bytes(), term.high.to_le_bytes()];
-    if term.ranged {
-        command(0x16, &[&mask, &low, &high])
-    } else {
-        command(0x12, &[&mask, &low])
+    let (low, high) = (term.low.to_le_bytes(), term.high.to_le_bytes());
+    match u32::try_from(term.mask) {
+        Ok(mask) if term.ranged => command(0x16, &[&mask.to_le_bytes(), &low, &high]),
+        Ok(mask) => command(0x12, &[&mask.to_le_bytes(), &low]),
+        Err(_) => wide_term(term.mask, term.low),
     }
+}
+
+fn wide_term(mask: u64, coefficient: i32) -> Vec<u8> {
+    command(0x15, &[&mask.to_le_bytes(), &coefficient.to_le_bytes()])
+}
+
+/// The mask of a whole term.
+fn mask_of(term: &[u8]) -> u64 {
+    let mut mask = [0; 8];
+    let width = widths(term[0])[0];
+    mask[..width].copy_from_slice(&term[1..1 + width]);
+    u64::from_le_bytes(mask)
+}
+
+/// The coefficient of a whole term, the high one of a range.
+fn last_number(term: &[u8]) -> i32 {
+    i32::from_le_bytes(*term.last_chunk().unwrap())
 }
 
 pub fn scheme_commands(scheme: &Scheme) -> Vec<Vec<u8>> {
@@ -713,8 +798,25 @@ pub fn certificate_commands(random: &mut Random, certificate: &Certificate) -> V
     commands
 }
 
-fn plan_command(plan: u32) -> Vec<u8> {
-    command(0x40, &[&plan.to_le_bytes()])
+/// A plan by the shorter command, if it has room.
+fn plan_command(plan: u64) -> Vec<u8> {
+    match u32::try_from(plan) {
+        Ok(plan) => command(0x40, &[&plan.to_le_bytes()]),
+        Err(_) => wide_plan(plan),
+    }
+}
+
+fn wide_plan(plan: u64) -> Vec<u8> {
+    command(0x41, &[&plan.to_le_bytes()])
+}
+
+/// The plan at the front of the bytes, if it is not cut off.
+fn plan_of(bytes: &[u8]) -> Option<u64> {
+    match bytes.split_first()? {
+        (0x40, rest) => Some(u32::from_le_bytes(*rest.first_chunk()?) as u64),
+        (0x41, rest) => Some(u64::from_le_bytes(*rest.first_chunk()?)),
+        _ => None,
+    }
 }
 
 /// The widths of a command's operands.
@@ -724,7 +826,8 @@ fn widths(byte: u8) -> Vec<usize> {
         0x11 => vec![2, 2],
         0x12 => vec![4, 4],
         0x13 => vec![2, 2, 2],
-        0x14 => [vec![2], vec![1; MAX_CHOICES]].concat(),
+        0x14 => [vec![2], vec![1; ROW_ENTRIES]].concat(),
+        0x15 => vec![8, 4],
         0x16 => vec![4, 4, 4],
         0x18 => vec![2],
         0x21 | 0x22 => vec![1, 1],
@@ -734,13 +837,14 @@ fn widths(byte: u8) -> Vec<usize> {
         0x33 => vec![1, 1, 1, 8],
         0x34 => vec![1, 1, 1, 1, 8],
         0x3A => [vec![4], vec![2; 65]].concat(),
+        0x41 => vec![8],
         _ => vec![],
     }
 }
 
-const COMMANDS: [u8; 26] = [
-    0x10, 0x11, 0x12, 0x13, 0x14, 0x16, 0x18, 0x1F, 0x21, 0x22, 0x2F, 0x30, 0x31, 0x32, 0x33, 0x34, 0x35, 0x36, 0x37, 0x38, 0x39,
-    0x3A, 0x3B, 0x3F, 0x40, 0x00,
+const COMMANDS: [u8; 28] = [
+    0x10, 0x11, 0x12, 0x13, 0x14, 0x15, 0x16, 0x18, 0x1F, 0x21, 0x22, 0x2F, 0x30, 0x31, 0x32, 0x33, 0x34, 0x35, 0x36, 0x37, 0x38,
+    0x39, 0x3A, 0x3B, 0x3F, 0x40, 0x41, 0x00,
 ];
 
 // Damage.
@@ -804,15 +908,20 @@ fn plan_beside(random: &mut Random, parts: &[Vec<u8>; 4], n: usize) -> Vec<u8> {
 fn damage_commands(random: &mut Random, whole: &mut Whole, part: usize) {
     let (n, all) = (whole.choices, whole.variables);
     let rows = places(&whole.parts[0], 0x14).len();
+    let products = products_in(&whole.parts[1], n);
     let commands = &mut whole.parts[part];
     if commands.is_empty() {
         return;
     }
     let percent = if rows > 0 { 35 } else { 4 };
-    let ranged = !places(commands, 0x16).is_empty();
+    let [ranged, wide] = [0x16, 0x15].map(|byte| !places(commands, byte).is_empty());
     match part {
+        0 if random.chance(5) => return more_choices(random, commands),
         0 if random.chance(percent) => return damage_rows(random, commands, n),
         0 if random.chance(if ranged { 40 } else { 5 }) => return damage_ranges(random, commands, n),
+        0 if random.chance(if wide { 40 } else { 5 }) => return damage_wide_terms(random, commands, n),
+        1 if random.chance(8) => return more_products(random, commands, products),
+        2 if n > 32 && random.chance(8) => return half_alike(random, commands, &products),
         2 if random.chance(percent) => return damage_row_forms(random, commands, rows, all),
         3 if random.chance(40) => return damage_plan(random, &mut commands[0], n),
         _ => {}
@@ -887,10 +996,11 @@ fn damage_commands(random: &mut Random, whole: &mut Whole, part: usize) {
             let mut more = commands[last].clone();
             let length = length_of(commands);
             match more[0] {
-                0x11 => more[3..5].copy_from_slice(&(length - 1).to_le_bytes()),
-                0x12 | 0x16 if more.len() > 4 => more[1..5].copy_from_slice(&(((1u64 << n) - 1) as u32).to_le_bytes()),
+                0x11 if more.len() > 4 => more[3..5].copy_from_slice(&(length - 1).to_le_bytes()),
+                0x12 | 0x16 if more.len() > 4 => more[1..5].copy_from_slice(&(all_of(n) as u32).to_le_bytes()),
+                0x15 if more.len() > 8 => more[1..9].copy_from_slice(&all_of(n).to_le_bytes()),
                 0x13 => more = window_command(&Window { tank: 9_999, from: length - 1, to: length }),
-                0x21 => more[1..3].copy_from_slice(&[random.below(all) as u8, all as u8 - 1]),
+                0x21 if more.len() > 2 => more[1..3].copy_from_slice(&[random.below(all) as u8, all as u8 - 1]),
                 _ => {}
             }
             if random.chance(60) {
@@ -991,7 +1101,7 @@ fn damage_day(random: &mut Random, commands: &mut Vec<Vec<u8>>) {
     let day = day_command(random.pick(&[length, other, wrong]));
     // Where `18` stands, or would.
     let place = commands.iter().position(|command| command[0] == 0x18).map_or(1..1, |at| at..at + 1);
-    let kind = random.pick(&[0x10, 0x11, 0x12, 0x13, 0x1F]);
+    let kind = random.pick(&[0x10, 0x11, 0x12, 0x13, 0x15, 0x1F]);
     match random.below(13) {
         // Of any length, whatever the minutes are; left out; twice.
         0..=2 => drop(commands.splice(place, [day])),
@@ -1034,11 +1144,91 @@ fn damage_day(random: &mut Random, commands: &mut Vec<Vec<u8>>) {
     }
 }
 
+/// Choices of tanks without windows up to the limit or past it, the last of all perhaps wrong in another way too, or cut off.
+fn more_choices(random: &mut Random, commands: &mut Vec<Vec<u8>>) {
+    let (choices, length) = (places(commands, 0x11), length_of(commands));
+    let with_windows: Vec<u16> = places(commands, 0x13).iter().map(|&at| operand(&commands[at], 0)).collect();
+    let mut all: BTreeSet<_> = choices.iter().map(|&at| [0, 1].map(|i| operand(&commands[at], i))).collect();
+    let wanted = MAX_CHOICES + random.below(2);
+    while all.len() < wanted {
+        let (tank, minute) = (1 + random.below(9_999) as u16, random.below(length as usize) as u16);
+        if !with_windows.contains(&tank) {
+            all.insert([tank, minute]);
+        }
+    }
+    let mut all: Vec<_> = all.into_iter().map(|[tank, minute]| choice_command(&Choice { tank, minute })).collect();
+    commands.retain(|command| command.first() != Some(&0x11));
+    let place = choices.first().map_or(1, |&at| at).min(commands.len());
+    if let Some(last) = all.last_mut().filter(|_| random.chance(50)) {
+        let (i, value) = random.pick(&[(0, 0), (0, 10_000), (0, 1), (1, length), (1, 0)]);
+        set_operand(last, i, value);
+        if random.chance(30) {
+            last.truncate(1 + random.below(4));
+            commands.truncate(place);
+        }
+    }
+    commands.splice(place..place, all);
+}
+
+/// The products that whole commands of a scheme of n choices say, those that are right.
+fn products_in(commands: &[Vec<u8>], n: usize) -> Scheme {
+    let mut scheme = Scheme::of_choices(n);
+    for at in places(commands, 0x21) {
+        let (l, r) = (commands[at][1] as usize, commands[at][2] as usize);
+        if l < r && r < scheme.variables() {
+            scheme.add_product(l, r);
+        }
+    }
+    scheme
+}
+
+/// Products with new sets up to as many as there may be or past it, the last of them perhaps wrong in another way too, or cut off.
+fn more_products(random: &mut Random, commands: &mut Vec<Vec<u8>>, mut scheme: Scheme) {
+    let count = scheme.products.len();
+    let wanted = most_products(scheme.choices) + random.below(2);
+    add_products(random, &mut scheme, wanted);
+    let mut more: Vec<_> = scheme.products[count..].iter().map(|&(l, r)| vec![0x21, l as u8, r as u8]).collect();
+    let end = places(commands, 0x21).last().map_or(0, |at| at + 1);
+    if let Some(last) = more.last_mut().filter(|_| random.chance(50)) {
+        last[1 + random.below(2)] = random.pick(&[scheme.variables() as u8 - 1, 63, 64, 0xFF, last[1], last[2]]);
+        if random.chance(20) {
+            last.truncate(1 + random.below(2));
+            commands.truncate(end);
+        }
+    }
+    commands.splice(end..end, more);
+}
+
+/// One more null form, of variables whose sets don't fit, but would by choices 0 to 31 alone, or by those from 32 on.
+fn half_alike(random: &mut Random, commands: &mut Vec<Vec<u8>>, scheme: &Scheme) {
+    let kind = random.pick(&[0x32, 0x33, 0x34]);
+    let found = (0..2_000).find_map(|_| {
+        let half = random.pick(&[LOWER, !LOWER]);
+        let names: [usize; 4] = std::array::from_fn(|_| random.below(scheme.variables()));
+        let fit = |part: u64| {
+            let [i, j, k, l] = names.map(|name| scheme.sets[name] & part);
+            match kind {
+                0x32 => j & !i == 0,
+                0x33 => names[1] < names[2] && i == j | k,
+                _ => names[0] < names[1] && names[2] < names[3] && i | j == k | l,
+            }
+        };
+        (fit(half) && !fit(u64::MAX)).then_some(names)
+    });
+    if let Some(names) = found {
+        let names = names.map(|name| name as u8);
+        let m = random.within(-1_000, 1_000);
+        let place = random.below(commands.len()).max(1);
+        commands.insert(place, command(kind, &[&names[..certificate::names_of(kind)], &m.to_le_bytes()]));
+    }
+}
+
 /// Changes a row, its place, what stands after it, or what it bears on, in one way.
 fn damage_rows(random: &mut Random, commands: &mut Vec<Vec<u8>>, n: usize) {
     let rows = places(commands, 0x14);
+    let n = n.min(ROW_ENTRIES);
     let any: Vec<u8> = (0..2 + n).map(|_| random.next() as u8).collect();
-    let mut fresh = vec![0; 3 + MAX_CHOICES];
+    let mut fresh = vec![0; 3 + ROW_ENTRIES];
     fresh[0] = 0x14;
     // A row of 0s, of 1s, or of any entries with any total that is allowed.
     match random.below(3) {
@@ -1060,7 +1250,7 @@ fn damage_rows(random: &mut Random, commands: &mut Vec<Vec<u8>>, n: usize) {
         }
         return commands.insert(place, fresh);
     };
-    let kind = random.pick(&[0x10, 0x11, 0x12, 0x13, 0x18, 0x1F]);
+    let kind = random.pick(&[0x10, 0x11, 0x12, 0x13, 0x15, 0x18, 0x1F]);
     match random.below(16) {
         // One thing wrong, or two; of a row that is left as it was, or of all.
         0..=4 => wrong_row(random, &mut commands[at], n),
@@ -1072,7 +1262,7 @@ fn damage_rows(random: &mut Random, commands: &mut Vec<Vec<u8>>, n: usize) {
             set_operand(&mut commands[at], 0, total);
         }
         7 => {
-            let entry = 3 + random.below(n.min(MAX_CHOICES));
+            let entry = 3 + random.below(n);
             commands[at][entry] = random.pick(&[0, 1, 0xFF, 0x7F, 0x80, any[0]]);
         }
         // Every entry one choice further, or one choice back.
@@ -1109,7 +1299,7 @@ fn damage_rows(random: &mut Random, commands: &mut Vec<Vec<u8>>, n: usize) {
             if let Some(last) = more.last_mut().filter(|_| random.chance(50)) {
                 wrong_row(random, last, n);
                 if random.chance(15) {
-                    last.truncate(3 + random.below(MAX_CHOICES));
+                    last.truncate(3 + random.below(ROW_ENTRIES));
                 }
             }
             let end = rows[rows.len() - 1] + 1;
@@ -1118,12 +1308,12 @@ fn damage_rows(random: &mut Random, commands: &mut Vec<Vec<u8>>, n: usize) {
     }
 }
 
-/// Makes a row wrong in one way, or in two; n is the number of choices. With 32 choices there is no entry past them.
+/// Makes a row wrong in one way, or in two; n is the number of choices that have entries. With 32 there is no entry past them.
 fn wrong_row(random: &mut Random, row: &mut [u8], n: usize) {
     for _ in 0..1 + random.below(2) {
-        if n < MAX_CHOICES && random.chance(50) {
-            let any = n + random.below(MAX_CHOICES - n);
-            row[3 + random.pick(&[n, n, MAX_CHOICES - 1, any])] = random.pick(&[1, 0xFF, 0x80, 0x7F]);
+        if n < ROW_ENTRIES && random.chance(50) {
+            let any = n + random.below(ROW_ENTRIES - n);
+            row[3 + random.pick(&[n, n, ROW_ENTRIES - 1, any])] = random.pick(&[1, 0xFF, 0x80, 0x7F]);
         } else {
             let limit = MAX_ROW_TOTAL as i16;
             let near = random.pick(&[limit, limit + 1, limit - 1, -limit, -limit - 1, 1 - limit]);
@@ -1136,9 +1326,9 @@ fn wrong_row(random: &mut Random, row: &mut [u8], n: usize) {
 
 /// Changes a range, makes one where there was none or the reverse, or puts one elsewhere, in one way.
 fn damage_ranges(random: &mut Random, commands: &mut Vec<Vec<u8>>, n: usize) {
-    let (known, ranged) = (places(commands, 0x12), places(commands, 0x16));
-    let all = u32::MAX >> (MAX_CHOICES - n);
-    let any = random.next() as u32 & all;
+    let (known, ranged) = ([places(commands, 0x12), places(commands, 0x15)].concat(), places(commands, 0x16));
+    let all = all_of(n) & LOWER;
+    let any = random.next() & all;
     let about = coefficient(random);
     let (low, high) = range_about(random, about);
     let mut fresh = Term { mask: random.pick(&[1, all, any]), low, high, ranged: true, position: 0 };
@@ -1154,7 +1344,7 @@ fn damage_ranges(random: &mut Random, commands: &mut Vec<Vec<u8>>, n: usize) {
         }
         return;
     };
-    let kind = random.pick(&[0x10, 0x11, 0x12, 0x13, 0x14, 0x18, 0x1F]);
+    let kind = random.pick(&[0x10, 0x11, 0x12, 0x13, 0x14, 0x15, 0x18, 0x1F]);
     match random.below(18) {
         // One thing wrong, or up to three.
         0..=4 => wrong_range(random, &mut commands[at], n),
@@ -1173,7 +1363,7 @@ fn damage_ranges(random: &mut Random, commands: &mut Vec<Vec<u8>>, n: usize) {
                 with_range(random, &mut commands[at]);
             }
         }
-        // A term of the same mask, of either kind, before it or after it.
+        // A term of the same mask, of its kind or with a coefficient, before it or after it.
         11 => {
             let mut again = commands[at].clone();
             if random.chance(50) {
@@ -1230,6 +1420,7 @@ fn wrong_range(random: &mut Random, range: &mut [u8], n: usize) {
     let limit = MAX_COEFFICIENT as i32;
     for _ in 0..1 + random.below(3) {
         let near = random.pick(&[limit, limit + 1, limit + 1, -limit, -limit - 1, -limit - 1, i32::MIN, i32::MAX, 0]);
+        // With 32 choices or more a range has no room for one that is not there.
         let past = (1u64 << n) as u32 | random.pick(&[0, 1]);
         match random.below(4) {
             0 => range[1..5].copy_from_slice(&random.pick(&[0, past, past, 1, 1]).to_le_bytes()),
@@ -1238,6 +1429,121 @@ fn wrong_range(random: &mut Random, range: &mut [u8], n: usize) {
             _ => range[5..13].rotate_left(4),
         }
     }
+}
+
+/// Changes a `15`, makes one where there was none or the reverse, or puts one elsewhere, in one way.
+fn damage_wide_terms(random: &mut Random, commands: &mut Vec<Vec<u8>>, n: usize) {
+    let (wide, others) = (places(commands, 0x15), [places(commands, 0x12), places(commands, 0x16)].concat());
+    let all = all_of(n);
+    let any = random.next() & all;
+    let about = coefficient(random);
+    let fresh = wide_term(random.pick(&[1, all, any, any & LOWER, any & !LOWER]), about);
+    let term_end = commands.iter().rposition(|command| matches!(command[0], 0x11..=0x16)).map_or(0, |at| at + 1);
+    let Some(&at) = wide.get(random.below(wide.len().max(1))) else {
+        // No `15` yet: one in place of another term, or one more.
+        match others.get(random.below(others.len().max(1))) {
+            Some(&at) if random.chance(60) => commands[at] = wide_term(mask_of(&commands[at]), last_number(&commands[at])),
+            _ => {
+                let anywhere = random.below(commands.len() + 1);
+                commands.insert(random.pick(&[anywhere, term_end, term_end]), fresh);
+            }
+        }
+        return;
+    };
+    let kind = random.pick(&[0x10, 0x11, 0x12, 0x13, 0x14, 0x16, 0x18, 0x1F]);
+    match random.below(20) {
+        // One thing wrong, or up to three.
+        0..=4 => wrong_wide_term(random, &mut commands[at], n),
+        // A `12` or a `16` in its place, or only the command byte of one; of another term only the command byte of this one.
+        5 => narrowed(random, &mut commands[at]),
+        6 if random.chance(50) => commands[at][0] = random.pick(&[0x12, 0x16]),
+        6 => {
+            if let Some(&at) = others.get(random.below(others.len().max(1))) {
+                commands[at][0] = 0x15;
+            }
+        }
+        // A term of the same mask, of any kind, before it or after it.
+        7..=9 => {
+            let mut again = commands[at].clone();
+            if mask_of(&again) <= LOWER && random.chance(70) {
+                narrowed(random, &mut again);
+            }
+            commands.insert(at + random.below(2), again);
+        }
+        // Exchanged with another term.
+        10 => {
+            let terms = [wide, others].concat();
+            commands.swap(at, random.pick(&terms));
+        }
+        // One more, or this one, first, after the last command of a kind, or anywhere. At times it is cut off there.
+        11..=13 => {
+            let term = if random.chance(50) { commands.remove(at) } else { fresh };
+            let anywhere = random.below(commands.len() + 1);
+            let after = commands.iter().rposition(|command| command[0] == kind).map_or(anywhere, |at| at + 1);
+            let place = random.pick(&[0, anywhere, after, after]);
+            commands.insert(place, term);
+            if random.chance(30) {
+                let length = 1 + random.below(commands[place].len() - 1);
+                commands[place].truncate(length);
+                commands.truncate(place + 1);
+            }
+        }
+        // A command of another kind directly after it, once more or the first.
+        14 | 15 => {
+            let length = length_of(commands);
+            let first = match kind {
+                0x13 => window_command(&Window { tank: 9_999, from: 0, to: length }),
+                0x14 => row_command(&Row { total: 0, entries: [0; ROW_ENTRIES] }),
+                0x18 => day_command(length),
+                _ => term_command(&Term { ranged: true, ..Term::known(LOWER & all, about) }),
+            };
+            let command = commands.iter().rfind(|command| command[0] == kind).cloned().unwrap_or(first);
+            commands.insert(at + 1, command);
+        }
+        // More of them after the last term, up to the limit or past it, the last of them perhaps wrong in another way too.
+        _ => {
+            let wanted = MAX_TERMS + random.pick(&[0, 1, 1]);
+            let count = if random.chance(70) { wanted.saturating_sub(wide.len() + others.len()) as u64 } else { 1 };
+            // Masks that rise up to that of all choices, as many as there are.
+            let mut more: Vec<_> = (all.saturating_sub(count)..all).map(|mask| wide_term(mask + 1, about)).collect();
+            if let Some(last) = more.last_mut().filter(|_| random.chance(50)) {
+                if random.chance(40) {
+                    narrowed(random, last);
+                } else {
+                    wrong_wide_term(random, last, n);
+                }
+            }
+            commands.splice(term_end..term_end, more);
+        }
+    }
+}
+
+/// Makes a `12` or a `16` of a `15`, which has no room for the upper half of the mask.
+fn narrowed(random: &mut Random, term: &mut Vec<u8>) {
+    let (mask, coefficient) = (mask_of(term) & LOWER, last_number(term));
+    *term = term_command(&Term { ranged: random.chance(50), ..Term::known(mask, coefficient) });
+}
+
+/// Makes a `15` wrong in one way, or in up to three, or puts its numbers at their limits; n is the number of choices.
+fn wrong_wide_term(random: &mut Random, term: &mut [u8], n: usize) {
+    let limit = MAX_COEFFICIENT as i32;
+    for _ in 0..1 + random.below(3) {
+        let near = random.pick(&[limit, limit + 1, limit + 1, -limit, -limit - 1, -limit - 1, i32::MIN, i32::MAX, 0, 0]);
+        let past: u64 = 1 << number_past(random, n);
+        let mask = u64::from_le_bytes(term[1..9].try_into().unwrap());
+        match random.below(5) {
+            0 => term[1..9].copy_from_slice(&random.pick(&[0, 0, past, past | 1, 1]).to_le_bytes()),
+            1 => term[1..9].copy_from_slice(&(mask | past).to_le_bytes()),
+            // The halves of the mask exchanged.
+            2 => term[1..9].rotate_left(4),
+            _ => term[9..13].copy_from_slice(&near.to_le_bytes()),
+        }
+    }
+}
+
+/// The number of a choice that is not there, of n: the first, the next, one past the limit, or one at an end of the upper half.
+fn number_past(random: &mut Random, n: usize) -> usize {
+    random.pick(&[n, n, n + 1, n.max(32), n.max(MAX_CHOICES - 1), MAX_CHOICES, 63])
 }
 
 /// Changes a `3B`, or puts one more, in one way; where there is no row each is wrong.
@@ -1278,20 +1584,30 @@ fn damage_row_forms(random: &mut Random, commands: &mut Vec<Vec<u8>>, rows: usiz
     }
 }
 
-/// Another plan: a choice more or less, two others, none, all, any, or one that names a choice which is not there.
-fn damage_plan(random: &mut Random, command: &mut [u8], n: usize) {
-    let Some(bytes) = command.get_mut(1..5) else { return };
-    let plan = u32::from_le_bytes((&*bytes).try_into().unwrap());
+/// Another plan, by either command: a choice more or less, two others, none, all, any, one that names a choice which is not there,
+/// or one with its halves exchanged. At times only the command byte is another, or it is cut off.
+fn damage_plan(random: &mut Random, bytes: &mut Vec<u8>, n: usize) {
+    let Some(plan) = plan_of(bytes) else { return };
     let (a, b) = (random.below(n), random.below(n));
-    let all = u32::MAX >> (MAX_CHOICES - n);
-    let other = match random.below(8) {
+    let (all, past) = (all_of(n), 1 << number_past(random, n));
+    let other = match random.below(12) {
         0..=2 => plan ^ 1 << a,
-        3 | 4 => plan ^ (1 << a | 1 << b),
-        5 => random.pick(&[0, all]),
-        6 => random.next() as u32 & all,
-        _ => plan ^ (1 << a) ^ (1u64 << (n + random.below(2))) as u32,
+        3..=5 => plan ^ (1 << a | 1 << b),
+        6 => random.pick(&[0, all]),
+        7 => random.next() & all,
+        8 => plan.rotate_left(32),
+        9 => plan | past,
+        10 => plan ^ 1 << a ^ past,
+        _ => plan,
     };
-    bytes.copy_from_slice(&other.to_le_bytes());
+    let size = 1 + widths(bytes[0])[0];
+    let command = if random.chance(50) { wide_plan(other) } else { plan_command(other) };
+    bytes.splice(..size, command);
+    if other == plan && random.chance(50) {
+        bytes[0] = if bytes[0] == 0x40 { 0x41 } else { 0x40 };
+    } else if other == plan {
+        bytes.truncate(1 + random.below(8));
+    }
 }
 
 /// The length of the day that a register's commands say, the usual one where they say none that is right.
@@ -1303,7 +1619,7 @@ fn length_of(commands: &[Vec<u8>]) -> u16 {
 /// Where whole commands of this byte stand.
 fn places(commands: &[Vec<u8>], byte: u8) -> Vec<usize> {
     let size = 1 + widths(byte).iter().sum::<usize>();
-    (0..commands.len()).filter(|&at| commands[at][0] == byte && commands[at].len() == size).collect()
+    (0..commands.len()).filter(|&at| commands[at].first() == Some(&byte) && commands[at].len() == size).collect()
 }
 
 /// Operand i of a command whose operands are u16.
@@ -1323,7 +1639,11 @@ fn notable_operand(random: &mut Random, command: &mut [u8], n: usize, all: usize
     let which = random.below(widths.len());
     let at: usize = 1 + widths[..which].iter().sum::<usize>();
     let near = random.within(-1, 1);
+    let past = number_past(random, n);
     let value = match widths[which] {
+        8 if matches!(command[0], 0x15 | 0x41) => {
+            random.pick(&[0, 1, 1 << (n - 1), 1 << n, 1 << 31, 1 << 32, 1 << past, i64::MAX]).wrapping_add(near)
+        }
         1 => random.pick(&[0, n as i64 - 1, n as i64, all as i64 - 1, all as i64, 63, 64, 255]),
         2 => {
             let length = random.pick(&DAY_LENGTHS) as i64;

@@ -6,13 +6,14 @@
 //! The folders have jobs, `*.job`, of which a part of the inputs is made. Exit status 1: a difference, or a refusal number that
 //! the scope gives a call or a command and that no input led to, or a length of the day or a number of rows that no accepted
 //! register had, or no accepted certificate with `3B`, or a supplier of whom no job was accepted or none refused, or something else
-//! that `report_ranges`, `report_suppliers` or `report_listings` asks for.
+//! that `report_wide`, `report_ranges`, `report_suppliers` or `report_listings` asks for.
 
 use compare::generate::{input, seed, with_other_places, Input, Whole};
 use compare::random::Random;
 use feedcheck::raw;
 use reference::plan::FEEDS_NONE;
-use reference::register::{Register, Term, LONG_DAY, MAX_CHOICES, MAX_COEFFICIENT, MAX_ROWS, SHORT_DAY, USUAL_DAY};
+use reference::register::{Register, Term, LONG_DAY, MAX_CHOICES, MAX_COEFFICIENT, MAX_ROWS, ROW_ENTRIES, SHORT_DAY, USUAL_DAY};
+use reference::scheme::{MAX_PRODUCTS, MAX_VARIABLES};
 use reference::search::Found;
 use reference::table::NUMBERS as TABLE_NUMBERS;
 use reference::{Answer, Counters, Refusal, Tally, SUPPLIERS};
@@ -40,12 +41,13 @@ type Listing<A> = fn(&[u8], &mut [i64], &mut [u8]) -> A;
 const NUMBERS: usize = 18;
 
 /// Each command, by its part and byte, with the refusal numbers that the scope gives it there; 1 where it stands out of place.
-const COMMANDS: [(u8, u8, &[u8]); 25] = [
+const COMMANDS: [(u8, u8, &[u8]); 27] = [
     (1, 0x10, &[1, 2, 4]),
     (1, 0x11, &[1, 2, 3, 4, 7, 13]),
     (1, 0x12, &[1, 2, 3, 4, 5, 7]),
     (1, 0x13, &[1, 2, 3, 4, 6, 7]),
     (1, 0x14, &[1, 2, 3, 4, 5]),
+    (1, 0x15, &[1, 2, 3, 4, 5, 7]),
     (1, 0x16, &[1, 2, 3, 4, 5, 6, 7]),
     (1, 0x18, &[1, 2, 4]),
     (1, 0x1F, &[1, 3]),
@@ -66,6 +68,7 @@ const COMMANDS: [(u8, u8, &[u8]); 25] = [
     (3, 0x3B, &[1, 2, 3, 4, 5]),
     (3, 0x3F, &[1, 9]),
     (4, 0x40, &[2, 5, 15]),
+    (4, 0x41, &[2, 5, 15]),
 ];
 
 /// The lengths of the day, and whether `18` says them.
@@ -83,6 +86,30 @@ const WITH_RANGE: [(&str, u8, &[u8]); 8] = [
     ("job", 3, &[1, 2, 3, 4, 5, 6, 8, 9, 12]),
     ("job", 4, &[1, 2, 5, 15]),
 ];
+
+/// What an accepted register may be that has more than 32 choices or says a term by `15`.
+const WIDE_REGISTERS: [&str; 8] = [
+    "more than 32 choices",
+    "48 choices",
+    "more than 32 choices and a range",
+    "more than 32 choices and rows",
+    "a 15 that a 12 could say",
+    "a 12 or a 16 after such a 15",
+    "a mask of 2^32 or more",
+    "a mask of choices from 32 on alone",
+];
+
+/// The same of an accepted job.
+const WIDE_JOBS: [&str; 5] = [
+    "a 41",
+    "a 41 that a 40 could say",
+    "a plan of 2^32 or more",
+    "more than 32 choices and rows",
+    "more than 32 choices and a range",
+];
+
+/// What a scheme of more than 32 choices comes to, for which there are fewer than 32 products.
+const FEW_PRODUCTS: [&str; 3] = ["21 refused 3", "built, all products needed", "build refused 10"];
 
 /// What a range may be.
 const RANGES: [&str; 7] =
@@ -118,6 +145,12 @@ struct Comparison {
     /// How many jobs were accepted that have rows, and how many certificates that have a `3B`.
     fitting: u64,
     row_forms: u64,
+    /// How many accepted registers and jobs are as in `WIDE_REGISTERS` and `WIDE_JOBS`, how many schemes came to each of
+    /// `FEW_PRODUCTS`, and how many searches found a plan of 2^32 or more.
+    wide_registers: [u64; 8],
+    wide_jobs: [u64; 5],
+    few_products: [u64; 3],
+    wide_found: u64,
     /// How many accepted registers have a range of each kind, by `RANGES`, and how many have other terms beside ranges.
     ranges: [u64; 7],
     both_kinds: u64,
@@ -239,11 +272,15 @@ impl Comparison {
         }
         if let Ok(register) = reference::register(part1) {
             self.count_ranges(&register);
+            add(&mut self.wide_registers, kinds_of_register(&register, part1));
         }
         self.count_answer("register", answer.number, library == answer, input, || format!("{library:?} {answer:?}"));
 
         let library = raw::scheme(part1, part2);
         let answer = scheme_answer(reference::scheme(part1, part2));
+        // The products stand first.
+        let product = answer.part == 2 && part2.get(answer.position) == Some(&0x21);
+        self.few_products[0] += (product && answer.number == 3 && answer.position < 3 * MAX_PRODUCTS) as u64;
         self.count_answer("scheme", answer.number, library == answer, input, || format!("{library:?} {answer:?}"));
 
         self.compare_writer("build", input, 865, |buffer| raw::build(part1, buffer), |buffer| reference::build(part1, buffer));
@@ -286,6 +323,19 @@ impl Comparison {
         self.count_answer(call, answer.number, same, input, || format!("{library:?} {answer:?} buffers {}", buffer.same()));
         if call == "plain" && has_range(alone(&input.parts[0])) {
             self.count_with_range(call, answer.part, answer.number);
+        }
+        if call == "build" {
+            self.count_built(&input.parts[0], answer.number);
+        }
+    }
+
+    /// Counts a scheme that was to be built, where there may be fewer than 32 products.
+    fn count_built(&mut self, part1: &[u8], number: u8) {
+        let few = |register: &Register| register.choices.len() + MAX_PRODUCTS > MAX_VARIABLES;
+        if let Some(register) = alone(part1).filter(few) {
+            let full = reference::builder::build(&register).is_ok_and(|scheme| scheme.is_full());
+            self.few_products[1] += (number == 0 && full) as u64;
+            self.few_products[2] += (number == 10) as u64;
         }
     }
 
@@ -340,6 +390,7 @@ impl Comparison {
             cost: found.cost,
             visits: found.visits,
         };
+        self.wide_found += !narrow(found.plan) as u64;
         self.count_answer("search", answer.number, library == answer, input, || format!("limit {limit}: {library:?} {answer:?}"));
     }
 
@@ -438,8 +489,7 @@ impl Comparison {
             tally: raw_tally(after),
         };
         if answer.number == 0 {
-            let (register, _) = reference::register::read(&input.job).expect("the register of an accepted job");
-            self.fitting += !register.rows.is_empty() as u64;
+            self.count_job(&input.job);
         }
         if has_range(reference::register::read(&input.job).ok().map(|(register, _)| register)) {
             self.count_with_range("job", answer.part, answer.number);
@@ -449,6 +499,20 @@ impl Comparison {
         self.count_answer("job", answer.number, same, input, || {
             format!("supplier {supplier}, tally {before:?}: {library:?} {answer:?} tables {}", table.same())
         });
+    }
+
+    /// Counts an accepted job by what it has.
+    fn count_job(&mut self, job: &[u8]) {
+        let (register, mut at) = reference::register::read(job).expect("an accepted register");
+        let (scheme, length) = reference::scheme::read(&register, &job[at..]).expect("an accepted scheme");
+        at += length;
+        if !register.has_range() {
+            at += reference::certificate::read(&register, &scheme, &job[at..]).expect("an accepted certificate").1;
+        }
+        let (plan, _) = reference::plan::read(&register, &job[at..]).expect("an accepted plan");
+        let (said, many, rows) = (job[at] == 0x41, register.choices.len() > 32, !register.rows.is_empty());
+        self.fitting += rows as u64;
+        add(&mut self.wide_jobs, [said, said && narrow(plan), !narrow(plan), many && rows, many && register.has_range()]);
     }
 
     /// Counts a job by its supplier, or by what it would be if its supplier were there.
@@ -589,7 +653,7 @@ impl Comparison {
         }
         println!("accepted jobs with rows: {}; accepted certificates with 3B: {}", self.fitting, self.row_forms);
         missing += (self.fitting == 0) as usize + (self.row_forms == 0) as usize;
-        missing += self.report_ranges() + self.report_suppliers() + self.report_listings();
+        missing += self.report_wide() + self.report_ranges() + self.report_suppliers() + self.report_listings();
         println!(
             "commands refused by the check, and those of part 4 by the cost too (--: no byte there, or bytes after the end)"
         );
@@ -610,6 +674,18 @@ impl Comparison {
             }
         }
         missing
+    }
+
+    /// Prints what was counted of more than 32 choices and of `15` and `41`; how much of it did not occur.
+    fn report_wide(&self) -> usize {
+        println!("accepted registers with");
+        WIDE_REGISTERS.iter().zip(self.wide_registers).for_each(|(kind, count)| println!("{kind}: {count}"));
+        println!("accepted jobs with");
+        WIDE_JOBS.iter().zip(self.wide_jobs).for_each(|(kind, count)| println!("{kind}: {count}"));
+        println!("schemes for which there are fewer than 32 products");
+        FEW_PRODUCTS.iter().zip(self.few_products).for_each(|(kind, count)| println!("{kind}: {count}"));
+        println!("searches that found a plan of 2^32 or more: {}", self.wide_found);
+        zeros(&self.wide_registers) + zeros(&self.wide_jobs) + zeros(&self.few_products) + zeros(&[self.wide_found])
     }
 
     /// Prints what was counted of ranges; how much of it did not occur.
@@ -667,6 +743,11 @@ impl Comparison {
 /// How many of the counts are 0.
 fn zeros(counts: &[u64]) -> usize {
     counts.iter().filter(|&&count| count == 0).count()
+}
+
+/// Raises each count by 1 where that holds.
+fn add<const COUNT: usize>(counts: &mut [u64; COUNT], holds: [bool; COUNT]) {
+    counts.iter_mut().zip(holds).for_each(|(count, holds)| *count += holds as u64);
 }
 
 /// How many bytes a listing call writes of a job, and whether the job is accepted.
@@ -732,6 +813,28 @@ fn has_range(register: Option<Register>) -> bool {
     register.is_some_and(|register| register.has_range())
 }
 
+/// Whether a mask or a plan has room in 32 bits.
+fn narrow(set: u64) -> bool {
+    set <= u32::MAX as u64
+}
+
+/// What a register of these bytes is, as in `WIDE_REGISTERS`.
+fn kinds_of_register(register: &Register, bytes: &[u8]) -> [bool; 8] {
+    let (n, terms) = (register.choices.len(), &register.terms);
+    let by_15 = |term: &Term| bytes[term.position] == 0x15;
+    let without_need = terms.iter().position(|term| by_15(term) && narrow(term.mask));
+    [
+        n > 32,
+        n == MAX_CHOICES,
+        n > 32 && register.has_range(),
+        n > 32 && !register.rows.is_empty(),
+        without_need.is_some(),
+        without_need.is_some_and(|at| terms[at..].iter().any(|term| !by_15(term))),
+        terms.iter().any(|term| !narrow(term.mask)),
+        terms.iter().any(|term| term.mask as u32 == 0),
+    ]
+}
+
 /// What a range is, as in `RANGES`.
 fn kinds_of_range(range: &Term) -> [bool; 7] {
     let (low, high, limit) = (range.low, range.high, MAX_COEFFICIENT as i32);
@@ -757,8 +860,8 @@ fn register_answer(answer: Answer<reference::register::Register>) -> raw::Regist
         day_length: 0,
         choices: 0,
         terms: 0,
-        tanks: [0; 32],
-        minutes: [0; 32],
+        tanks: [0; MAX_CHOICES],
+        minutes: [0; MAX_CHOICES],
         masks: [0; 256],
         coefficients: [0; 256],
         highs: [0; 256],
@@ -769,7 +872,7 @@ fn register_answer(answer: Answer<reference::register::Register>) -> raw::Regist
         window_tos: [0; 64],
         rows: 0,
         row_totals: [0; MAX_ROWS],
-        row_entries: [0; MAX_ROWS * MAX_CHOICES],
+        row_entries: [0; MAX_ROWS * ROW_ENTRIES],
     };
     let refusal = answer.as_ref().err().copied().unwrap_or_default();
     if let Ok(register) = answer {
@@ -796,7 +899,7 @@ fn register_answer(answer: Answer<reference::register::Register>) -> raw::Regist
         record.rows = register.rows.len();
         for (k, row) in register.rows.iter().enumerate() {
             record.row_totals[k] = row.total;
-            record.row_entries[32 * k..32 * k + 32].copy_from_slice(&row.entries);
+            record.row_entries[ROW_ENTRIES * k..][..ROW_ENTRIES].copy_from_slice(&row.entries);
         }
     }
     raw::RegisterAnswer { number: refusal.number, part: refusal.part, position: refusal.position, register: record }
@@ -849,6 +952,10 @@ fn main() {
         rows: [0; MAX_ROWS + 1],
         fitting: 0,
         row_forms: 0,
+        wide_registers: [0; 8],
+        wide_jobs: [0; 5],
+        few_products: [0; 3],
+        wide_found: 0,
         ranges: [0; 7],
         both_kinds: 0,
         with_range: BTreeMap::new(),

@@ -1,7 +1,7 @@
 //! The builder of a scheme: 000 Algorithm 2.
 
 use crate::register::Register;
-use crate::scheme::{Scheme, MAX_PRODUCTS};
+use crate::scheme::Scheme;
 use crate::wire::Fault;
 
 pub fn build(register: &Register) -> Result<Scheme, Fault> {
@@ -24,14 +24,14 @@ pub fn build(register: &Register) -> Result<Scheme, Fault> {
     Ok(scheme)
 }
 
-/// The variable whose set is the union of those of a and b, made as the next product if none has it; `None` if there is no
-/// room for it.
+/// The variable whose set is the union of those of a and b, made as the next product if none has it; `None` if there may be no
+/// further product.
 fn joined(scheme: &mut Scheme, a: usize, b: usize) -> Option<usize> {
     let union = scheme.union(a, b);
     if let Some(v) = scheme.sets.iter().position(|&set| set == union) {
         return Some(v);
     }
-    if scheme.products.len() == MAX_PRODUCTS {
+    if scheme.is_full() {
         return None;
     }
     scheme.add_product(a.min(b), a.max(b));

@@ -100,7 +100,7 @@ pub fn check(part1: &[u8], part2: &[u8], part3: &[u8], part4: &[u8], lent: &mut 
 
 /// The plan beside which a certificate stands. Part 4 is looked at only where a term came as a range; elsewhere the coefficients
 /// are the same beside every plan.
-fn plan_beside(register: &registers::Register, part4: &[u8]) -> Answer<u32> {
+fn plan_beside(register: &registers::Register, part4: &[u8]) -> Answer<u64> {
     if register.has_range() {
         alone(part4, plans::read(register, part4)).map_err(|fault| Refusal::of(4, fault))
     } else {
@@ -110,7 +110,7 @@ fn plan_beside(register: &registers::Register, part4: &[u8]) -> Answer<u32> {
 
 /// Reads the certificate at the front of the bytes, leaves R in the table once `3F` is reached, and refuses 9 where a row falls
 /// short. The bound and the position past the certificate.
-fn check_part(register: &registers::Register, scheme: &schemes::Scheme, plan: u32, bytes: &[u8], lent: &mut [i64]) -> Read<i64> {
+fn check_part(register: &registers::Register, scheme: &schemes::Scheme, plan: u64, bytes: &[u8], lent: &mut [i64]) -> Read<i64> {
     let (certificate, end) = certificate::read(register, scheme, bytes)?;
     let residual = certificate::residual(register, scheme, plan, &certificate);
     residual.write(lent);
@@ -136,7 +136,7 @@ pub fn job(bytes: &[u8], lent: &mut [i64], supplier: u8, mut tally: Tally) -> (A
     (answer, tally)
 }
 
-fn whole_job(bytes: &[u8], lent: &mut [i64]) -> Answer<(Outcome, registers::Register, u32)> {
+fn whole_job(bytes: &[u8], lent: &mut [i64]) -> Answer<(Outcome, registers::Register, u64)> {
     long_enough(lent)?;
     let (register, start2) = registers::read(bytes).map_err(|fault| later(1, 0, fault))?;
     let (scheme, length) = schemes::read(&register, &bytes[start2..]).map_err(|fault| later(2, start2, fault))?;
@@ -157,7 +157,7 @@ fn certificate_and_plan(
     job: &[u8],
     start3: usize,
     lent: &mut [i64],
-) -> Answer<(i64, u32)> {
+) -> Answer<(i64, u64)> {
     let read = check_part(register, scheme, plans::FEEDS_NONE, &job[start3..], lent);
     let (bound, length) = read.map_err(|fault| later(3, start3, fault))?;
     let start4 = start3 + length;
@@ -173,7 +173,7 @@ fn plan_and_certificate(
     job: &[u8],
     start4: usize,
     lent: &mut [i64],
-) -> Answer<(i64, u32)> {
+) -> Answer<(i64, u64)> {
     let (plan, length) = plans::read(register, &job[start4..]).map_err(|fault| later(4, start4, fault))?;
     let start3 = start4 + length;
     let read = check_part(register, scheme, plan, &job[start3..], lent);
@@ -201,7 +201,7 @@ fn list(
     bytes: &[u8],
     lent: &mut [i64],
     buffer: &mut [u8],
-    choice_lines: fn(&registers::Register, u32) -> String,
+    choice_lines: fn(&registers::Register, u64) -> String,
 ) -> Answer<usize> {
     long_enough(lent)?;
     let text = match whole_job(bytes, lent) {
@@ -213,14 +213,14 @@ fn list(
     write(text.as_bytes(), buffer)
 }
 
-fn farm_lines(register: &registers::Register, plan: u32) -> String {
+fn farm_lines(register: &registers::Register, plan: u64) -> String {
     let choices = || register.choices.iter().enumerate();
     let all = choices().map(|(i, choice)| format!("T {i} {} {}\n", choice.tank, choice.minute));
     let fed = choices().filter(|(i, _)| plan & 1 << i != 0).map(|(_, choice)| format!("F {} {}\n", choice.tank, choice.minute));
     all.chain(fed).collect()
 }
 
-fn supplier_lines(register: &registers::Register, plan: u32) -> String {
+fn supplier_lines(register: &registers::Register, plan: u64) -> String {
     (0..register.choices.len()).map(|i| format!("C {i} {}\n", plan >> i & 1)).collect()
 }
 

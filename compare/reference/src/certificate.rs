@@ -140,7 +140,7 @@ fn square(scheme: &Scheme, command: &Command) -> Result<Square, Fault> {
 }
 
 /// The table R, with the coefficients beside the plan.
-pub fn residual(register: &Register, scheme: &Scheme, plan: u32, certificate: &Certificate) -> Table {
+pub fn residual(register: &Register, scheme: &Scheme, plan: u64, certificate: &Certificate) -> Table {
     let mut table = Table::new(scheme.variables());
     add_function(register, scheme, plan, certificate.scale as i64, &mut table);
     table.add_constant(-certificate.target);
@@ -177,7 +177,7 @@ fn add_multiplier(register: &Register, scheme: &Scheme, multiplier: &Multiplier,
         // z_j times (the row's sum over the choices − b), added. The square of a choice stays a square.
         0x3B => {
             let row = &register.rows[i];
-            for (choice, &entry) in row.entries[..scheme.choices].iter().enumerate() {
+            for (choice, &entry) in row.entries.iter().take(scheme.choices).enumerate() {
                 table.add_product(j, choice, m * entry as i64);
             }
             table.add_linear(j, -m * row.total as i64);

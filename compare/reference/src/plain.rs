@@ -6,7 +6,7 @@ use crate::scheme::{add_function, Scheme};
 use crate::table::Table;
 
 /// The certificate for the coefficients beside the plan.
-pub fn certificate(register: &Register, scheme: &Scheme, plan: u32) -> Certificate {
+pub fn certificate(register: &Register, scheme: &Scheme, plan: u64) -> Certificate {
     let count = scheme.variables();
     let mut g = Table::new(count);
     add_function(register, scheme, plan, 1, &mut g);

@@ -4,7 +4,7 @@ use crate::wire::{Command, Commands, Read};
 use std::ops::RangeInclusive;
 
 pub const MAX_WINDOWS: usize = 64;
-pub const MAX_CHOICES: usize = 32;
+pub const MAX_CHOICES: usize = 48;
 pub const MAX_ROWS: usize = 8;
 pub const MAX_TERMS: usize = 256;
 pub const TANKS: RangeInclusive<u16> = 1..=9_999;
@@ -40,17 +40,20 @@ pub struct Choice {
 /// The largest total of a row, either sign.
 pub const MAX_ROW_TOTAL: u16 = 4_064;
 
-/// A plan fits the row when the entries of the choices that it feeds come to the total; 004's linear constraint. Every row has a
-/// place for each choice that there may be; those of choices that are not there hold 0.
+/// The entries of a row, of choices 0 to 31.
+pub const ROW_ENTRIES: usize = 32;
+
+/// A plan fits the row when the entries of the choices that it feeds come to the total; 004's linear constraint. Entries of choices
+/// that are not there hold 0; a choice past the entries is in no row.
 #[derive(Clone, Copy, Debug, PartialEq, Eq)]
 pub struct Row {
     pub total: i16,
-    pub entries: [i8; MAX_CHOICES],
+    pub entries: [i8; ROW_ENTRIES],
 }
 
 impl Row {
     /// The sum of the entries of these choices; at most 32 · 128.
-    pub fn sum_of(&self, plan: u32) -> i16 {
+    pub fn sum_of(&self, plan: u64) -> i16 {
         self.entries.iter().enumerate().filter(|(j, _)| plan & 1 << j != 0).map(|(_, &entry)| entry as i16).sum()
     }
 }
@@ -61,7 +64,7 @@ pub const MAX_COEFFICIENT: u32 = 1_000_000;
 /// A term's coefficient is known, or known to be within a range.
 #[derive(Clone, Copy, Debug, PartialEq, Eq)]
 pub struct Term {
-    pub mask: u32,
+    pub mask: u64,
     /// The least that the coefficient may be.
     pub low: i32,
     /// The most, the low once more where the coefficient is known.
@@ -74,17 +77,17 @@ pub struct Term {
 
 impl Term {
     /// A term whose coefficient is known.
-    pub fn known(mask: u32, coefficient: i32) -> Term {
+    pub fn known(mask: u64, coefficient: i32) -> Term {
         Term { mask, low: coefficient, high: coefficient, ranged: false, position: 0 }
     }
 
     /// Whether the plan feeds all choices that the term names.
-    pub fn fed(&self, plan: u32) -> bool {
+    pub fn fed(&self, plan: u64) -> bool {
         self.mask & plan == self.mask
     }
 
     /// The coefficient beside a plan: the high where the plan feeds the term's choices, else the low.
-    pub fn beside(&self, plan: u32) -> i32 {
+    pub fn beside(&self, plan: u64) -> i32 {
         if self.fed(plan) {
             self.high
         } else {
@@ -106,8 +109,8 @@ pub struct Register {
 
 impl Register {
     /// The mask of all choices.
-    pub fn all(&self) -> u32 {
-        ((1u64 << self.choices.len()) - 1) as u32
+    pub fn all(&self) -> u64 {
+        (1 << self.choices.len()) - 1
     }
 
     /// Whether a term came as a range.
@@ -116,7 +119,7 @@ impl Register {
     }
 
     /// Whether the plan fits every row.
-    pub fn fits(&self, plan: u32) -> bool {
+    pub fn fits(&self, plan: u64) -> bool {
         self.rows.iter().all(|row| row.sum_of(plan) == row.total)
     }
 
@@ -143,8 +146,8 @@ pub fn read(bytes: &[u8]) -> Read<Register> {
             0x11 if no_row_yet && no_term_yet => Some(4),
             0x12 => Some(8),
             0x13 if no_choice_yet && no_row_yet => Some(6),
-            0x14 if no_term_yet => Some(2 + MAX_CHOICES),
-            0x16 => Some(12),
+            0x14 if no_term_yet => Some(2 + ROW_ENTRIES),
+            0x15 | 0x16 => Some(12),
             0x18 if previous == 0x10 => Some(2),
             0x1F => Some(0),
             _ => None,
@@ -159,7 +162,7 @@ pub fn read(bytes: &[u8]) -> Read<Register> {
                 command.refuse(13, !register.may_feed(tank, minute))?;
                 register.choices.push(Choice { tank, minute });
             }
-            0x12 | 0x16 => {
+            0x12 | 0x15 | 0x16 => {
                 let term = term(&command);
                 command.refuse(3, register.terms.len() == MAX_TERMS)?;
                 let out_of_range = [term.low, term.high].iter().any(|end| end.unsigned_abs() > MAX_COEFFICIENT);
@@ -180,10 +183,10 @@ pub fn read(bytes: &[u8]) -> Read<Register> {
             }
             0x14 => {
                 let total = command.i16(0);
-                let entries = std::array::from_fn(|j| command.u8(2 + j) as i8);
+                let entries: [i8; ROW_ENTRIES] = std::array::from_fn(|j| command.u8(2 + j) as i8);
                 command.refuse(3, register.rows.len() == MAX_ROWS)?;
                 command.refuse(4, total.unsigned_abs() > MAX_ROW_TOTAL)?;
-                command.refuse(5, entries[register.choices.len()..].iter().any(|&entry| entry != 0))?;
+                command.refuse(5, entries.iter().skip(register.choices.len()).any(|&entry| entry != 0))?;
                 register.rows.push(Row { total, entries });
             }
             0x18 => {
@@ -199,9 +202,12 @@ pub fn read(bytes: &[u8]) -> Read<Register> {
     }
 }
 
-/// What a `12` or a `16` says, right or wrong.
+/// What a `12`, a `15` or a `16` says, right or wrong.
 fn term(command: &Command) -> Term {
-    let ranged = command.byte == 0x16;
-    let (low, high) = (command.i32(4), command.i32(if ranged { 8 } else { 4 }));
-    Term { mask: command.u32(0), low, high, ranged, position: command.position }
+    let (mask, low, high) = match command.byte {
+        0x15 => (command.u64(0), command.i32(8), command.i32(8)),
+        0x16 => (command.u32(0) as u64, command.i32(4), command.i32(8)),
+        _ => (command.u32(0) as u64, command.i32(4), command.i32(4)),
+    };
+    Term { mask, low, high, ranged: command.byte == 0x16, position: command.position }
 }

@@ -7,6 +7,9 @@ use crate::wire::{Commands, Read};
 
 pub const MAX_PRODUCTS: usize = 32;
 
+/// The most variables, choices and products together.
+pub const MAX_VARIABLES: usize = 64;
+
 #[derive(Clone, Debug, PartialEq, Eq)]
 pub struct Scheme {
     /// The number n of choices.
@@ -16,7 +19,7 @@ pub struct Scheme {
     /// The split of each term.
     pub splits: Vec<(usize, usize)>,
     /// The set E of each variable, as a mask.
-    pub sets: Vec<u32>,
+    pub sets: Vec<u64>,
 }
 
 impl Scheme {
@@ -30,8 +33,13 @@ impl Scheme {
         self.sets.len()
     }
 
-    pub fn union(&self, l: usize, r: usize) -> u32 {
+    pub fn union(&self, l: usize, r: usize) -> u64 {
         self.sets[l] | self.sets[r]
+    }
+
+    /// Whether there may be no further product.
+    pub fn is_full(&self) -> bool {
+        self.products.len() == MAX_PRODUCTS || self.variables() == MAX_VARIABLES
     }
 
     pub fn add_product(&mut self, l: usize, r: usize) {
@@ -73,7 +81,7 @@ pub fn read(register: &Register, bytes: &[u8]) -> Read<Scheme> {
             0x21 => {
                 let (l, r) = (command.u8(0) as usize, command.u8(1) as usize);
                 let k = scheme.variables();
-                command.refuse(3, scheme.products.len() == MAX_PRODUCTS)?;
+                command.refuse(3, scheme.is_full())?;
                 command.refuse(5, l >= k || r >= k)?;
                 command.refuse(6, l >= r)?;
                 command.refuse(8, scheme.sets.contains(&scheme.union(l, r)))?;
@@ -97,7 +105,7 @@ pub fn read(register: &Register, bytes: &[u8]) -> Read<Scheme> {
 }
 
 /// Adds s times g, with the coefficients beside the plan, to the table.
-pub fn add_function(register: &Register, scheme: &Scheme, plan: u32, s: i64, table: &mut Table) {
+pub fn add_function(register: &Register, scheme: &Scheme, plan: u64, s: i64, table: &mut Table) {
     table.add_constant(s * register.base as i64);
     for (term, &(l, r)) in register.terms.iter().zip(&scheme.splits) {
         let coefficient = s * term.beside(plan) as i64;

@@ -5,12 +5,12 @@
 //! lowest ones) and by those that are decided unfed; the rest is decided fed. Its sum is that of base cost, coefficients of terms
 //! wholly decided fed, and negative coefficients of terms with an undecided choice and none decided unfed.
 
-use crate::register::{Register, Row, Term, MAX_CHOICES};
+use crate::register::{Register, Row, Term, MAX_CHOICES, ROW_ENTRIES};
 
 /// The plan that a search ends with, its cost, and how many partial plans were visited.
 #[derive(Clone, Copy, Debug, Default, PartialEq, Eq)]
 pub struct Found {
-    pub plan: u32,
+    pub plan: u64,
     pub cost: i64,
     pub visits: u32,
 }
@@ -29,8 +29,7 @@ pub enum NotFound {
 /// decided fed it wins the positive terms of which this was the last undecided choice, in both cases only those that name no choice
 /// decided unfed before.
 pub fn search(register: &Register, limit: u32) -> Result<Found, NotFound> {
-    let mut lost: [List; MAX_CHOICES] = Default::default();
-    let mut won: [List; MAX_CHOICES] = Default::default();
+    let [mut lost, mut won]: [[List; MAX_CHOICES]; 2] = std::array::from_fn(|_| std::array::from_fn(|_| List::default()));
     let mut sum = register.base as i64;
     for term in &register.terms {
         if term.low < 0 {
@@ -89,7 +88,7 @@ const LANES: usize = 8;
 #[derive(Default)]
 struct List {
     terms: usize,
-    blocks: Vec<([u32; LANES], [i32; LANES])>,
+    blocks: Vec<([u64; LANES], [i32; LANES])>,
 }
 
 impl List {
@@ -107,7 +106,7 @@ impl List {
     /// The sum of the coefficients of the terms that name none of these choices. It has no branch for a term, so that the lanes
     /// are taken together. The coefficients of all terms of a register come to 256,000,000 at most, within 32 bits.
     #[inline]
-    fn sum_without(&self, choices: u32) -> i64 {
+    fn sum_without(&self, choices: u64) -> i64 {
         let mut sums = [0; LANES];
         for (masks, coefficients) in &self.blocks {
             for lane in 0..LANES {
@@ -132,12 +131,12 @@ struct WordForWord<'a> {
     limit: u32,
     visits: u32,
     /// The best full plan met so far, among those that fit, and its cost.
-    best: Option<(u32, i64)>,
+    best: Option<(u64, i64)>,
 }
 
 impl WordForWord<'_> {
     /// Visits a partial plan and, unless it is left, those after it; a refusal when the visits pass the limit.
-    fn visit(&mut self, fed: u32, unfed: u32) -> Result<(), NotFound> {
+    fn visit(&mut self, fed: u64, unfed: u64) -> Result<(), NotFound> {
         if self.visits == self.limit {
             return Err(NotFound::PastLimit);
         }
@@ -156,7 +155,7 @@ impl WordForWord<'_> {
         }
         if undecided == 0 {
             let fits = |row: &Row| {
-                let fed_entries = (0..MAX_CHOICES).filter(|i| fed & 1 << i != 0).map(|i| row.entries[i] as i64);
+                let fed_entries = (0..ROW_ENTRIES).filter(|i| fed & 1 << i != 0).map(|i| row.entries[i] as i64);
                 fed_entries.sum::<i64>() == row.total as i64
             };
             if self.register.rows.iter().all(fits) {

@@ -70,8 +70,12 @@ impl Command<'_> {
         self.u32(at) as i32
     }
 
+    pub fn u64(&self, at: usize) -> u64 {
+        u64::from_le_bytes(self.operands[at..at + 8].try_into().unwrap())
+    }
+
     pub fn i64(&self, at: usize) -> i64 {
-        i64::from_le_bytes(self.operands[at..at + 8].try_into().unwrap())
+        self.u64(at) as i64
     }
 }
 

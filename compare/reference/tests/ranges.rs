@@ -1,4 +1,5 @@
-//! What costs known within ranges must come to, on random registers of few choices, against the costs of all plans that fit.
+//! What costs known within ranges must come to, on random registers of few choices, against the costs of all plans that fit;
+//! and what holds of accepted jobs at all, on registers of more than 32 choices, against those of some plans that fit.
 
 #[allow(dead_code)]
 #[path = "../../src/generate.rs"]
@@ -13,8 +14,8 @@ use reference::register::{Register, Term};
 use reference::table::NUMBERS;
 
 /// The plans that fit, and what each costs where a term has the coefficient that is given for it.
-fn costs<'a>(register: &'a Register, coefficient: impl Fn(&Term) -> i32 + 'a) -> impl Iterator<Item = (u32, i64)> + 'a {
-    let fits = |&plan: &u32| register.rows.iter().all(|row| row.sum_of(plan) == row.total);
+fn costs<'a>(register: &'a Register, coefficient: impl Fn(&Term) -> i32 + 'a) -> impl Iterator<Item = (u64, i64)> + 'a {
+    let fits = |&plan: &u64| register.rows.iter().all(|row| row.sum_of(plan) == row.total);
     (0..=register.all()).filter(fits).map(move |plan| {
         let fed = register.terms.iter().filter(|term| term.mask & !plan == 0);
         (plan, register.base as i64 + fed.map(|term| coefficient(term) as i64).sum::<i64>())
@@ -22,7 +23,7 @@ fn costs<'a>(register: &'a Register, coefficient: impl Fn(&Term) -> i32 + 'a) ->
 }
 
 /// The coefficient beside a plan, said again.
-fn beside(term: &Term, plan: u32) -> i32 {
+fn beside(term: &Term, plan: u64) -> i32 {
     if term.mask & !plan == 0 {
         term.high
     } else {
@@ -30,12 +31,17 @@ fn beside(term: &Term, plan: u32) -> i32 {
     }
 }
 
-fn plan_bytes(plan: u32) -> Vec<u8> {
-    [&[0x40][..], &plan.to_le_bytes()].concat()
+/// A plan of few choices by either command.
+fn plan_bytes(random: &mut Random, plan: u64) -> Vec<u8> {
+    if random.chance(50) {
+        [&[0x41][..], &plan.to_le_bytes()].concat()
+    } else {
+        [&[0x40][..], &(plan as u32).to_le_bytes()].concat()
+    }
 }
 
 /// Whether the plan costs at most any other that fits, for coefficients at the ends of their ranges and between them.
-fn cheapest_throughout(random: &mut Random, register: &Register, plan: u32) -> bool {
+fn cheapest_throughout(random: &mut Random, register: &Register, plan: u64) -> bool {
     (0..20).all(|_| {
         let at_ends = random.chance(50);
         let values: Vec<i32> = register
@@ -51,7 +57,7 @@ fn cheapest_throughout(random: &mut Random, register: &Register, plan: u32) -> b
             })
             .collect();
         let value = |term: &Term| values[register.terms.iter().position(|other| other == term).unwrap()];
-        let all: Vec<(u32, i64)> = costs(register, value).collect();
+        let all: Vec<(u64, i64)> = costs(register, value).collect();
         let own = all.iter().find(|(other, _)| *other == plan).expect("a plan that fits").1;
         all.iter().all(|(_, cost)| own <= *cost)
     })
@@ -71,7 +77,7 @@ fn bounds() {
             continue;
         }
         for (plan, cost) in costs(&register, |term| term.high) {
-            let part4 = plan_bytes(plan);
+            let part4 = plan_bytes(&mut random, plan);
             assert_eq!(reference::cost(&part1, &part4), Ok(cost));
             let mut buffer = [0; 1_294];
             let count = reference::plain(&part1, &part2, &part4, &mut buffer).expect("a certificate");
@@ -91,4 +97,41 @@ fn bounds() {
     }
     assert!(ours > 10_000 && others > 5_000 && exact > 1_000, "{ours} of ours, {others} others, {exact} with the gap 0");
     println!("certificates beside a plan: {} agree", ours + others);
+}
+
+/// Plans that fit, of a register of many choices: the job's own with a few choices more or less, and any.
+fn some_plans(random: &mut Random, register: &Register, own: u64) -> Vec<u64> {
+    let near = (0..100).map(|_| (0..1 + random.below(4)).fold(own, |plan, _| plan ^ 1 << random.below(register.choices.len())));
+    let mut plans: Vec<u64> = near.collect();
+    plans.extend((0..100).map(|_| random.next() & register.all()));
+    plans.retain(|&plan| register.rows.iter().all(|row| row.sum_of(plan) == row.total));
+    plans
+}
+
+#[test]
+fn bounds_of_many_choices() {
+    let mut random = Random(10);
+    let mut table = vec![0; NUMBERS];
+    let (mut accepted, mut ranged, mut with_rows, mut plans) = (0, 0, 0, 0);
+    for _ in 0..20_000 {
+        let whole = generate::whole(&mut random, Size::Wide);
+        let [part1, part2, part3, part4] = whole.parts.each_ref().map(|part| part.concat());
+        let Ok(register) = reference::register(&part1) else { continue };
+        let Ok(bound) = reference::check(&part1, &part2, &part3, &part4, &mut table) else { continue };
+        let Ok((own, _)) = reference::plan::read(&register, &part4) else { continue };
+        for plan in some_plans(&mut random, &register, own) {
+            let fed = register.terms.iter().filter(|term| term.mask & !plan == 0);
+            let cost = register.base as i64 + fed.map(|term| beside(term, own) as i64).sum::<i64>();
+            assert!(bound <= cost, "{register:?} beside {own}: {bound} {plan} {cost}");
+            plans += 1;
+        }
+        accepted += 1;
+        ranged += register.has_range() as u32;
+        with_rows += !register.rows.is_empty() as u32;
+    }
+    assert!(
+        accepted > 5_000 && ranged > 1_000 && with_rows > 1_000 && plans > 100_000,
+        "{accepted} {ranged} {with_rows} {plans}"
+    );
+    println!("certificates of many choices: {accepted} agree");
 }

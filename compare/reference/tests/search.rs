@@ -6,15 +6,15 @@
 mod random;
 
 use random::Random;
-use reference::register::{Choice, Register, Row, Term, MAX_CHOICES, MAX_ROWS, USUAL_DAY};
+use reference::register::{Choice, Register, Row, Term, MAX_CHOICES, MAX_ROWS, ROW_ENTRIES, USUAL_DAY};
 use reference::search::{search, word_for_word, NotFound};
 
 /// A register of n choices and at most so many terms. Most have many plans of the same cost, or many sums that are a best cost.
 fn register(random: &mut Random, n: usize, terms: usize) -> Register {
-    let all = u32::MAX >> (MAX_CHOICES - n);
+    let all = (1 << n) - 1;
     let thin = random.below(4);
-    let mut masks: Vec<u32> = (0..random.below(terms + 1))
-        .map(|_| (0..thin).fold(random.next() as u32, |mask, _| mask & random.next() as u32) & all)
+    let mut masks: Vec<u64> = (0..random.below(terms + 1))
+        .map(|_| (0..thin).fold(random.next(), |mask, _| mask & random.next()) & all)
         .filter(|&mask| mask != 0)
         .collect();
     if random.chance(20) {
@@ -37,13 +37,13 @@ fn register(random: &mut Random, n: usize, terms: usize) -> Register {
 
 /// Rows for a register of n choices: many plans fit, few, one, or none.
 fn rows(random: &mut Random, n: usize) -> Vec<Row> {
-    let fed = random.next() as u32;
+    let fed = random.next();
     let count = random.pick(&[0, 1, 1, 1, 2, 2, 3, MAX_ROWS]);
     let row = |_| {
         let kinds = [&[1][..], &[0, 1], &[0, 1], &[-1, 1], &[0, 2, -2], &[1, 2, 3, 4], &[-128, -1, 0, 1, 127]];
         let values = random.pick(&kinds);
-        let mut row = Row { total: 0, entries: [0; MAX_CHOICES] };
-        row.entries[..n].iter_mut().for_each(|entry| *entry = random.pick(values));
+        let mut row = Row { total: 0, entries: [0; ROW_ENTRIES] };
+        row.entries.iter_mut().take(n).for_each(|entry| *entry = random.pick(values));
         // The total of some plan, or one that may be no plan's.
         let near = if random.chance(15) { random.within(-1, 1) as i16 } else { 0 };
         row.total = (row.sum_of(fed) + near).clamp(-4_064, 4_064);
@@ -64,14 +64,14 @@ fn ranges(random: &mut Random, register: &mut Register) {
 }
 
 /// What a plan costs where each coefficient is the least that it may be.
-fn low_cost(register: &Register, plan: u32) -> i64 {
+fn low_cost(register: &Register, plan: u64) -> i64 {
     let fed = register.terms.iter().filter(|term| term.mask & !plan == 0);
     register.base as i64 + fed.map(|term| term.low as i64).sum::<i64>()
 }
 
 /// Whether a plan fits, said again.
-fn fits(register: &Register, plan: u32) -> bool {
-    let sum = |row: &Row| (0..MAX_CHOICES).map(|j| (plan >> j & 1) as i64 * row.entries[j] as i64).sum::<i64>();
+fn fits(register: &Register, plan: u64) -> bool {
+    let sum = |row: &Row| (0..ROW_ENTRIES).map(|j| (plan >> j & 1) as i64 * row.entries[j] as i64).sum::<i64>();
     register.rows.iter().all(|row| sum(row) == row.total as i64)
 }
 
@@ -113,8 +113,9 @@ fn of_all_plans() {
 fn larger() {
     let mut random = Random(2);
     let mut ended = 0;
-    for case in 0..400 {
-        let mut register = register(&mut random, 13 + case % 20, 256);
+    for case in 0..800 {
+        let n = 13 + random.below(MAX_CHOICES - 12);
+        let mut register = register(&mut random, n, 256);
         if case % 3 == 0 {
             register.rows = rows(&mut random, register.choices.len());
         }
@@ -132,7 +133,70 @@ fn larger() {
             assert_eq!(search(&register, found.visits - 1), Err(NotFound::PastLimit));
         }
     }
-    assert!(ended > 50, "{ended} of 400 within the limit");
+    assert!(ended > 50, "{ended} of 800 within the limit");
+}
+
+/// A mask of the choices that have these numbers among others.
+fn moved(mask: u64, numbers: &[usize]) -> u64 {
+    numbers.iter().enumerate().filter(|(i, _)| mask & 1 << i != 0).map(|(_, number)| 1 << number).sum()
+}
+
+/// A register of few choices, which stand among others, in all more than 32. Each of the others has a term by itself, so dear that
+/// it is not fed, or so cheap that it is. The search finds the cheapest of all plans of the few choices.
+#[test]
+fn among_others() {
+    const DEAR: i32 = 1_000_000;
+    let mut random = Random(3);
+    let (mut with_ranges, mut upper) = (0, 0);
+    for case in 0..2_000 {
+        let few = 1 + case % 8;
+        let mut own = register(&mut random, few, 40);
+        if own.terms.iter().any(|term| term.low.abs() > 5) {
+            continue;
+        }
+        if random.chance(40) {
+            ranges(&mut random, &mut own);
+        }
+        let n = random.within(33, MAX_CHOICES as i64) as usize;
+        let mut numbers: Vec<usize> = (0..n).collect();
+        random.shuffle(&mut numbers);
+        let mut others = numbers.split_off(few);
+        numbers.sort();
+        let fed = others.split_off(others.len() - random.below(3));
+        let mut terms: Vec<Term> = own.terms.iter().map(|term| Term { mask: moved(term.mask, &numbers), ..*term }).collect();
+        terms.extend(others.iter().map(|i| Term::known(1 << i, DEAR)));
+        terms.extend(fed.iter().map(|i| Term::known(1 << i, -DEAR)));
+        terms.sort_by_key(|term| term.mask);
+        let choices = (1..=n as u16).map(|tank| Choice { tank, minute: 0 }).collect();
+        let register = Register { choices, terms, ..own.clone() };
+
+        let found = search(&register, u32::MAX).unwrap();
+        assert_eq!(word_for_word(&register, u32::MAX), Ok(found), "{register:?}");
+        let (cost, plan) = (0..=own.all()).map(|plan| (low_cost(&own, plan), plan)).min().unwrap();
+        let plan = moved(plan, &numbers) | fed.iter().map(|i| 1 << i).sum::<u64>();
+        let cost = cost - DEAR as i64 * fed.len() as i64;
+        assert_eq!((found.plan, found.cost), (plan, cost), "{register:?}");
+        assert_eq!(search(&register, found.visits), Ok(found));
+        assert_eq!(search(&register, found.visits - 1), Err(NotFound::PastLimit));
+        with_ranges += register.has_range() as u32;
+        upper += (plan >> 32 != 0) as u32;
+    }
+    assert!(with_ranges > 200 && upper > 500, "{with_ranges} with ranges, {upper} that feed a choice from 32 on");
+}
+
+/// Choice 32 saves something, and just one choice of those that are in the row is fed, the cheapest: 0, or else 1.
+#[test]
+fn in_no_row() {
+    for (first, plan) in [(1, 1 << 32 | 0b01), (0, 1 << 32 | 0b10)] {
+        let choices = (1..=33).map(|tank| Choice { tank, minute: 0 }).collect();
+        let terms = (0..33).map(|i| Term::known(1 << i, if i < 32 { 5 + i } else { -1 })).collect();
+        let mut row = Row { total: 1, entries: [1; ROW_ENTRIES] };
+        row.entries[0] = first;
+        let register = Register { base: 0, day_length: USUAL_DAY, windows: Vec::new(), choices, rows: vec![row], terms };
+        let found = search(&register, u32::MAX).unwrap();
+        assert_eq!((found.plan, found.cost), (plan, 5 - first as i64));
+        assert_eq!(word_for_word(&register, u32::MAX), Ok(found));
+    }
 }
 
 /// Each plan is cheaper than all before it, so that none is left: as many visits as there can be.
@@ -153,7 +217,7 @@ fn last_plan_fits() {
     for n in 1..=16 {
         let choices = (1..=n as u16).map(|tank| Choice { tank, minute: 0 }).collect();
         let terms = (0..n).map(|i| Term::known(1 << i, 1 << i)).collect();
-        let mut row = Row { total: n as i16, entries: [0; MAX_CHOICES] };
+        let mut row = Row { total: n as i16, entries: [0; ROW_ENTRIES] };
         row.entries[..n as usize].fill(1);
         let register = Register { base: 0, day_length: USUAL_DAY, windows: Vec::new(), choices, rows: vec![row], terms };
         let found = search(&register, u32::MAX).unwrap();

@@ -8,7 +8,7 @@
 use compare::generate;
 use compare::random::Random;
 use compare::timing::{processor_seconds, summary};
-use reference::register::{self, Choice, Register, Term, MAX_CHOICES, USUAL_DAY};
+use reference::register::{self, Choice, Register, Term, USUAL_DAY};
 use reference::search::Found;
 use std::collections::BTreeMap;
 use std::hint::black_box;
@@ -19,6 +19,9 @@ const LIMIT: u32 = 1_000_000;
 /// The visit limit on the registers of jobs, that of the program `cheapest`.
 const JOB_LIMIT: u32 = 100_000_000;
 
+/// The choices of generated registers.
+const CHOICES: usize = 32;
+
 /// How many registers of each kind are generated.
 const REGISTERS: usize = 4;
 
@@ -28,11 +31,11 @@ const TIMED: u32 = 200_000;
 /// The bytes of a register of 32 choices whose terms each name `degree` choices, or, where that is 16, each choice with a chance
 /// of one half.
 fn generated(random: &mut Random, terms: usize, degree: u32) -> Vec<u8> {
-    let mut masks: Vec<u32> = Vec::new();
+    let mut masks: Vec<u64> = Vec::new();
     while masks.len() < terms {
-        let mut mask = if degree == 16 { random.next() as u32 } else { 0 };
+        let mut mask = if degree == 16 { random.next() & ((1 << CHOICES) - 1) } else { 0 };
         while degree != 16 && mask.count_ones() < degree {
-            mask |= 1 << random.below(MAX_CHOICES);
+            mask |= 1 << random.below(CHOICES);
         }
         if mask != 0 && !masks.contains(&mask) {
             masks.push(mask);
@@ -41,7 +44,7 @@ fn generated(random: &mut Random, terms: usize, degree: u32) -> Vec<u8> {
     masks.sort();
     let term = |mask| Term::known(mask, (random.within(1, 1_000_000) * random.pick(&[1, -1])) as i32);
     let terms = masks.into_iter().map(term).collect();
-    let choices = (1..=MAX_CHOICES as u16).map(|tank| Choice { tank, minute: 0 }).collect();
+    let choices = (1..=CHOICES as u16).map(|tank| Choice { tank, minute: 0 }).collect();
     let register = Register { base: 0, day_length: USUAL_DAY, windows: Vec::new(), choices, rows: Vec::new(), terms };
     generate::register_commands(&register).concat()
 }

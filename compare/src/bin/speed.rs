@@ -13,12 +13,12 @@ use reference::register::{self, Choice, Register, Term, USUAL_DAY};
 use reference::scheme::{self, Scheme};
 use reference::table::NUMBERS;
 
-/// Accepted certificates of 64 variables, 256 terms, 1,024 multipliers of all kinds and 64 squares.
+/// Accepted certificates of 32 choices, 64 variables, 256 terms, 1,024 multipliers of all kinds and 64 squares.
 fn full_certificates(count: usize) -> Vec<Parts> {
     let mut random = Random(4);
     let mut found = Vec::new();
     while found.len() < count {
-        let (register, scheme) = generate::products_first(&mut random, Size::Full);
+        let (register, scheme) = generate::products_of(&mut random, Size::Full, 32);
         let mut certificate = generate::random_certificate(&mut random, Size::Full, &register, &scheme, true);
         generate::repair(&register, &scheme, FEEDS_NONE, &mut certificate);
         if full(&register, &scheme, &certificate) {
@@ -101,7 +101,7 @@ fn deep_scheme() -> [Vec<u8>; 2] {
         pairs.extend((0..=r).map(|l| (steps[l] + steps[r], l, r)));
     }
     pairs.sort_by(|a, b| b.cmp(a));
-    let mut splits: Vec<(u32, usize, usize)> = Vec::new();
+    let mut splits: Vec<(u64, usize, usize)> = Vec::new();
     let mut total = 0;
     for (count, l, r) in pairs {
         let mask = scheme.union(l, r);

@@ -39,7 +39,7 @@ pub use raw::{Counters, Register, Scheme, Tally};
 pub const VERSION: &str = env!("CARGO_PKG_VERSION");
 
 /// The most choices of a register.
-pub const MAX_CHOICES: usize = 32;
+pub const MAX_CHOICES: usize = 48;
 
 /// The most terms of a register, and so the most splits of a scheme.
 pub const MAX_TERMS: usize = 256;
@@ -50,7 +50,7 @@ pub const MAX_WINDOWS: usize = 64;
 /// The most rows of a register.
 pub const MAX_ROWS: usize = 8;
 
-/// The entries of a row, one for each choice that a register may have.
+/// The entries of a row, for choices 0 to 31; choices from 32 on are in no row.
 pub const ROW_ENTRIES: usize = 32;
 
 /// The minutes of the day on which the clocks go forward.
@@ -62,8 +62,11 @@ pub const USUAL_DAY: u16 = 1_440;
 /// The minutes of the day on which the clocks go back.
 pub const LONG_DAY: u16 = 1_500;
 
-/// The most products of a scheme.
+/// The most products of a scheme; of more than 32 choices fewer, since these are variables too.
 pub const MAX_PRODUCTS: usize = 32;
+
+/// The most variables of a scheme, choices and products together.
+pub const MAX_VARIABLES: usize = 64;
 
 /// How many suppliers a tally counts apart. Their numbers begin at 0.
 pub const SUPPLIERS: usize = 16;
@@ -81,10 +84,10 @@ pub const MAX_PLAIN: usize = 1_294;
 pub const MAX_LISTING: usize = 4_096;
 
 /// No job of more bytes is accepted.
-pub const MAX_JOB: usize = 27_061;
+pub const MAX_JOB: usize = 27_097;
 
 /// A longer job is answered as its first so many bytes are.
-pub const MAX_JOB_READ: usize = 27_195;
+pub const MAX_JOB_READ: usize = 27_231;
 
 /// The number of an answer of [`raw`] where nothing is refused.
 pub const ACCEPTED: u8 = 0;
@@ -141,7 +144,7 @@ impl Refusal {
             Refusal::NOT_RISING => "a choice, a window or a mask is not rising",
             Refusal::SETS_UNFIT => "sets don't fit",
             Refusal::FALLS_SHORT => "the certificate does not carry its target",
-            Refusal::NO_PRODUCT_LEFT => "the builder needs a 33rd product",
+            Refusal::NO_PRODUCT_LEFT => "the builder needs a 33rd product or a 65th variable",
             Refusal::TOO_SHORT => "a lent table or buffer is short",
             Refusal::PAST_END => "bytes stand after the end",
             Refusal::OUTSIDE_WINDOWS => "a choice is outside its tank's windows",
@@ -158,10 +161,11 @@ impl std::error::Error for Refusal {}
 
 /// The plan that a search found (bit i is set when choice i is fed), its cost with the low coefficients of ranges, and the number
 /// of partial plans visited, the empty one, full ones and those left at once included; with n choices never more than 2 to the
-/// power (n + 1), less 1.
+/// power (n + 1), less 1. As part 4 the plan is the byte `0x40` and its lower 4 bytes where the others are 0, else `0x41` and all 8,
+/// the lowest first.
 #[derive(Clone, Copy, Debug, PartialEq, Eq)]
 pub struct Found {
-    pub plan: u32,
+    pub plan: u64,
     pub cost: i64,
     pub visits: u32,
 }
@@ -199,7 +203,7 @@ pub fn scheme(register: &[u8], scheme: &[u8]) -> Result<Scheme, Refusal> {
 }
 
 /// Builds a scheme of a register: how many bytes were written to the front of the buffer. Refused 10 where a term needs a 33rd
-/// product.
+/// product, or one that is the 65th variable.
 pub fn build(register: &[u8], buffer: &mut [u8]) -> Result<usize, Refusal> {
     let answer = raw::build(register, buffer);
     result(answer.number, answer.part, answer.position, answer.count)

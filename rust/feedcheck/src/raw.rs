@@ -15,14 +15,14 @@ use crate::{MAX_CHOICES, MAX_PRODUCTS, MAX_ROWS, MAX_TERMS, MAX_WINDOWS, ROW_ENT
 ///   tank and then by minute.
 /// - Term number t is of each choice i for which bit i of masks\[t\] is set, at least one. Masks rise. Where ranged\[t\] is
 ///   false its coefficient is coefficients\[t\], which is not 0, and highs\[t\] is the same number. Where ranged\[t\] is true the term
-///   has a range, from coefficients\[t\] to highs\[t\]; each may be 0, and they may be equal. Coefficients, low and high, are
-///   -1,000,000 to 1,000,000.
+///   has a range, from coefficients\[t\] to highs\[t\]; each may be 0, and they may be equal, and it is of choices 0 to 31.
+///   Coefficients, low and high, are -1,000,000 to 1,000,000.
 /// - Window number w is of the tank window_tanks\[w\]: window_froms\[w\] is its first minute, window_tos\[w\] the first minute after
 ///   it. Where a tank has no window, every minute of the day is allowed. Windows rise by tank and then by first minute; they may
 ///   overlap.
-/// - Row number k has the total row_totals\[k\], -4,064 to 4,064, and for choice j the entry row_entries\[ROW_ENTRIES * k + j\],
-///   0 where there is no choice j. A plan fits where, for each row, the entries of the choices that it feeds add up to the row's
-///   total.
+/// - Row number k has the total row_totals\[k\], -4,064 to 4,064, and for each choice j below ROW_ENTRIES the entry
+///   row_entries\[ROW_ENTRIES * k + j\], 0 where there is no choice j; choices from ROW_ENTRIES on are in no row. A plan fits where,
+///   for each row, the entries of the choices that it feeds add up to the row's total.
 #[derive(Clone, Copy, Debug, PartialEq, Eq)]
 #[repr(C)]
 pub struct Register {
@@ -32,7 +32,7 @@ pub struct Register {
     pub terms: usize,
     pub tanks: [u16; MAX_CHOICES],
     pub minutes: [u16; MAX_CHOICES],
-    pub masks: [u32; MAX_TERMS],
+    pub masks: [u64; MAX_TERMS],
     pub coefficients: [i32; MAX_TERMS],
     pub highs: [i32; MAX_TERMS],
     pub ranged: [bool; MAX_TERMS],
@@ -56,7 +56,8 @@ impl Register {
 /// What a scheme says. Variables 0 to n - 1 are the register's n choices, and variable n + k is product number k: 1 where both its
 /// operands are 1, which are the variables lefts\[k\] and rights\[k\], with lefts\[k\] < rights\[k\] < n + k. There are as many splits
 /// as the register has terms. Term number t is the product of the variables split_lefts\[t\] and split_rights\[t\], the left at most
-/// the right; where they are the same it is that variable. Entries past the counts are 0.
+/// the right; where they are the same it is that variable. Entries past the counts are 0. n and products together are at most
+/// MAX_VARIABLES.
 #[derive(Clone, Copy, Debug, PartialEq, Eq)]
 #[repr(C)]
 pub struct Scheme {
@@ -128,7 +129,7 @@ pub struct SearchAnswer {
     pub number: u8,
     pub part: u8,
     pub position: usize,
-    pub plan: u32,
+    pub plan: u64,
     pub cost: i64,
     pub visits: u32,
 }

@@ -96,7 +96,7 @@ fn record() {
     let refused = raw::register(&register(&[day(LONG_DAY), choice(LONG_DAY)]));
     assert_eq!((refused.number, refused.part, refused.position), (4, 1, 8));
     assert_eq!((refused.register.base, refused.register.day_length, refused.register.choices), (0, 0, 0));
-    assert_eq!((size_of::<raw::RegisterAnswer>(), size_of::<raw::Register>()), (4_168, 4_152));
+    assert_eq!((size_of::<raw::RegisterAnswer>(), size_of::<raw::Register>()), (5_256, 5_240));
     assert_eq!((offset_of!(raw::Register, day_length), offset_of!(raw::Register, choices)), (4, 8));
 }
 
@@ -118,49 +118,51 @@ fn jobs() {
     assert_eq!(listed(&job(&register(&[choice(1_380)]))), "T 0 4 1380\nF 4 1380\nB 10 10 0\n");
 }
 
-/// The longest register: 64 windows, 32 choices, 8 rows and 256 terms with ranges, each of one choice or of two, on a day whose length is
-/// said.
+/// The longest register: 64 windows, 48 choices, 8 rows and 256 terms, each of one choice or of two, on a day whose length is said. One
+/// term has a range, and the others stand in a `15`, which is as long.
 fn longest_register() -> Vec<u8> {
     let windows = (0..64).flat_map(|w| command(0x13, &[9_999, w, LONG_DAY]));
-    let choices = (0..32).flat_map(|i| command(0x11, &[9_999, LONG_DAY - 32 + i]));
-    let terms = splits().flat_map(|[l, r]| [&[0x16][..], &(1u32 << l | 1 << r).to_le_bytes(), &1i32.to_le_bytes(), &2i32.to_le_bytes()].concat());
+    let choices = (0..48).flat_map(|i| command(0x11, &[9_999, LONG_DAY - 48 + i]));
+    let range = [0x16, 1, 0, 0, 0, 1, 0, 0, 0, 2, 0, 0, 0];
+    let wide = |[l, r]: [u8; 2]| [&[0x15][..], &(1u64 << l | 1 << r).to_le_bytes(), &1i32.to_le_bytes()].concat();
+    let terms = range.into_iter().chain(splits().skip(1).flat_map(wide));
     let rows = [&[0x14][..], &[0; 34]].concat().repeat(8);
     register(&[day(LONG_DAY), windows.chain(choices).chain(rows).chain(terms).collect()])
 }
 
 /// The splits of its terms, in the order of their masks.
 fn splits() -> impl Iterator<Item = [u8; 2]> {
-    (0..32).flat_map(|r| std::iter::once([r, r]).chain((0..r).map(move |l| [l, r]))).take(256)
+    (0..48).flat_map(|r| std::iter::once([r, r]).chain((0..r).map(move |l| [l, r]))).take(256)
 }
 
-/// Its job with so many squares, the plan before the certificate. Every count but theirs is at its limit, and every multiplier is the
-/// longest command there is.
+/// Its job with so many squares, the plan before the certificate. Every count but theirs is at its limit, that of products at the 16
+/// that 48 choices leave variables for, and every multiplier is the longest command there is.
 fn longest_job(squares: usize) -> Vec<u8> {
-    let products = (0..31).flat_map(|l| [0x21, l, l + 1]).chain([0x21, 0, 31]);
+    let products = (0..16).flat_map(|l| [0x21, l, l + 1]);
     let scheme: Vec<u8> = products.chain(splits().flat_map(|[l, r]| [0x22, l, r])).chain([0x2F]).collect();
     let scale = [0x30, 1, 0, 0, 0, 0, 0, 0, 0, 0, 0, 0, 0];
     let multipliers = [0x34, 0, 1, 0, 1, 0, 0, 0, 0, 0, 0, 0, 0].repeat(1_024);
     let square = [&[0x3A, 1, 0, 0, 0][..], &[0; 130]].concat();
-    let plan = [0x40, 1, 0, 0, 0];
+    let plan = [0x41, 1, 0, 0, 0, 0, 0, 0, 0];
     [&longest_register()[..], &scheme, &plan, &scale, &multipliers, &square.repeat(squares), &[0x3F]].concat()
 }
 
 #[test]
 fn longest() {
     let record = feedcheck::register(&longest_register()).unwrap();
-    assert_eq!((record.day_length, record.windows, record.choices), (LONG_DAY, 64, 32));
+    assert_eq!((record.day_length, record.windows, record.choices), (LONG_DAY, 64, 48));
     assert_eq!((record.rows, record.terms), (8, 256));
     let mut table = vec![0; feedcheck::TABLE_NUMBERS];
     let mut refused = |job: &[u8]| {
         let refusal = feedcheck::job(job, &mut table, 0, &mut feedcheck::Tally::default()).unwrap_err();
         (refusal.number, refusal.part, refusal.position)
     };
-    // Right up to `3F`, where R falls short.
+    // 48 choices leave variables for 16 products. Right up to `3F`, where R falls short.
     assert_eq!(longest_job(64).len(), feedcheck::MAX_JOB);
-    assert_eq!(refused(&longest_job(64)), (9, 3, 27_060));
+    assert_eq!(refused(&longest_job(64)), (9, 3, 27_096));
     // The last byte of a 65th square is the last that can matter.
     let job = longest_job(65);
-    assert_eq!(refused(&job), (3, 3, 27_060));
-    assert_eq!(refused(&job[..feedcheck::MAX_JOB_READ]), (3, 3, 27_060));
-    assert_eq!(refused(&job[..feedcheck::MAX_JOB_READ - 1]), (2, 3, 27_060));
+    assert_eq!(refused(&job), (3, 3, 27_096));
+    assert_eq!(refused(&job[..feedcheck::MAX_JOB_READ]), (3, 3, 27_096));
+    assert_eq!(refused(&job[..feedcheck::MAX_JOB_READ - 1]), (2, 3, 27_096));
 }

@@ -67,8 +67,8 @@ fn entries() {
         let record = feedcheck::register(&with(&[range(7, low, high)])).unwrap();
         assert_eq!((record.coefficients[0], record.highs[0], record.has_range()), (low, high, true));
     }
-    assert_eq!((offset_of!(raw::Register, coefficients), offset_of!(raw::Register, highs)), (1_176, 2_200));
-    assert_eq!((offset_of!(raw::Register, ranged), offset_of!(raw::Register, windows)), (3_224, 3_480));
+    assert_eq!((offset_of!(raw::Register, coefficients), offset_of!(raw::Register, highs)), (2_264, 3_288));
+    assert_eq!((offset_of!(raw::Register, ranged), offset_of!(raw::Register, windows)), (4_312, 4_568));
 }
 
 #[test]

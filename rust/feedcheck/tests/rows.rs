@@ -111,10 +111,10 @@ fn place() {
 /// The rows stand at the end of the record.
 #[test]
 fn record() {
-    assert_eq!((size_of::<raw::RegisterAnswer>(), size_of::<raw::Register>()), (4_168, 4_152));
-    assert_eq!((offset_of!(raw::Register, windows), offset_of!(raw::Register, window_tos)), (3_480, 3_744));
-    assert_eq!(offset_of!(raw::Register, rows), 3_872);
-    assert_eq!((offset_of!(raw::Register, row_totals), offset_of!(raw::Register, row_entries)), (3_880, 3_896));
+    assert_eq!((size_of::<raw::RegisterAnswer>(), size_of::<raw::Register>()), (5_256, 5_240));
+    assert_eq!((offset_of!(raw::Register, windows), offset_of!(raw::Register, window_tos)), (4_568, 4_832));
+    assert_eq!(offset_of!(raw::Register, rows), 4_960);
+    assert_eq!((offset_of!(raw::Register, row_totals), offset_of!(raw::Register, row_entries)), (4_968, 4_984));
 }
 
 #[test]
