@@ -10,7 +10,7 @@ use Rattle.register.specs.declared.Register.{Register}
 use Rattle.register.specs.Limits.{narrow_choices}
 use Rattle.register.specs.Register.{mask}
 use Rattle.scheme.specs.declared.Scheme.{Scheme}
-use Rattle.scheme.specs.Scheme.{fresh}
+use Rattle.scheme.specs.Scheme.{initial}
 use Rattle.scheme.proofs.BeforeWide.{products_alone}
 use Rattle.builder.specs.Builder.{next, and_then, choices_of, join_pair, pair_up, reduce, build_term, follow, build_from, build}
 use Rattle.builder.specs.BeforeWide.{join_pair_before_wide, pair_up_before_wide, reduce_before_wide, build_term_before_wide, build_from_before_wide, build_before_wide}
@@ -43,4 +43,4 @@ module _ (reg : Register) (narrow : reg.choices ≤ narrow_choices) where
 
   pub as_before_wide : build reg ≡ build_before_wide reg
   unfolding build build_before_wide
-  as_before_wide = terms_as_before reg.terms 0 fresh
+  as_before_wide = terms_as_before reg.terms 0 initial

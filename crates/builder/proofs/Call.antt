@@ -18,11 +18,12 @@ use Rattle.register.proofs.Opened.{Opened, opened}
 use Rattle.scheme.specs.declared.Scheme.{Scheme}
 use Rattle.scheme.specs.Encoding.{encode_scheme}
 use Rattle.scheme.specs.Answer.{scheme_answer}
-use Rattle.scheme.proofs.Accept.{accepted_iff}
+use Rattle.scheme.proofs.Accept.{encoding_accepted}
 use Rattle.scheme.proofs.Whole.{answered}
 use Rattle.scheme.proofs.Canonical.{canonical}
 use Rattle.builder.specs.Builder.{Built, stopped, built, build}
 use Rattle.builder.specs.Answer.{built_room, built_answer, built_buffer, build_answer, build_buffer}
+use Rattle.builder.proofs.Factor.{built_factor}
 use Rattle.builder.proofs.Validity.{build_valid, build_size}
 use Rattle.builder.proofs.Answers.{build_full, build_whole}
 
@@ -73,7 +74,7 @@ module _ (s buffer : List ℕ) where
             valid = r.valid;
             builds = e;
             hands_back = h;
-            reads = ap (scheme_answer s) h.front ∙ rw (r.reads, (accepted_iff register r.valid bytes sch).1 (build_valid register r.valid sch e, canonical register sch));
+            reads = ap (scheme_answer s) h.front ∙ rw (r.reads, encoding_accepted register r.valid bytes sch (build_valid register r.valid sch e) (canonical register sch (built_factor register sch e)));
           }
 
   -- it does where the register is accepted, its scheme is built, and there is room for the longest

@@ -1,5 +1,6 @@
 pub mod Worked
 pub mod Steps
+pub mod Factor
 pub mod Joining
 pub mod Steady
 pub mod Fronts

@@ -10,7 +10,7 @@ use Rattle.integers.proofs.Lists.{All-map}
 use Rattle.register.specs.declared.Register.{Register}
 use Rattle.register.specs.Register.{mask}
 use Rattle.scheme.specs.declared.Scheme.{Scheme}
-use Rattle.scheme.specs.Scheme.{variables, fresh, with_split}
+use Rattle.scheme.specs.Scheme.{variables, fresh, initial, with_split}
 use Rattle.scheme.proofs.Sets.{sets_same}
 use Rattle.builder.specs.declared.list.Members.{Members}
 use Rattle.builder.specs.declared.state.Work.{Work}
@@ -65,7 +65,7 @@ pub record Building (reg : Register) (w : Work) (t : ℕ) : Type 0 where
   pub splits_are : w.scheme.splits ≡ t
   pub same : build_from reg (reg.terms - t) t w.scheme ≡ build reg
 
-pub building_starts : (reg : Register) (w : Work) → w.choices ≡ reg.choices → w.scheme ≡ fresh → Building reg w 0
+pub building_starts : (reg : Register) (w : Work) → w.choices ≡ reg.choices → w.scheme ≡ initial → Building reg w 0
 unfolding build fresh
 building_starts reg w c e = record { choices_kept = c; splits_are = rw e; same = rw (e, sub-zero) }
 

@@ -15,12 +15,12 @@ use Rattle.register.specs.Position.{term_position}
 use Rattle.register.specs.Valid as R
 use Rattle.register.proofs.Position.{term_stands}
 use Rattle.scheme.specs.declared.Scheme.{Scheme}
-use Rattle.scheme.specs.Scheme.{fresh}
+use Rattle.scheme.specs.Scheme.{fresh, initial}
 use Rattle.scheme.specs.Variables.{E}
 use Rattle.scheme.specs.Format.{union_of}
 use Rattle.scheme.specs.Encoding.{encode_scheme}
 use Rattle.scheme.specs.Valid.{Within, Valid}
-use Rattle.scheme.proofs.Entries.{fresh_within, split_more}
+use Rattle.scheme.proofs.Entries.{initial_within, split_more}
 use Rattle.wire.specs.Part.{total}
 use Rattle.scheme.proofs.Prefix.{scheme_longest}
 use Rattle.scheme.proofs.Encoding.{encode_within}
@@ -96,13 +96,13 @@ module _ (reg : Register) (valid : R.Valid reg) where
   pub build_valid : (sch : Scheme) → build reg ≡ built sch → Valid reg sch
   unfolding build fresh
   build_valid sch e =
-      let s = built_from reg.terms 0 fresh sch (omega arith) (record { within = fresh_within reg valid.within.choices.few; splits_are = refl }) e in
+      let s = built_from reg.terms 0 initial sch (omega arith) (record { within = initial_within reg valid.within.choices.few; splits_are = refl }) e in
       record { within = s.within; all_split = s.splits_are ∙ zero-add reg.terms }
 
   -- and short
   pub build_size : (sch : Scheme) → build reg ≡ built sch → length (encode_scheme n sch) ≤ built_room
   unfolding scheme_longest total
-  build_size sch e = encode_within reg valid sch (build_valid sch e)
+  build_size sch e = omega (arith, encode_within reg valid sch (build_valid sch e))
 
 -- ---- building stops at a term of the register
 
@@ -117,7 +117,7 @@ stopped_from reg (suc k) t u sch e = go (build_term reg.choices sch (mask reg t)
 
 pub build_stopped : (reg : Register) (t : ℕ) → build reg ≡ stopped t → t < reg.terms
 unfolding build
-build_stopped reg t e = omega (arith, stopped_from reg reg.terms 0 t fresh e)
+build_stopped reg t e = omega (arith, stopped_from reg reg.terms 0 t initial e)
 
 -- and a form of it stands where 10 has its position, whichever encoding of the register the bytes are
 pub stopped_stands : (reg : Register) → R.Valid reg → (s : List ℕ) (e : Encodes reg s) (t : ℕ) → build reg ≡ stopped t → Stands register_part term_kind reg t e.commands (term_position s t)

@@ -65,7 +65,7 @@ five = record { base = pos 0; day_length = usual_day; choices = 5; terms = 1; ta
 
 -- and the scheme made for it
 abbrev pub five_scheme : Scheme
-five_scheme = record { products = 3; splits = 1; lefts = 0 ∷ 2 ∷ 5 ∷ replicate 29 0; rights = 1 ∷ 3 ∷ 6 ∷ replicate 29 0; split_lefts = 4 ∷ replicate 255 0; split_rights = 7 ∷ replicate 255 0 }
+five_scheme = record { products = 3; splits = 1; lefts = 0 ∷ 2 ∷ 5 ∷ replicate 29 0; rights = 1 ∷ 3 ∷ 6 ∷ replicate 29 0; split_lefts = 4 ∷ replicate 255 0; split_rights = 7 ∷ replicate 255 0; factor = 1 }
 
 pub w4 : build five ≡ built five_scheme
 unfolding build build_from follow build_term split_of reduce pair_up join_pair first_with first_below choices_of and_then join_below is_member E upward up_to fresh

@@ -4,7 +4,7 @@ use Rattle.std.specs.Prelude.{ℕ, zero, suc, min, max, cond, List, [], ◌∷�
 use Rattle.register.specs.declared.Register.{Register}
 use Rattle.register.specs.Register.{mask}
 use Rattle.scheme.specs.declared.Scheme.{Scheme}
-use Rattle.scheme.specs.Scheme.{max_products, variables, fresh, with_product}
+use Rattle.scheme.specs.Scheme.{max_products, variables, initial, with_product}
 use Rattle.scheme.specs.Format.{union_of}
 use Rattle.builder.specs.Builder.{Step, full, next, and_then, WithVariable, WithList, choices_of, first_with, split_of, Built, built, follow}
 
@@ -40,4 +40,4 @@ build_from_before_wide reg zero t sch = built sch
 build_from_before_wide reg (suc k) t sch = follow (build_term_before_wide reg.choices sch (mask reg t)) t (build_from_before_wide reg k (suc t))
 
 unfoldable pub build_before_wide : Register → Built
-build_before_wide reg = build_from_before_wide reg reg.terms 0 fresh
+build_before_wide reg = build_from_before_wide reg reg.terms 0 initial

@@ -5,7 +5,7 @@ use Rattle.sets.specs.Sets.{is_member}
 use Rattle.register.specs.declared.Register.{Register}
 use Rattle.register.specs.Register.{mask}
 use Rattle.scheme.specs.declared.Scheme.{Scheme}
-use Rattle.scheme.specs.Scheme.{max_products, max_variables, variables, fresh, with_product, with_split}
+use Rattle.scheme.specs.Scheme.{max_products, max_variables, variables, initial, with_product, with_split}
 use Rattle.scheme.specs.Variables.{E}
 use Rattle.scheme.specs.Format.{union_of}
 
@@ -87,4 +87,4 @@ build_from reg zero t sch = built sch
 build_from reg (suc k) t sch = follow (build_term reg.choices sch (mask reg t)) t (build_from reg k (suc t))
 
 unfoldable pub build : Register → Built
-build reg = build_from reg reg.terms 0 fresh
+build reg = build_from reg reg.terms 0 initial

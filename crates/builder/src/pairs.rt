@@ -1,7 +1,7 @@
 // Two variables joined to one, and a list of variables joined pair by pair.
 ghost use Rattle.std.specs.Prelude.{◌≡◌, ◌<◌, ◌≤◌, length};
 ghost use Rattle.register.specs.Limits.{max_choices};
-ghost use Rattle.scheme.specs.Scheme.{fresh, max_products, variables, with_product};
+ghost use Rattle.scheme.specs.Scheme.{initial, max_products, variables, with_product};
 ghost use Rattle.builder.specs.Builder.{join_pair, pair_up, reduce};
 ghost use Rattle.builder.specs.Work.{Inside, listed, joined_step, list_step};
 
@@ -26,11 +26,11 @@ impl Work {
     pub fn fresh(n: usize) -> Work
         requires { n ≤ max_choices }
         ensures choices { result.choices ≡ n }
-        ensures scheme { result.scheme ≡ fresh }
+        ensures scheme { result.scheme ≡ initial }
     {
         Work {
             choices: n,
-            scheme: Scheme::fresh(),
+            scheme: Scheme::initial(),
             sets: scheme::choice_sets(n),
         }
     }

@@ -13,8 +13,8 @@ use Rattle.wire.specs.Part.{read_part, by_itself}
 use Rattle.wire.specs.Rows.{part_of}
 use Rattle.register.specs.declared.Register.{Register}
 use Rattle.register.specs.Limits.{narrow_choices}
-use Rattle.scheme.specs.Scheme.{max_products, max_variables, fresh}
-use Rattle.scheme.specs.Format.{product_checks, product_row, split_row, end_row, scheme_in_job, scheme_by_itself}
+use Rattle.scheme.specs.Scheme.{max_products, max_variables, initial}
+use Rattle.scheme.specs.Format.{factor_row, product_checks, product_row, split_row, end_row, scheme_in_job, scheme_by_itself}
 use Rattle.scheme.specs.BeforeWide.{product_checks_before_wide, product_row_before_wide, in_job_before_wide, by_itself_before_wide}
 
 -- of the two limits that of the products is reached first
@@ -31,7 +31,7 @@ module _ (reg : Register) (narrow : reg.choices ≤ narrow_choices) where
   module _ (s : List ℕ) where
     pub as_before_wide_in_job : scheme_in_job reg s ≡ in_job_before_wide reg s
     unfolding scheme_in_job in_job_before_wide
-    as_before_wide_in_job = ap (λ row. read_part (part_of fresh (row ∷ split_row reg ∷ end_row reg ∷ [])) s) row_as_before
+    as_before_wide_in_job = ap (λ row. read_part (part_of initial (factor_row ∷ row ∷ split_row reg ∷ end_row reg ∷ [])) s) row_as_before
 
     pub as_before_wide : scheme_by_itself reg s ≡ by_itself_before_wide reg s
     unfolding scheme_by_itself by_itself_before_wide

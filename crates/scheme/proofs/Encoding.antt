@@ -4,6 +4,7 @@ use native.Mathlib.Omega.{arith}
 use mathlib.Core.Path.{◌≡◌}
 use lib.ListN.{length, length-append}
 use Rattle.wire.specs.Part.{total}
+use Rattle.wire.specs.Rows.{size_of}
 use Rattle.wire.proofs.Number.{length-bytes_of}
 use Rattle.register.specs.declared.Register.{Register}
 use Rattle.register.specs.Valid as R
@@ -11,6 +12,7 @@ use Rattle.integers.proofs.Join.{length_join}
 use Rattle.scheme.specs.declared.Scheme.{Scheme}
 use Rattle.scheme.specs.Scheme.{left, right, split_left, split_right}
 use Rattle.scheme.specs.Valid.{Valid}
+use Rattle.scheme.specs.Format.{factor_row}
 use Rattle.scheme.proofs.Prefix.{scheme_longest}
 use Rattle.scheme.specs.Encoding.{encode_product, encode_split, encode_scheme}
 
@@ -31,7 +33,8 @@ length-encode n s =
     let t = length_join s.splits 3 (λ t. encode_split (split_left s t) (split_right s t)) (λ t. length_split (split_left s t) (split_right s t)) in
     simp (length-append, p, t) (omega arith)
 
-pub encode_within : (reg : Register) → R.Valid reg → (s : Scheme) → Valid reg s → length (encode_scheme reg.choices s) ≤ scheme_longest
+-- with a `23` too
+pub encode_within : (reg : Register) → R.Valid reg → (s : Scheme) → Valid reg s → size_of factor_row + length (encode_scheme reg.choices s) ≤ scheme_longest
 unfolding scheme_longest total
 encode_within reg ok s v =
     omega (arith, length-encode reg.choices s, ok.within.terms.few, v.within.products_within, v.within.splits_within)

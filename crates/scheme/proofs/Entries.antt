@@ -14,17 +14,18 @@ use Rattle.register.specs.declared.Register.{Register}
 use Rattle.register.specs.Limits.{max_choices, max_terms}
 use Rattle.register.specs.Register.{mask}
 use Rattle.scheme.specs.declared.Scheme.{Scheme}
-use Rattle.scheme.specs.Scheme.{max_variables, max_products, product_left, product_right, left, right, variables, split_left, split_right, fresh, Lengths, set_products, set_splits, with_product, with_split}
+use Rattle.scheme.specs.Scheme.{max_variables, max_products, product_left, product_right, left, right, variables, split_left, split_right, fresh, initial, Lengths, set_products, set_splits, with_factor, with_product, with_split}
 use Rattle.scheme.specs.Variables.{E}
 use Rattle.scheme.specs.Format.{union_of}
 use Rattle.scheme.specs.Sets.{SetsBelow, union_in}
-use Rattle.scheme.specs.Valid.{Product, ProductOf, Split, SplitOf, Within}
+use Rattle.scheme.specs.Valid.{Factor, Product, ProductOf, Split, SplitOf, Within}
 use Rattle.scheme.proofs.Sets.{Agree, E_same, E_next, left_at, right_at, sets_same, sets_product}
 use Rattle.scheme.proofs.Passes.{NextProduct, NextSplit}
 
-pub fresh_within : (reg : Register) → reg.choices ≤ max_choices → Within reg fresh
+pub initial_within : (reg : Register) → reg.choices ≤ max_choices → Within reg initial
 unfolding fresh
-fresh_within reg few = record {
+initial_within reg few = record {
+  factor = record { positive = omega arith; within = omega arith };
   lefts = column_none max_products 0;
   rights = column_none max_products 0;
   products_within = omega arith;
@@ -40,18 +41,37 @@ pub lengths_within : {reg : Register} {s : Scheme} → Within reg s → Lengths 
 lengths_within w = record { lefts = w.lefts.room; rights = w.rights.room; split_lefts = w.split_lefts.room; split_rights = w.split_rights.room }
 
 module _ (s : Scheme) where
+  same_factor : {f : ℕ} → f ≡ s.factor → with_factor s f ≡ s
+  same_factor a = rw a
+
   same_products : {k : ℕ} {lefts rights : List ℕ} → k ≡ s.products → lefts ≡ s.lefts → rights ≡ s.rights → set_products s k lefts rights ≡ s
   same_products a b c = rw (a, b, c)
 
   same_splits : {t : ℕ} {lefts rights : List ℕ} → t ≡ s.splits → lefts ≡ s.split_lefts → rights ≡ s.split_rights → set_splits s t lefts rights ≡ s
   same_splits a b c = rw (a, b, c)
 
-  -- a scheme with neither is the fresh one
-  pub fresh_back : {reg : Register} → Within reg s → s.products ≡ 0 → s.splits ≡ 0 → fresh ≡ s
+  -- a scheme with neither, and with factor 1, is the initial one
+  pub initial_back : {reg : Register} → Within reg s → s.factor ≡ 1 → s.products ≡ 0 → s.splits ≡ 0 → initial ≡ s
   unfolding fresh
-  fresh_back w p t =
-      ap (λ x. set_splits x 0 (replicate max_terms 0) (replicate max_terms 0)) (same_products (sym p) (column_empty max_products _ 0 _ p w.lefts) (column_empty max_products _ 0 _ p w.rights))
+  initial_back w f p t =
+      ap (λ x. set_splits (set_products x 0 (replicate max_products 0) (replicate max_products 0)) 0 (replicate max_terms 0) (replicate max_terms 0)) (same_factor (sym f))
+      ∙ ap (λ x. set_splits x 0 (replicate max_terms 0) (replicate max_terms 0)) (same_products (sym p) (column_empty max_products _ 0 _ p w.lefts) (column_empty max_products _ 0 _ p w.rights))
       ∙ same_splits (sym t) (column_empty max_terms _ 0 _ t w.split_lefts) (column_empty max_terms _ 0 _ t w.split_rights)
+
+-- with a factor, where there is neither
+pub factor_more : (reg : Register) (s : Scheme) (f : ℕ) → Within reg s → s.products ≡ 0 → s.splits ≡ 0 → Factor f → Within reg (with_factor s f)
+factor_more reg s f w p q factor = record {
+  factor = factor;
+  lefts = w.lefts;
+  rights = w.rights;
+  products_within = w.products_within;
+  variables_within = w.variables_within;
+  products = λ k l m. absurd (omega arith);
+  split_lefts = w.split_lefts;
+  split_rights = w.split_rights;
+  splits_within = w.splits_within;
+  splits = λ t l. absurd (omega arith);
+}
 
 -- ---- products
 
@@ -126,6 +146,7 @@ product_more reg s w l r p =
     let s' = with_product s l r in
     let agree = grown_agree s l r n in
     record {
+      factor = w.factor;
       lefts = column_more l w.lefts;
       rights = column_more r w.rights;
       products_within = p.few;
@@ -154,6 +175,7 @@ module _ (s : Scheme) (k : ℕ) where
       let s' = less_product s k in
       let few : k < max_products = omega (arith, w.products_within) in (
         record {
+          factor = w.factor;
           lefts = column_less few (rw e at w.lefts);
           rights = column_less few (rw e at w.rights);
           products_within = omega arith;
@@ -189,6 +211,7 @@ module _ (reg : Register) (s : Scheme) (m : ℕ) (lefts rights : List ℕ) where
 
   in_splits : Within reg s → Column max_terms m 0 lefts → Column max_terms m 0 rights → m ≤ reg.terms → ((t : ℕ) → t < m → SplitOf reg s' t) → Within reg s'
   in_splits w a b few splits = record {
+    factor = w.factor;
     lefts = w.lefts;
     rights = w.rights;
     products_within = w.products_within;

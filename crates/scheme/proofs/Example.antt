@@ -16,6 +16,7 @@ example_scheme = record {
   rights = 1 ∷ 3 ∷ replicate 30 0;
   split_lefts = 0 ∷ 1 ∷ 4 ∷ replicate 253 0;
   split_rights = 0 ∷ 1 ∷ 4 ∷ replicate 253 0;
+  factor = 1;
 }
 
 -- the builder's scheme for the example's register: one product, and the last term split in two
@@ -27,4 +28,5 @@ built_scheme = record {
   rights = 1 ∷ replicate 31 0;
   split_lefts = 0 ∷ 1 ∷ 2 ∷ replicate 253 0;
   split_rights = 0 ∷ 1 ∷ 3 ∷ replicate 253 0;
+  factor = 1;
 }

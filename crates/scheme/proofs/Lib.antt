@@ -2,6 +2,7 @@ pub mod Example
 pub mod Variables
 pub mod Function
 pub mod Filling
+pub mod OtherFactor
 pub mod Sets
 pub mod Search
 pub mod Passes
@@ -9,7 +10,7 @@ pub mod Entries
 pub mod Laws
 pub mod Accept
 pub mod Canonical
-pub mod Products
+pub mod RefusedAfter
 pub mod Encoding
 pub mod Lowest
 pub mod Answers
@@ -20,3 +21,6 @@ pub mod Opened
 pub mod Whole
 pub mod Prefix
 pub mod BeforeWide
+pub mod BeforeFactors
+pub mod Factors
+pub mod EachFactor

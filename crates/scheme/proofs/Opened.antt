@@ -26,7 +26,7 @@ use Rattle.scheme.specs.Format.{scheme_part, scheme_in_job, scheme_by_itself}
 use Rattle.scheme.specs.Answer.{open_parts, parts_of, refused_answer, accepted_answer, scheme_answer}
 use Rattle.scheme.specs.Valid.{Valid}
 use Rattle.scheme.specs.Encoding.{Encodes}
-use Rattle.scheme.proofs.Accept.{whole_valid, accepted_iff}
+use Rattle.scheme.proofs.Accept.{whole_valid, encoding_accepted, accepted_iff}
 
 -- an accepted scheme of an accepted register
 pub record Opened (t s : List ℕ) (reg : Register) (sch : Scheme) : Type 0 where
@@ -44,7 +44,7 @@ opens o = rw (o.register_reads, o.scheme_reads)
 pub opened_encodings : (t s : List ℕ) (reg : Register) (sch : Scheme) → R.Valid reg → RE.Encodes reg t → Valid reg sch → Encodes reg sch s → Opened t s reg sch
 opened_encodings t s reg sch v e v' e' = record {
   register_reads = A.encoding_accepted t reg v e;
-  scheme_reads = (accepted_iff reg v s sch).1 (v', e');
+  scheme_reads = encoding_accepted reg v s sch v' e';
   register_valid = v;
   scheme_valid = v';
 }
@@ -89,8 +89,8 @@ module _ (t s : List ℕ) (reg : Register) (sch : Scheme) (o : Opened t s reg sc
   pub register_bytes : Bytes t → RE.Encodes reg t
   register_bytes b = ((A.accepted_iff t reg b).0 o.register_reads).1
 
-  pub scheme_bytes : Encodes reg sch s
-  scheme_bytes = ((accepted_iff reg o.register_valid s sch).0 o.scheme_reads).1
+  pub scheme_bytes : Bytes s → Encodes reg sch s
+  scheme_bytes b = ((accepted_iff reg o.register_valid s sch b).0 o.scheme_reads).1
 
 -- ---- by what opening them gives
 

@@ -5,20 +5,29 @@ use mathlib.Core.Bool.{true, false, ◌||◌}
 use mathlib.Core.List.{List}
 use Prim.Native.Nat.{ℕ, ◌≤◌, ◌<◌}
 use native.Mathlib.Omega.{arith}
-use lib.Dec.{leb}
-use borrow.Author.Tests.{eqb-true, ltb-false, leb-false, not-false, lt-leb, le-ltb, eq-eqb}
+use lib.Dec.{eqb, ltb, leb}
+use borrow.Author.Tests.{eqb-true, eqb-false, ne_eqb, ltb-false, leb-false, not-false, lt-leb, le-ltb, eq-eqb}
 use Rattle.integers.proofs.Lists.{or_none, flag}
 use Rattle.wire.specs.Checks.{refusal}
-use Rattle.wire.proofs.Checks.{refusal_none}
+use Rattle.wire.proofs.Checks.{refusal_none, none_refusal}
 use Rattle.register.specs.declared.Register.{Register}
 use Rattle.register.specs.Register.{mask}
 use Rattle.scheme.specs.declared.Scheme.{Scheme}
-use Rattle.scheme.specs.Scheme.{max_products, max_variables, variables}
+use Rattle.scheme.specs.Scheme.{max_products, max_variables, max_factor, variables}
 use Rattle.scheme.specs.Variables.{E}
-use Rattle.scheme.specs.Valid.{Product, Split}
+use Rattle.scheme.specs.Valid.{Factor, Product, Split}
 use Rattle.scheme.specs.Sets.{SetsBelow, none_is, union_in}
-use Rattle.scheme.specs.Format.{union_of, is_new, unnamed, product_checks, split_checks, end_checks}
+use Rattle.scheme.specs.Format.{factor_checks, union_of, is_new, unnamed, product_checks, split_checks, end_checks}
 use Rattle.scheme.proofs.Sets.{union_in_lem, new_in, new_at, at_new}
+
+-- ---- a factor
+
+pub factor_iff : (factor : ℕ) → (refusal (factor_checks factor) ≡ 0) ↔ Factor factor
+unfolding factor_checks
+factor_iff factor = (
+  (λ e. let q = or_none (eqb factor 0) (ltb max_factor factor) (refusal_none (factor_checks factor) (omega arith) e).0 in record { positive = let d = eqb-false factor 0 q.0 in omega arith; within = ltb-false max_factor factor q.1 }),
+  λ f. none_refusal (factor_checks factor) (rw (ne_eqb factor 0 (omega (arith, f.positive)), le-ltb max_factor factor f.within), tt),
+)
 
 -- ---- a product of l and r after what has been read
 

@@ -19,11 +19,11 @@ use Rattle.scheme.proofs.Opened.{Opened, opens, opened_encodings, register_bytes
 abbrev pub answered : Scheme → SchemeAnswer
 answered c = record { number = 0; part = 0; position = 0; scheme = c }
 
-pub answer_iff : (t s : List ℕ) (c : Scheme) → Bytes t →
+pub answer_iff : (t s : List ℕ) (c : Scheme) → Bytes t → Bytes s →
     (scheme_answer t s ≡ answered c) ↔ ((reg : Register) × ((R.Valid reg × RE.Encodes reg t) × (Valid reg c × Encodes reg c s)))
-answer_iff t s c b = (parts, λ (reg, ((v, e), (v', e'))). ap (answer_by refused_answer accepted_answer) (opens (opened_encodings t s reg c v e v' e')))
+answer_iff t s c b b' = (parts, λ (reg, ((v, e), (v', e'))). ap (answer_by refused_answer accepted_answer) (opens (opened_encodings t s reg c v e v' e')))
   where
     parts : scheme_answer t s ≡ answered c → (reg : Register) × ((R.Valid reg × RE.Encodes reg t) × (Valid reg c × Encodes reg c s))
     parts e =
         let o : Opened t s _ c = subst (Opened t s _) (ap (λ a. a.scheme) e) (answer_opened t s (ap (λ a. a.number) e)) in
-        (_, ((o.register_valid, register_bytes t s _ c o b), (o.scheme_valid, scheme_bytes t s _ c o)))
+        (_, ((o.register_valid, register_bytes t s _ c o b), (o.scheme_valid, scheme_bytes t s _ c o b')))

@@ -1,15 +1,30 @@
--- The scheme's commands, with a register: `21` product, `22` split, `2F` end.
+-- The scheme's commands, with a register: `23` factor of the weights, `21` product, `22` split, `2F` end.
 use Rattle.std.specs.Prelude.{ℕ, Bool, true, false, not, ◌||◌, List, [], ◌∷◌, ltb, leb, eqb}
 use Rattle.std.specs.Int.Bits.{bit_or}
 use Rattle.integers.specs.Lists.{all_below}
 use Rattle.wire.specs.Checks.{Check, check}
 use Rattle.wire.specs.Part.{Part, Reading, read_part, by_itself}
-use Rattle.wire.specs.Rows.{Progress, Row, part_of, binary}
+use Rattle.wire.specs.Rows.{Progress, Row, part_of, unary, binary}
 use Rattle.register.specs.declared.Register.{Register}
 use Rattle.register.specs.Register.{mask}
 use Rattle.scheme.specs.declared.Scheme.{Scheme}
-use Rattle.scheme.specs.Scheme.{max_products, max_variables, variables, fresh, with_product, with_split}
+use Rattle.scheme.specs.Scheme.{max_products, max_variables, variables, max_factor, initial, with_factor, with_product, with_split}
 use Rattle.scheme.specs.Variables.{E}
+
+-- the factor is from 1 to 1,000
+unfoldable pub factor_checks : ℕ → List Check
+factor_checks factor = check 4 (eqb factor 0 || ltb max_factor factor) ∷ []
+
+-- `23` factor u16, at most once, first
+abbrev pub factor_row : Row Scheme
+factor_row = record {
+  byte = 0x23;
+  follows = 0 ∷ [];
+  widths = 2 ∷ [];
+  checks = λ sch. unary factor_checks;
+  after = λ sch. unary (with_factor sch);
+  last = false;
+}
 
 -- the union of the sets of two variables
 abbrev pub union_of : ℕ → Scheme → ℕ → ℕ → ℕ
@@ -37,7 +52,7 @@ product_checks products k l r new =
 abbrev pub product_row : Register → Row Scheme
 product_row reg = record {
   byte = 0x21;
-  follows = 0 ∷ 0x21 ∷ [];
+  follows = 0 ∷ 0x21 ∷ 0x23 ∷ [];
   widths = 1 ∷ 1 ∷ [];
   checks = λ sch. let n = reg.choices in binary λ l r. product_checks sch.products (variables n sch) l r (is_new n sch (union_of n sch l r));
   after = λ sch. binary (with_product sch);
@@ -57,7 +72,7 @@ split_checks terms splits N l r union mask =
 abbrev pub split_row : Register → Row Scheme
 split_row reg = record {
   byte = 0x22;
-  follows = 0 ∷ 0x21 ∷ 0x22 ∷ [];
+  follows = 0 ∷ 0x21 ∷ 0x22 ∷ 0x23 ∷ [];
   widths = 1 ∷ 1 ∷ [];
   checks = λ sch. let n = reg.choices in binary λ l r. split_checks reg.terms sch.splits (variables n sch) l r (union_of n sch l r) (mask reg sch.splits);
   after = λ sch. binary (with_split sch);
@@ -72,7 +87,7 @@ end_checks terms splits = check 3 (ltb splits terms) ∷ []
 abbrev pub end_row : Register → Row Scheme
 end_row reg = record {
   byte = 0x2F;
-  follows = 0 ∷ 0x21 ∷ 0x22 ∷ [];
+  follows = 0 ∷ 0x21 ∷ 0x22 ∷ 0x23 ∷ [];
   widths = [];
   checks = λ sch xs. end_checks reg.terms sch.splits;
   after = λ sch xs. sch;
@@ -80,10 +95,10 @@ end_row reg = record {
 }
 
 abbrev pub scheme_rows : Register → List (Row Scheme)
-scheme_rows reg = product_row reg ∷ split_row reg ∷ end_row reg ∷ []
+scheme_rows reg = factor_row ∷ product_row reg ∷ split_row reg ∷ end_row reg ∷ []
 
 abbrev pub scheme_part : Register → Part (Progress Scheme)
-scheme_part reg = part_of fresh (scheme_rows reg)
+scheme_part reg = part_of initial (scheme_rows reg)
 
 -- the scheme at the front of a run of bytes, as in a job
 unfoldable pub scheme_in_job : Register → List ℕ → Reading (Progress Scheme)

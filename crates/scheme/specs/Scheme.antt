@@ -1,4 +1,5 @@
--- The scheme's record: its limits, its entries, the fresh one, and one more product or split.
+-- The scheme's record: its limits, its entries, the fresh one, that which reading begins with, and with another factor, a product more or a
+-- split more.
 use Rattle.std.specs.Prelude.{ℕ, suc, ◌+◌, ◌-◌, ◌≡◌, List, length, get_or, set, replicate}
 use Rattle.register.specs.Limits.{max_terms}
 use Rattle.scheme.specs.declared.Scheme.{Scheme}
@@ -10,6 +11,10 @@ max_products = 32
 -- and at most 64 variables, choices and products together
 abbrev pub max_variables : ℕ
 max_variables = 64
+
+-- the factor of the weights is at most 1,000
+abbrev pub max_factor : ℕ
+max_factor = 1_000
 
 -- the two operands of the product that has i before it
 
@@ -43,7 +48,7 @@ split_left s t = get_or s.split_lefts t 0
 abbrev pub split_right : Scheme → ℕ → ℕ
 split_right s t = get_or s.split_rights t 0
 
--- no product, no split; every entry is 0
+-- no product, no split; every entry is 0, and so is the factor
 unfoldable pub fresh : Scheme
 fresh = record {
   products = 0;
@@ -52,7 +57,12 @@ fresh = record {
   rights = replicate max_products 0;
   split_lefts = replicate max_terms 0;
   split_rights = replicate max_terms 0;
+  factor = 0;
 }
+
+-- what reading begins with, and the builder: the factor is 1 where no command says another
+abbrev pub initial : Scheme
+initial = record fresh { factor = 1 }
 
 -- the arrays have room for 32 products and 256 splits
 pub record Lengths (s : Scheme) : Type 0 where
@@ -69,7 +79,10 @@ set_products s k lefts rights = record s { products = k; lefts = lefts; rights =
 abbrev pub set_splits : Scheme → ℕ → (lefts rights : List ℕ) → Scheme
 set_splits s t lefts rights = record s { splits = t; split_lefts = lefts; split_rights = rights }
 
--- ---- one more
+-- ---- with another factor, and with one product or split more
+
+abbrev pub with_factor : Scheme → ℕ → Scheme
+with_factor s factor = record s { factor = factor }
 
 abbrev pub with_product : Scheme → ℕ → ℕ → Scheme
 with_product s l r = set_products s (suc s.products) (set s.lefts s.products l) (set s.rights s.products r)

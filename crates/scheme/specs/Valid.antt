@@ -6,7 +6,7 @@ use Rattle.register.specs.declared.Register.{Register}
 use Rattle.register.specs.Limits.{max_terms}
 use Rattle.register.specs.Register.{mask}
 use Rattle.scheme.specs.declared.Scheme.{Scheme}
-use Rattle.scheme.specs.Scheme.{max_products, max_variables, left, right, variables, split_left, split_right}
+use Rattle.scheme.specs.Scheme.{max_products, max_variables, max_factor, left, right, variables, split_left, split_right}
 use Rattle.scheme.specs.Variables.{E}
 
 -- a product of l and r with number k: its operands are two variables before it, in order, and its set is not that of any
@@ -33,8 +33,14 @@ SplitOf reg s t =
     let n = reg.choices in
     Split (variables n s) (split_left s t) (split_right s t) (bit_or (E n s (split_left s t)) (E n s (split_right s t))) (mask reg t)
 
--- at most 32 products, at most 64 variables, and splits for the first terms; entries past the counts are 0
+-- a factor from 1 to 1,000
+pub record Factor (factor : ℕ) : Type 0 where
+  pub positive : 1 ≤ factor
+  pub within : factor ≤ max_factor
+
+-- such a factor, at most 32 products, at most 64 variables, and splits for the first terms; entries past the counts are 0
 pub record Within (reg : Register) (s : Scheme) : Type 0 where
+  pub factor : Factor s.factor
   pub lefts : Column max_products s.products 0 s.lefts
   pub rights : Column max_products s.products 0 s.rights
   pub products_within : s.products ≤ max_products

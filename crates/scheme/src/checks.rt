@@ -6,13 +6,22 @@ ghost use Rattle.wire.specs.Results.{number_in};
 ghost use Rattle.wire.specs.Rows.{Progress, is_among, row_of};
 ghost use Rattle.register.specs.declared.Register.{Register};
 ghost use Rattle.scheme.specs.Scheme.{variables};
-ghost use Rattle.scheme.specs.Format.{product_checks, split_checks, end_checks, scheme_rows, scheme_part};
+ghost use Rattle.scheme.specs.Format.{factor_checks, product_checks, split_checks, end_checks, scheme_rows, scheme_part};
 ghost use Rattle.scheme.specs.Sets.{SetsBelow, none_is, union_in};
 ghost use Rattle.scheme.specs.Answer.{seen_of};
 
 use super::{Scheme, Seen, union_of};
 use crate::lookup::first_with;
 use wire::{FromBytes, Refusal, check_command, refuse_if};
+
+// The refusal of a factor.
+#[tactic(auto, unfolding(crate::specs::Format::factor_checks, wire::specs::Checks::refusal))]
+fn factor_refusal(factor: u16) -> Result<(), Refusal>
+    ensures { number_in result ≡ refusal (factor_checks factor) }
+{
+    let outside = (factor == 0) | (Scheme::MAX_FACTOR < factor);
+    refuse_if(outside, Refusal::OutOfRange)
+}
 
 // No variable below the count has this set.
 fn is_new(sets: &[u64], count: usize, union: u64) -> bool
@@ -68,11 +77,18 @@ fn end_refusal(terms: usize, splits: usize) -> Result<(), Refusal>
     refuse_if(splits < terms, Refusal::TooMany)
 }
 
+// A product may stand directly after a command, or first where that is 0.
+fn before_splits(previous: u8) -> bool
+    ensures { result ≡ is_among previous (0 ∷ 0x21 ∷ 0x23 ∷ []) }
+{
+    (previous == 0) | ((previous == 0x21) | (previous == 0x23))
+}
+
 // A split or the end may stand directly after a command, or first where that is 0.
 fn after_products(previous: u8) -> bool
-    ensures { result ≡ is_among previous (0 ∷ 0x21 ∷ 0x22 ∷ []) }
+    ensures { result ≡ is_among previous (0 ∷ 0x21 ∷ 0x22 ∷ 0x23 ∷ []) }
 {
-    (previous == 0) | ((previous == 0x21) | (previous == 0x22))
+    (previous == 0) | ((previous == 0x21) | ((previous == 0x22) | (previous == 0x23)))
 }
 
 // A command may stand directly after another, or first where that is 0.
@@ -80,14 +96,17 @@ fn stands_after(previous: u8, command: u8) -> bool
     ensures { (reg : Register) → result ≡ is_among previous (row_of (scheme_rows reg) command).follows }
 {
     match command {
-        0x21 => (previous == 0) | (previous == 0x21),
+        0x21 => before_splits(previous),
         0x22 => after_products(previous),
+        0x23 => previous == 0,
         0x2f => after_products(previous),
         _ => false,
     }
 }
 
-// How many bytes a product has, and a split: its command byte and two operands.
+// How many bytes a factor has, a product and a split: its command byte and its operands.
+
+pub const FACTOR_SIZE: usize = 1 + 2;
 
 pub const PRODUCT_SIZE: usize = 1 + 1 + 1;
 
@@ -100,6 +119,7 @@ fn command_size(command: u8) -> usize
     match command {
         0x21 => PRODUCT_SIZE,
         0x22 => SPLIT_SIZE,
+        0x23 => FACTOR_SIZE,
         _ => 1,
     }
 }
@@ -132,6 +152,7 @@ pub fn refusal_at(bytes: &[u8], at: usize, seen: Seen, sets: &[u64]) -> Result<(
             let r = u8::read(bytes, at + 1 + 1);
             split_refusal(sets, seen.terms, seen.splits, n + k, l, r, seen.mask)
         }
+        0x23 => factor_refusal(u16::read(bytes, at + 1)),
         _ => end_refusal(seen.terms, seen.splits),
     }
 }

@@ -9,13 +9,13 @@ mod variable_sets;
 
 ghost use Rattle.std.specs.Prelude.{◌≡◌};
 ghost use Rattle.register.specs.Valid.{Valid};
-ghost use Rattle.scheme.specs.Scheme.{fresh};
+ghost use Rattle.scheme.specs.Scheme.{fresh, initial};
 ghost use Rattle.scheme.specs.Format.{scheme_in_job};
 ghost use Rattle.scheme.specs.Answer.{parts_of, open_parts, refused_answer, scheme_answer};
 ghost use Rattle.wire.specs.Results.{number_of, reading_of};
 ghost use Rattle.wire.specs.Outcome.{added_by};
 
-use checks::{PRODUCT_SIZE, SPLIT_SIZE, refusal_at};
+use checks::{FACTOR_SIZE, PRODUCT_SIZE, SPLIT_SIZE, refusal_at};
 pub use parts::Quadratization;
 use register::{Register, open_register};
 use variable_sets::entry;
@@ -33,6 +33,7 @@ pub struct Scheme {
     pub rights: [u8; Scheme::MAX_PRODUCTS],
     pub split_lefts: [u8; Register::MAX_TERMS],
     pub split_rights: [u8; Register::MAX_TERMS],
+    pub factor: u16,
 }
 
 // What the checks of a command look at, beside the sets of the variables: the byte of the last command, or 0 before the first,
@@ -63,6 +64,9 @@ impl Scheme {
     // Choices and products together.
     pub const MAX_VARIABLES: usize = 64;
 
+    // Of the weights.
+    pub const MAX_FACTOR: u16 = 1_000;
+
     // Each record has a function that makes a fresh one, since each has fields of its own.
     pub fn fresh() -> Scheme
         ensures { result ≡ fresh }
@@ -74,7 +78,17 @@ impl Scheme {
             rights: [0; Scheme::MAX_PRODUCTS],
             split_lefts: [0; Register::MAX_TERMS],
             split_rights: [0; Register::MAX_TERMS],
+            factor: 0,
         }
+    }
+
+    // What reading begins with, and the builder: the factor is 1 where no command says another.
+    pub fn initial() -> Scheme
+        ensures { result ≡ initial }
+    {
+        let mut scheme = Scheme::fresh();
+        scheme.factor = 1;
+        scheme
     }
 }
 
@@ -99,7 +113,7 @@ pub fn read_scheme(bytes: &[u8], register: &Register) -> Result<Read<Scheme>, Re
     ensures { reading_of result ≡ added_by (λ scheme. scheme) (scheme_in_job register.now bytes.now) }
 {
     let n = register.choices;
-    let mut scheme = Scheme::fresh();
+    let mut scheme = Scheme::initial();
     let mut sets = choice_sets(n);
     let mut previous: u8 = 0;
     let mut at: usize = 0;
@@ -137,6 +151,11 @@ pub fn read_scheme(bytes: &[u8], register: &Register) -> Result<Read<Scheme>, Re
                 scheme.splits = t + 1;
                 previous = 0x22;
                 at += SPLIT_SIZE;
+            }
+            0x23 => {
+                scheme.factor = u16::read(bytes, at + 1);
+                previous = 0x23;
+                at += FACTOR_SIZE;
             }
             _ => {
                 return Ok(Read {

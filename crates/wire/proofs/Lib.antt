@@ -1,6 +1,7 @@
 -- The laws of numbers in bytes, of checks, and of reading a part, that the proofs share and that callers cite.
 pub mod Number
 pub mod Written
+pub mod Begins
 pub mod Writer
 pub mod Checks
 pub mod Part
@@ -14,7 +15,7 @@ pub mod Accepting
 pub mod Refusing
 pub mod Acceptance
 pub mod Ends
-pub mod Ranged
+pub mod Behind
 pub mod Rest
 pub mod Alike
 pub mod Comes

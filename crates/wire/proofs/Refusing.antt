@@ -1,5 +1,5 @@
--- Commands that can be taken back one by one are read one after the other; and a command that stands after them where it may, and whole,
--- is refused there by its own checks.
+-- Commands that can be taken back one by one are read one after the other; and a command that stands after them and is not right is refused
+-- there.
 use Prim.Native.Nat.{ℕ, zero, suc, ◌+◌, ◌-◌, ◌<◌, ◌≤◌}
 use native.Mathlib.Nat.{zero-add}
 use native.Mathlib.Omega.{arith}
@@ -48,11 +48,16 @@ module _ {R : Type 0} (fresh : R) (rows : List (Row R)) {Good Done : Type 0 → 
     abbrev at : ℕ
     at = length (encode P cs)
 
+    -- a command there whose checks lead to this number
+    pub refused_reached : (n : ℕ) → at < length s → refusal (checks_at P s (reached (last_from 0 cs) r) at) ≡ n → (n ≡ 0 → ⊥) → read_part P s ≡ refused n at
+    unfolding read_part
+    refused_reached n l f d =
+        let read = reached (last_from 0 cs) r in
+        reads_through P cs s P.start 0 read post (good_below (suc (length cs)) r cs (omega arith) g) e ∙ rw zero-add (read_from_refused P s read at n l f d)
+
+    -- and one that may stand there, whole, by its own checks
     pub refused_after : (b n : ℕ) → get_or s at 0 ≡ b → is_among (last_from 0 cs) (row_of rows b).follows ≡ true → at + size P b ≤ length s →
         refusal ((row_of rows b).checks r (operands_at (P.widths b) s (at + 1))) ≡ n → (n ≡ 0 → ⊥) → read_part P s ≡ refused n at
-    unfolding read_part
     refused_after b n byte here long own_refused d =
         let read = reached (last_from 0 cs) r in
-        let f = own_fails P s read at n (rw byte here) (rw byte long) (ap refusal (own_at P s read at b byte) ∙ own_refused) in
-        reads_through P cs s P.start 0 read post (good_below (suc (length cs)) r cs (omega arith) g) e
-        ∙ rw zero-add (read_from_refused P s read at n (omega (arith, long)) f d)
+        refused_reached n (omega (arith, long)) (own_fails P s read at n (rw byte here) (rw byte long) (ap refusal (own_at P s read at b byte) ∙ own_refused)) d

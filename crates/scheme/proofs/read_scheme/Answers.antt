@@ -20,9 +20,9 @@ use Rattle.register.specs.declared.Register.{Register}
 use Rattle.register.specs.Register.{mask}
 use Rattle.register.specs.Valid.{Valid}
 use Rattle.scheme.specs.declared.Scheme.{Scheme}
-use Rattle.scheme.specs.Scheme.{variables, fresh, with_split}
+use Rattle.scheme.specs.Scheme.{variables, fresh, initial, with_factor, with_split}
 use Rattle.scheme.specs.Sets.{SetsBelow}
-use Rattle.scheme.specs.Format.{product_row, split_row, end_row, scheme_rows, scheme_part, scheme_in_job}
+use Rattle.scheme.specs.Format.{factor_row, product_row, split_row, end_row, scheme_rows, scheme_part, scheme_in_job}
 use Rattle.scheme.specs.Answer.{seen_of}
 use Rattle.wire.proofs.Results.{numbered}
 use Rattle.scheme.proofs.Sets.{sets_same}
@@ -37,8 +37,8 @@ seen_is : (reg : Register) (previous : ℕ) (s : Scheme) {m : ℕ} → m ≡ mas
     ≡ record { previous = previous; choices = reg.choices; terms = reg.terms; products = s.products; splits = s.splits; mask = m }
 seen_is reg previous s e = rw e
 
--- the sets of the choices are those of the fresh scheme
-first_sets : (reg : Register) {sets : List ℕ} → SetsBelow reg.choices fresh reg.choices sets → SetsBelow reg.choices fresh (variables reg.choices fresh) sets
+-- the sets of the choices are those of the initial scheme
+first_sets : (reg : Register) {sets : List ℕ} → SetsBelow reg.choices initial reg.choices sets → SetsBelow reg.choices initial (variables reg.choices initial) sets
 unfolding fresh
 first_sets reg h = rw add-zero h
 
@@ -57,8 +57,8 @@ turn : (bytes : List ℕ) (reg : Register) (previous : ℕ) (s : Scheme) (at : �
 turn bytes reg previous s at l e held n z = record { inside = l; judged = sym (n reg (reached previous s) (seen_is reg previous s e) held) ∙ z }
 
 module _ {bytes : List ℕ} {reg : Register} {previous : ℕ} {s : Scheme} {at : ℕ} (t : Turn bytes reg previous s at) where
-  here : (b : ℕ) → get_or bytes at 0 ≡ b → Here fresh (scheme_rows reg) bytes (reached previous s) at b
-  here b e = here_at fresh (scheme_rows reg) bytes (reached previous s) at b e t.inside t.judged
+  here : (b : ℕ) → get_or bytes at 0 ≡ b → Here initial (scheme_rows reg) bytes (reached previous s) at b
+  here b e = here_at initial (scheme_rows reg) bytes (reached previous s) at b e t.inside t.judged
 
   product : get_or bytes at 0 ≡ 0x21 → NextProduct reg.choices s (nat_at 1 bytes (at + 1)) (nat_at 1 bytes (at + 1 + 1))
   unfolding row_of operands_at
@@ -69,13 +69,13 @@ module _ {bytes : List ℕ} {reg : Register} {previous : ℕ} {s : Scheme} {at :
   split e = (split_iff _ _ _ _).0 (here 0x22 e).allowed
 
   -- what else stands here is the end
-  end : (get_or bytes at 0 ≡ 0x21 → ⊥) → (get_or bytes at 0 ≡ 0x22 → ⊥) → get_or bytes at 0 ≡ 0x2F
-  end f g = only_last (end_row reg) _ (product_row reg ∷ split_row reg ∷ []) (f, (g, tt)) _ (here _ refl).place
+  end : (get_or bytes at 0 ≡ 0x23 → ⊥) → (get_or bytes at 0 ≡ 0x21 → ⊥) → (get_or bytes at 0 ≡ 0x22 → ⊥) → get_or bytes at 0 ≡ 0x2F
+  end x f g = only_last (end_row reg) _ (factor_row ∷ product_row reg ∷ split_row reg ∷ []) (x, (f, (g, tt))) _ (here _ refl).place
 
   -- what is read with the command, where it does not end the part
-  on : Valid reg → Going fresh (scheme_rows reg) (Good reg) bytes (reached previous s) at → (b : ℕ) → get_or bytes at 0 ≡ b → (row_of (scheme_rows reg) b).last ≡ false
-      → Going fresh (scheme_rows reg) (Good reg) bytes (next_of fresh (scheme_rows reg) bytes (reached previous s) at b) (at + size_of fresh (scheme_rows reg) b)
-  on valid g b e f = going_on fresh (scheme_rows reg) (laws reg valid) g t.inside t.judged b e f
+  on : Valid reg → Going initial (scheme_rows reg) (Good reg) bytes (reached previous s) at → (b : ℕ) → get_or bytes at 0 ≡ b → (row_of (scheme_rows reg) b).last ≡ false
+      → Going initial (scheme_rows reg) (Good reg) bytes (next_of initial (scheme_rows reg) bytes (reached previous s) at b) (at + size_of initial (scheme_rows reg) b)
+  on valid g b e f = going_on initial (scheme_rows reg) (laws reg valid) g t.inside t.judged b e f
 
 turn_of : (c : In_ok-map_err) → Turn c.args.bytes.now c.args.register.now c.loop-at.previous c.loop-at.scheme c.loop-at.at
 turn_of c =
@@ -85,7 +85,7 @@ turn_of c =
 pub loop-at-init : goal.loop-at-init
 loop-at-init c =
     let reg = c.args.register.now in
-    rw c.fresh-scheme.ensures (record { going = going_starts fresh (scheme_rows reg) (laws reg c.requires) _; held = first_sets reg (c.choice_sets-sets.ensures fresh) })
+    rw c.initial-scheme.ensures (record { going = going_starts initial (scheme_rows reg) (laws reg c.requires) _; held = first_sets reg (c.choice_sets-sets.ensures initial) })
 
 pub returns-in_err-map_err : goal.returns-in_err-map_err
 unfolding scheme_in_job
@@ -97,7 +97,7 @@ returns-in_err-map_err c =
     let place : r.position ≡ i.at = search rules in
     let judged : number_of r.refusal ≡ number_in c.refusal_at.result = search rules in
     let n = judged ∙ c.refusal_at.ensures reg (reached i.previous i.scheme) (seen_is reg i.previous i.scheme c.entry.ensures) i.invariant.held in
-    answer ∙ ap (refused (number_of r.refusal)) place ∙ ap (added_by (λ s. s)) (sym (going_refused fresh (scheme_rows reg) (laws reg c.requires) i.invariant.going _ c.loop-at-test.true n (numbered r.refusal)))
+    answer ∙ ap (refused (number_of r.refusal)) place ∙ ap (added_by (λ s. s)) (sym (going_refused initial (scheme_rows reg) (laws reg c.requires) i.invariant.going _ c.loop-at-test.true n (numbered r.refusal)))
 
 pub read-l-requires : goal.read-l-requires
 unfolding row_of total
@@ -144,13 +144,25 @@ read-requires-in-34 c = omega (arith, (here (turn_of (goal.at.read-requires-in-3
 pub bounds-scheme-t-in-34 : goal.bounds-scheme-t-in-34
 bounds-scheme-t-in-34 c = omega (arith, c.requires.within.terms.few, (split (turn_of (goal.at.bounds-scheme-t-in-34 c).In_ok-map_err) c.in-34.is).few)
 
+pub loop-at-preserved-in-34 : goal.loop-at-preserved-in-34
+unfolding row_of total operands_at
+loop-at-preserved-in-34 c =
+    let i = c.loop-at in
+    let t = turn_of (goal.at.loop-at-preserved-in-34 c).In_ok-map_err in
+    rw (c.read-in-34.ensures, c.read.ensures, add-one)
+    (record { going = on t c.requires i.invariant.going 0x22 c.in-34.is refl; held = sets_same i.invariant.held (with_split i.scheme _ _) (λ w a b. (refl, refl)) })
+
+pub read-requires-in-35 : goal.read-requires-in-35
+unfolding row_of total
+read-requires-in-35 c = omega (arith, (here (turn_of (goal.at.read-requires-in-35 c).In_ok-map_err) 0x23 c.in-35.is).room)
+
 pub loop-at-preserved : goal.loop-at-preserved
 unfolding row_of total operands_at
 loop-at-preserved c =
     let i = c.loop-at in
     let t = turn_of (goal.at.loop-at-preserved c).In_ok-map_err in
-    rw (c.read-in-34.ensures, c.read.ensures, add-one)
-    (record { going = on t c.requires i.invariant.going 0x22 c.in-34.is refl; held = sets_same i.invariant.held (with_split i.scheme _ _) (λ w a b. (refl, refl)) })
+    rw c.read-in-35.ensures
+    (record { going = on t c.requires i.invariant.going 0x23 c.in-35.is refl; held = sets_same i.invariant.held (with_factor i.scheme _) (λ w a b. (refl, refl)) })
 
 pub returns-in_default : goal.returns-in_default
 unfolding scheme_in_job row_of total operands_at
@@ -158,11 +170,11 @@ returns-in_default c =
     let reg = c.args.register.now in
     let i = c.loop-at in
     let t = turn_of (goal.at.returns-in_default c).In_ok-map_err in
-    let f = end t (λ e. omega arith) (λ e. omega arith) in
-    ap (added_by (λ s. s)) (sym (going_ends fresh (scheme_rows reg) (laws reg c.requires) i.invariant.going t.inside t.judged 0x2F f refl))
+    let f = end t (λ e. omega arith) (λ e. omega arith) (λ e. omega arith) in
+    ap (added_by (λ s. s)) (sym (going_ends initial (scheme_rows reg) (laws reg c.requires) i.invariant.going t.inside t.judged 0x2F f refl))
 
 pub returns : goal.returns
 unfolding scheme_in_job
 returns c =
     let reg = c.args.register.now in
-    ap (added_by (λ s. s)) (sym (going_missing fresh (scheme_rows reg) (laws reg c.requires) c.loop-at.invariant.going c.loop-at-test.false))
+    ap (added_by (λ s. s)) (sym (going_missing initial (scheme_rows reg) (laws reg c.requires) c.loop-at.invariant.going c.loop-at-test.false))

@@ -3,7 +3,7 @@ use Prim.Native.Nat.{◌-◌}
 use lib.ListN.{length}
 use Rattle.wire.proofs.Accepting.{reached}
 use Rattle.wire.proofs.Loop.{Going}
-use Rattle.scheme.specs.Scheme.{variables, fresh}
+use Rattle.scheme.specs.Scheme.{variables, initial}
 use Rattle.scheme.specs.Sets.{SetsBelow}
 use Rattle.scheme.specs.Format.{scheme_rows}
 use Rattle.scheme.proofs.Laws.{Good}
@@ -11,7 +11,7 @@ use Rattle.scheme.proofs.read_scheme.Given as goal
 
 abbrev pub invariant-loop-at : goal.invariant-loop-at
 invariant-loop-at l = record {
-  going : Going fresh (scheme_rows l.register) (Good l.register) l.bytes (reached l.previous l.scheme) l.at;
+  going : Going initial (scheme_rows l.register) (Good l.register) l.bytes (reached l.previous l.scheme) l.at;
   held : SetsBelow l.register.choices l.scheme (variables l.register.choices l.scheme) l.sets;
 }
 

@@ -16,8 +16,8 @@ use Rattle.wire.proofs.Loop.{operands_of, common_refused, common_own}
 use Rattle.register.specs.declared.Register.{Register}
 use Rattle.register.specs.Register as R
 use Rattle.scheme.specs.declared.Scheme.{Scheme}
-use Rattle.scheme.specs.Scheme.{fresh}
-use Rattle.scheme.specs.Format.{product_row, split_row, end_row, scheme_rows, scheme_part}
+use Rattle.scheme.specs.Scheme.{initial}
+use Rattle.scheme.specs.Format.{factor_row, product_row, split_row, end_row, scheme_rows, scheme_part}
 use Rattle.scheme.specs.Answer.{seen_of}
 use Rattle.wire.proofs.Results.{numbered}
 use Rattle.scheme.proofs.Passes.{product_in, split_in}
@@ -49,19 +49,19 @@ module _ (c : In_ok-check_command) where
   room k n e f = let g : size (scheme_part R.fresh) (get_or s at 0) ≡ n = rw e f in rw g at (command_room _ _ _ [] _ (passed R.fresh) refl)
 
   own : (reg : Register) (p : Progress Scheme) → seen_of reg p ≡ c.args.seen → (k : ℕ) → get_or s at 0 ≡ k
-      → refusal ((row_of (scheme_rows reg) k).checks p.parsed (operands_of fresh (scheme_rows reg) s at k)) ≡ refusal (checks_at (scheme_part reg) s p at)
-  own reg p f k e = common_own fresh (scheme_rows reg) s p at k e _ (rw (← e, ap (λ x. x.previous) f) (passed reg)) refl
+      → refusal ((row_of (scheme_rows reg) k).checks p.parsed (operands_of initial (scheme_rows reg) s at k)) ≡ refusal (checks_at (scheme_part reg) s p at)
+  own reg p f k e = common_own initial (scheme_rows reg) s p at k e _ (rw (← e, ap (λ x. x.previous) f) (passed reg)) refl
 
   -- what else stands here is the end
-  end : (reg : Register) → (get_or s at 0 ≡ 0x21 → ⊥) → (get_or s at 0 ≡ 0x22 → ⊥) → get_or s at 0 ≡ 0x2F
-  end reg f g = only_last (end_row reg) _ (product_row reg ∷ split_row reg ∷ []) (f, (g, tt)) _ (command_here _ _ _ [] _ (passed reg) refl)
+  end : (reg : Register) → (get_or s at 0 ≡ 0x23 → ⊥) → (get_or s at 0 ≡ 0x21 → ⊥) → (get_or s at 0 ≡ 0x22 → ⊥) → get_or s at 0 ≡ 0x2F
+  end reg x f g = only_last (end_row reg) _ (factor_row ∷ product_row reg ∷ split_row reg ∷ []) (x, (f, (g, tt))) _ (command_here _ _ _ [] _ (passed reg) refl)
 
 pub returns-in_err-check_command : goal.returns-in_err-check_command
 returns-in_err-check_command c =
     let r = c.in_err-check_command.field-0.0 in
     let j = judged c.args.bytes.now c.args.at c.args.seen.previous c.stands_after.ensures c.command_size.ensures c.in_err-check_command.ensures in
     let e : number_in c.from_residual.result ≡ number_of r = search rules in
-    λ reg p f h. e ∙ common_refused fresh (scheme_rows reg) c.args.bytes.now p c.args.at _ refl _ (rw (ap (λ x. x.previous) f) (j reg)) (numbered r)
+    λ reg p f h. e ∙ common_refused initial (scheme_rows reg) c.args.bytes.now p c.args.at _ refl _ (rw (ap (λ x. x.previous) f) (j reg)) (numbered r)
 
 pub read-l-requires : goal.read-l-requires
 unfolding row_of total
@@ -89,8 +89,16 @@ unfolding row_of operands_at
 returns-in-34 c = λ reg p f h.
     c.split_refusal.ensures ∙ rw (← f, c.read-r-in-34.ensures, c.read-l-in-34.ensures) (split_in reg.choices p.parsed _ h _ _ _ _ _ ∙ own (goal.at.returns-in-34 c).In_ok-check_command reg p f 0x22 c.in-34.is)
 
+pub read-requires : goal.read-requires
+unfolding row_of total
+read-requires c = omega (arith, room (goal.at.read-requires c).In_ok-check_command 0x23 3 c.in-35.is refl)
+
+pub returns-in-35 : goal.returns-in-35
+unfolding row_of operands_at
+returns-in-35 c = λ reg p f h. c.factor_refusal.ensures ∙ rw c.read.ensures (own (goal.at.returns-in-35 c).In_ok-check_command reg p f 0x23 c.in-35.is)
+
 pub returns-in_default : goal.returns-in_default
 unfolding row_of operands_at
 returns-in_default c = λ reg p f h.
     let e = (goal.at.returns-in_default c).In_ok-check_command in
-    c.end_refusal.ensures ∙ rw (← f) (own e reg p f 0x2F (end e reg (λ e. omega arith) (λ e. omega arith)))
+    c.end_refusal.ensures ∙ rw (← f) (own e reg p f 0x2F (end e reg (λ e. omega arith) (λ e. omega arith) (λ e. omega arith)))

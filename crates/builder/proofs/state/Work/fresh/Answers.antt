@@ -2,7 +2,7 @@
 use mathlib.Core.Path.{refl}
 use native.Mathlib.Nat.{add-zero}
 use native.Mathlib.Omega.{arith}
-use Rattle.scheme.specs.Scheme.{fresh}
+use Rattle.scheme.specs.Scheme.{fresh, initial}
 use Rattle.builder.proofs.state.Work.fresh.Goals as goal
 
 pub invariant_of-result : goal.invariant_of-result
@@ -10,9 +10,9 @@ unfolding fresh
 invariant_of-result c = record {
   ready = record {
     few = c.requires;
-    within = rw c.fresh.ensures (omega arith);
-    variables_within = rw c.fresh.ensures (omega (arith, c.requires));
-    lengths = rw c.fresh.ensures (record { lefts = refl; rights = refl; split_lefts = refl; split_rights = refl });
-    sets_are = rw (c.fresh.ensures, add-zero) (c.choice_sets.ensures fresh);
+    within = rw c.initial.ensures (omega arith);
+    variables_within = rw c.initial.ensures (omega (arith, c.requires));
+    lengths = rw c.initial.ensures (record { lefts = refl; rights = refl; split_lefts = refl; split_rights = refl });
+    sets_are = rw (c.initial.ensures, add-zero) (c.choice_sets.ensures initial);
   };
 }
