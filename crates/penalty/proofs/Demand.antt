@@ -1,7 +1,8 @@
 -- What the penalty call hands back, over all bytes. Where both parts are accepted it answers zeros, the value read from the table
 -- is that of h and exactly half of the table's sum, its least value over the fillings whose choices fit is the least cost over the
--- plans that fit, where one does, and the numbers past the table are the lent ones. Where it answers zeros the bytes are those of a
--- register and a scheme that meet the paper's conditions. Where it answers a refusal the table is the lent one.
+-- plans that fit, where one does, with factor 2 or more the fillings that reach it have each product of weight above 0 equal to
+-- that of its operands, and the numbers past the table are the lent ones. Where it answers zeros the bytes are those of a register
+-- and a scheme that meet the paper's conditions. Where it answers a refusal the table is the lent one.
 use Prim.Native.Nat.{ℕ, ◌*◌, ◌≤◌, ◌<◌}
 use mathlib.Core.Path.{◌≡◌, refl, sym, ◌∙◌, ap, subst}
 use mathlib.Core.List.{List}
@@ -14,9 +15,11 @@ use Rattle.wire.specs.Outcome.{Outcome, refuses, accepts, answer_by}
 use Rattle.wire.proofs.Outcome.{Numbered}
 use Rattle.forms.specs.Form.{value, entry}
 use Rattle.forms.specs.Table.{table_numbers, table_value}
+use Rattle.forms.proofs.Store.{bounded_with_table}
 use Rattle.forms.proofs.Table.{table_value_form, with_table-length, with_table_past}
 use Rattle.register.specs.declared.Register.{Register}
 use Rattle.register.specs.Register.{coefficient}
+use Rattle.register.specs.Valid.{Within}
 use Rattle.scheme.specs.declared.Scheme.{Scheme}
 use Rattle.scheme.specs.Scheme.{side}
 use Rattle.scheme.specs.Filling.{Filling, factor}
@@ -26,19 +29,25 @@ use Rattle.scheme.proofs.Opened.{Opened, opened, opening_numbered, register_byte
 use Rattle.plan.specs.Fits.{Fits}
 use Rattle.plan.proofs.Fits.{register_fits?}
 use Rattle.penalty.specs.Penalty.{h}
+use Rattle.penalty.specs.Limits.{max_h_entry}
 use Rattle.penalty.specs.Demand.{Holds, Made}
 use Rattle.penalty.specs.Answer.{answer, penalty_answer, with_penalty, penalty_table}
 use Rattle.penalty.proofs.Penalty.{below_h}
-use Rattle.penalty.proofs.Bounds.{side_square}
-use Rattle.penalty.proofs.Least.{table_twice, table_least_where}
+use Rattle.penalty.proofs.Bounds.{side_square, entry_h, twice_h}
+use Rattle.penalty.proofs.Least.{penalty_iff, table_twice, table_least_where}
+use Rattle.penalty.proofs.TrueProducts.{strict_of}
 use Rattle.penalty.proofs.Answers.{parts_accepted}
 
 -- the table of h does
-pub penalty_holds : (reg : Register) (sch : Scheme) → Valid reg sch → (lent : List ℤ) → table_numbers ≤ length lent → Holds reg sch lent (with_penalty reg sch lent)
-penalty_holds reg sch valid lent l = record {
+penalty_holds : (reg : Register) (sch : Scheme) → Within reg → Valid reg sch → (lent : List ℤ) → table_numbers ≤ length lent → Holds reg sch lent (with_penalty reg sch lent)
+penalty_holds reg sch within valid lent l = record {
   reads = reads;
   twice = λ z. table_twice c reg sch valid lent z ∙ ap (λ v. pos 2 *ℤ v) (sym (reads z));
   least = λ plan fits. table_least_where c reg sch valid lent (Fits reg) (register_fits? reg) plan fits;
+  least_iff = penalty_iff c reg sch valid _ reads (Fits reg);
+  true_products = λ two m. strict_of c reg sch valid two (Fits reg) m _ reads;
+  small = (bounded_with_table n max_h_entry (entry (h c reg sch)) lent fits (λ i j u v. entry_h reg sch within valid i j)).low;
+  sum_small = λ z. rw (table_twice c reg sch valid lent z) (twice_h reg sch within valid z);
   long = with_table-length n (entry (h c reg sch)) lent fits;
   past = with_table_past n (entry (h c reg sch)) lent;
 }
@@ -65,7 +74,7 @@ module _ (register scheme : List ℕ) (lent : List ℤ) (l : table_numbers ≤ l
   pub made_holds : Holds reg sch lent (penalty_table register scheme lent)
   made_holds =
       subst (Holds reg sch lent) (parts_accepted register scheme lent l reg sch o).holds
-      (penalty_holds reg sch o.scheme_valid lent l)
+      (penalty_holds reg sch o.register_valid.within o.scheme_valid lent l)
 
 -- zeros are answered only there
 module _ (register scheme : List ℕ) (lent : List ℤ) where

@@ -1,9 +1,14 @@
 pub mod Weights
+pub mod Weighing
 pub mod Sets
 pub mod Penalty
+pub mod OtherFactor
+pub mod Apart
 pub mod Bounds
 pub mod Scaled
 pub mod Least
+pub mod TrueProducts
 pub mod Answers
 pub mod Demand
 pub mod Worked
+pub mod FactorOne

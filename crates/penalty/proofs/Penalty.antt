@@ -11,8 +11,9 @@ use lib.Signed.{◌≤ℤ◌, ≤ℤ_refl}
 use Rattle.integers.specs.Integer.{abs}
 use Rattle.integers.specs.Lists.{join_below}
 use Rattle.integers.specs.Sum.{sum_below, sum_over}
-use Rattle.integers.proofs.Diff.{diff₁, diffs}
+use Rattle.integers.proofs.Diff.{diff₁, diff₂, diffs}
 use Rattle.integers.proofs.Order.{≤ℤ_trans, ≤ℤ-+ʳ, +ℤ_mono, *ℤ_monoˡ, *ℤ_nonneg, abs_nonneg, pos_nonneg, pos_mono}
+use Rattle.integers.proofs.Ring.{*ℤ_assoc}
 use Rattle.integers.proofs.Sum.{sum_below_cong, sum_below_mono, sum_below_0, sum_below-+, sum_below-*ˡ, sum_below-*ʳ, sum_below_swap, sum_below_nonneg, sum_below_member}
 use Rattle.sets.specs.Sets.{is_subset}
 use Rattle.sets.proofs.Sets.{subset_or}
@@ -28,11 +29,11 @@ use Rattle.scheme.specs.Function.{g}
 use Rattle.scheme.specs.Valid.{Valid, SplitOf}
 use Rattle.scheme.proofs.Function.{value-g}
 use Rattle.scheme.proofs.Filling.{induced_consistent}
-use Rattle.penalty.specs.Weights.{uses, weight}
+use Rattle.penalty.specs.Weights.{uses, usage, weight}
 use Rattle.penalty.specs.Penalty.{bracket, bracket_of, penalty_of, h}
 use Rattle.penalty.specs.Carried.{carried}
 use Rattle.scheme.proofs.Table.{split_of, g_below}
-use Rattle.penalty.proofs.Weights.{contribution-*}
+use Rattle.penalty.proofs.Weights.{contribution-*, usage_nonneg}
 use Rattle.penalty.proofs.Sets.{Broken, both, monomial_or}
 
 -- g at the filling that a plan induces is the plan's cost
@@ -45,14 +46,33 @@ induced_cost c r s valid plan =
 
 -- ---- h and its brackets
 
--- h at any factors: g + the sum over the products of P_k times the bracket
-pub value-h : (y : ℕ → ℤ) (c : ℕ → ℤ) (r : Register) (s : Scheme) →
-    value y (h c r s) ≡ value y (g c r s) +ℤ sum_below s.products (λ i. weight c r s (r.choices + i) *ℤ value y (bracket_of r.choices s (r.choices + i)))
-unfolding h
+-- what product n + i pays: its usage times its bracket
+abbrev pub pays : (ℕ → ℤ) → (ℕ → ℤ) → Register → Scheme → ℕ → ℤ
+pays y c r s i = let k = r.choices + i in usage c r s k *ℤ value y (bracket_of r.choices s k)
+
+-- what all products pay
+unfoldable pub paid : (ℕ → ℤ) → (ℕ → ℤ) → Register → Scheme → ℤ
+paid y c r s = sum_below s.products (pays y c r s)
+
+-- h anywhere: g + the scheme's factor times what the products pay
+pub value-h : (y : ℕ → ℤ) (c : ℕ → ℤ) (r : Register) (s : Scheme) → value y (h c r s) ≡ value y (g c r s) +ℤ pos s.factor *ℤ paid y c r s
+unfolding h weight paid
 value-h y c r s =
     value-append y (g c r s) _
     ∙ ap (λ x. value y (g c r s) +ℤ x)
-    (value_join y s.products _ ∙ sum_below_cong s.products _ _ (λ i l. value-times y (weight c r s (r.choices + i)) (bracket_of r.choices s (r.choices + i))))
+    (value_join y s.products _
+    ∙ sum_below_cong s.products _ _
+    (λ i l. value-times y (pos s.factor *ℤ usage c r s (r.choices + i)) (bracket_of r.choices s (r.choices + i))
+    ∙ *ℤ_assoc (pos s.factor) (usage c r s (r.choices + i)) (value y (bracket_of r.choices s (r.choices + i))))
+    ∙ sum_below-*ˡ s.products (pos s.factor) _)
+
+-- once, and then for each step of the factor above 1
+pub steps : (f : ℕ) → 1 ≤ f → (a b : ℤ) → a +ℤ pos f *ℤ b ≡ a +ℤ b +ℤ pos (f - 1) *ℤ b
+steps zero l = absurd (omega arith)
+steps (suc f) l = let e : suc f - 1 ≡ f = omega arith in rw e one_more
+  where
+    one_more : (a b : ℤ) → a +ℤ pos (suc f) *ℤ b ≡ a +ℤ b +ℤ pos f *ℤ b
+    one_more = diff₂ _ λ p q t u. simp diffs (omega arith)
 
 -- the bracket at 0-1 values z_k, z_l, z_r
 abbrev pub due : Bool → Bool → Bool → ℕ
@@ -155,6 +175,18 @@ module _ (n : ℕ) (s : Scheme) (z : Filling) where
       same : n + (b.k - n) ≡ b.k
       same = omega (arith, b.product)
 
+-- ---- what a product pays is not negative
+
+module _ (c : ℕ → ℤ) (r : Register) (s : Scheme) (z : Filling) where
+  pub pays_nonneg : (i : ℕ) → pos 0 ≤ℤ pays (factor z) c r s i
+  pays_nonneg i =
+      rw (value-bracket z (r.choices + i) (left r.choices s (r.choices + i)) (right r.choices s (r.choices + i)))
+      (*ℤ_nonneg _ _ (usage_nonneg c r s (r.choices + i)) (pos_nonneg _))
+
+  paid_nonneg : pos 0 ≤ℤ paid (factor z) c r s
+  unfolding paid
+  paid_nonneg = sum_below_nonneg s.products _ (λ i l. pays_nonneg i)
+
 -- ---- the sums exchanged: each term pays |coefficient| for each bracket that it owes
 
 -- a term's worth at z
@@ -165,20 +197,19 @@ module _ (c : ℕ → ℤ) (r : Register) (s : Scheme) (z : Filling) where
   abbrev n : ℕ
   n = r.choices
 
-  penalties : sum_below s.products (λ i. weight c r s (n + i) *ℤ value (factor z) (bracket_of n s (n + i))) ≡ sum_below r.terms (λ t. abs (c t) *ℤ debts n s z t)
-  unfolding weight debts debt bracket_at
-  penalties =
+  paid_by_terms : paid (factor z) c r s ≡ sum_below r.terms (λ t. abs (c t) *ℤ debts n s z t)
+  unfolding paid usage debts debt bracket_at
+  paid_by_terms =
       sum_below_cong s.products _ _
-      (λ i l. ap (λ x. weight c r s (n + i) *ℤ x) (value-bracket z _ _ _)
+      (λ i l. ap (λ x. usage c r s (n + i) *ℤ x) (value-bracket z _ _ _)
       ∙ sym (sum_below-*ʳ r.terms (bracket_at n s z (n + i)) _)
       ∙ sum_below_cong r.terms _ _ (λ t m. contribution-* c n s (n + i) t (bracket_at n s z (n + i))))
       ∙ sum_below_swap s.products r.terms (λ i t. abs (c t) *ℤ debt n s z t i)
       ∙ sum_below_cong r.terms _ _ (λ t m. sum_below-*ˡ s.products (abs (c t)) _)
 
-  by_terms : value (factor z) (h c r s) ≡ r.base +ℤ sum_below r.terms (λ t. worth s z t (c t) +ℤ abs (c t) *ℤ debts n s z t)
+  by_terms : value (factor z) (g c r s) +ℤ paid (factor z) c r s ≡ r.base +ℤ sum_below r.terms (λ t. worth s z t (c t) +ℤ abs (c t) *ℤ debts n s z t)
   by_terms =
-      value-h (factor z) c r s
-      ∙ ap₂ ◌+ℤ◌ (value-g z c r s) penalties
+      ap₂ ◌+ℤ◌ (value-g z c r s) paid_by_terms
       ∙ +ℤ_assoc r.base _ _
       ∙ ap (λ x. r.base +ℤ x) (sym (sum_below-+ r.terms _ _))
 
@@ -211,26 +242,40 @@ module _ (c : ℕ → ℤ) (r : Register) (s : Scheme) (valid : Valid r s) where
       p : SplitOf r s t
       p = split_of valid t l
 
-  pub penalty : (z : Filling) → cost c r (carried m z) ≤ℤ value (factor z) (h c r s)
+  -- g and what the products pay are at least the cost of the plan carried
+  paid_once : (z : Filling) → cost c r (carried m z) ≤ℤ (value (factor z) (g c r s) +ℤ paid (factor z) c r s)
   unfolding cost
-  penalty z =
+  paid_once z =
       rw (by_terms c r s z)
       (+ℤ_mono _ _ _ _ (≤ℤ_refl r.base)
       (sum_below_mono r.terms _ _ (λ t l. share (c t) (debts m s z t) _ _ (debts_nonneg m s z t) (settled z t l))))
 
-  pub induced_value : (plan : ℕ) → value (factor (induced m s plan)) (h c r s) ≡ cost c r plan
-  induced_value plan =
-      value-h (factor z) c r s
-      ∙ ap₂ ◌+ℤ◌ (induced_cost c r s valid plan) (sum_below_cong s.products _ _ none ∙ sum_below_0 s.products)
-      ∙ +ℤ_idr _
+  -- so is h, with what they pay for each step of the factor
+  pub penalty_steps : (z : Filling) → (cost c r (carried m z) +ℤ pos (s.factor - 1) *ℤ paid (factor z) c r s) ≤ℤ value (factor z) (h c r s)
+  penalty_steps z =
+      rw (value-h (factor z) c r s, steps s.factor valid.within.factor.positive (value (factor z) (g c r s)) (paid (factor z) c r s))
+      (+ℤ_mono _ _ _ _ (paid_once z) (≤ℤ_refl _))
+
+  pub penalty : (z : Filling) → cost c r (carried m z) ≤ℤ value (factor z) (h c r s)
+  penalty z = ≤ℤ_trans _ _ _ (≤ℤ-+ʳ _ _ (*ℤ_nonneg (pos (s.factor - 1)) _ (pos_nonneg _) (paid_nonneg c r s z))) (penalty_steps z)
+
+  paid_induced : (plan : ℕ) → paid (factor (induced m s plan)) c r s ≡ pos 0
+  unfolding paid
+  paid_induced plan = sum_below_cong s.products _ _ none ∙ sum_below_0 s.products
     where
       z : Filling
       z = induced m s plan
 
-      none : (i : ℕ) → i < s.products → weight c r s (m + i) *ℤ value (factor z) (bracket_of m s (m + i)) ≡ pos 0
+      none : (i : ℕ) → i < s.products → usage c r s (m + i) *ℤ value (factor z) (bracket_of m s (m + i)) ≡ pos 0
       none i l =
           rw (
             value-bracket z (m + i) (left m s (m + i)) (right m s (m + i)),
             due_none (z (m + i)) _ _ (induced_consistent m s plan valid.within.products (m + i) (omega arith) (omega arith)),
           )
-          (*ℤ-zero (weight c r s (m + i)))
+          (*ℤ-zero (usage c r s (m + i)))
+
+  pub induced_value : (plan : ℕ) → value (factor (induced m s plan)) (h c r s) ≡ cost c r plan
+  induced_value plan =
+      value-h (factor (induced m s plan)) c r s
+      ∙ ap₂ ◌+ℤ◌ (induced_cost c r s valid plan) (ap (λ x. pos s.factor *ℤ x) (paid_induced plan) ∙ *ℤ-zero (pos s.factor))
+      ∙ +ℤ_idr _

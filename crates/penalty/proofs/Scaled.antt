@@ -29,7 +29,7 @@ use Rattle.scheme.specs.Scheme.{side, split_left, split_right}
 use Rattle.scheme.specs.Function.{term, term_of, g}
 use Rattle.scheme.specs.Valid.{Valid}
 use Rattle.scheme.proofs.Table.{terms_below, norm1_terms}
-use Rattle.penalty.specs.Factor.{max_factor}
+use Rattle.penalty.specs.Multiple.{max_multiple}
 
 -- ---- the form
 
@@ -50,13 +50,13 @@ times-g k c r s =
 
 -- ---- how large it is
 
-module _ (k : ℤ) (r : Register) (s : Scheme) (small : nat_abs k ≤ max_factor) (within : Within r) where
-  pub scaled_small : (t : ℕ) → t < r.terms → nat_abs (k *ℤ coefficient r t) ≤ max_factor * max_coefficient
-  scaled_small t l = nat_abs-*-≤ k (coefficient r t) max_factor max_coefficient small (within.terms.each t l).coefficient_within
+module _ (k : ℤ) (r : Register) (s : Scheme) (small : nat_abs k ≤ max_multiple) (within : Within r) where
+  pub scaled_small : (t : ℕ) → t < r.terms → nat_abs (k *ℤ coefficient r t) ≤ max_multiple * max_coefficient
+  scaled_small t l = nat_abs-*-≤ k (coefficient r t) max_multiple max_coefficient small (within.terms.each t l).coefficient_within
 
   -- the first terms
-  pub scaled_norm : (n : ℕ) → n ≤ r.terms → norm1 (join_below n (term_of (λ t. k *ℤ coefficient r t) s)) ≤ max_factor * max_coefficient * 2 * n
-  scaled_norm n l = norm1_terms (λ t. k *ℤ coefficient r t) r s (max_factor * max_coefficient) scaled_small n l
+  pub scaled_norm : (n : ℕ) → n ≤ r.terms → norm1 (join_below n (term_of (λ t. k *ℤ coefficient r t) s)) ≤ max_multiple * max_coefficient * 2 * n
+  scaled_norm n l = norm1_terms (λ t. k *ℤ coefficient r t) r s (max_multiple * max_coefficient) scaled_small n l
 
 -- ---- a table to which it is added
 
@@ -66,7 +66,7 @@ first_terms k r s t = join_below t (term_of (λ t. k *ℤ coefficient r t) s)
 
 module _ (k : ℤ) (r : Register) (s : Scheme) (t : ℕ) {before now : SquareTable} (a : Adds (first_terms k r s t) before now) where
   -- the table after t terms has room for one more
-  pub terms_room : Within r → Valid r s → before.side ≡ side r.choices s → Room max_before_form before → nat_abs k ≤ max_factor → t ≤ r.terms → Room max_before_monomial now
+  pub terms_room : Within r → Valid r s → before.side ≡ side r.choices s → Room max_before_form before → nat_abs k ≤ max_multiple → t ≤ r.terms → Room max_before_monomial now
   terms_room within valid e h small l =
       room_after h a (rw e (terms_below (λ t. k *ℤ coefficient r t) r s valid t l)) max_before_monomial
       (omega (arith, scaled_norm k r s small within t l, within.terms.few))
@@ -81,17 +81,17 @@ module _ (k : ℤ) (r : Register) (s : Scheme) (t : ℕ) {before now : SquareTab
 pub record Product (k x y : ℤ) : Type 0 where
   pub fits : SFits w64 (k *ℤ to_z w64 (of_z w64 y))
   pub reads : to_z w64 (of_z w64 (k *ℤ to_z w64 (of_z w64 y))) ≡ k *ℤ x
-  pub low : nat_abs (k *ℤ x) ≤ max_factor * max_base
+  pub low : nat_abs (k *ℤ x) ≤ max_multiple * max_base
 
-pub product : (k x y : ℤ) → y ≡ to_z w32 (of_z w32 x) → nat_abs k ≤ max_factor → nat_abs x ≤ max_base → Product k x y
+pub product : (k x y : ℤ) → y ≡ to_z w32 (of_z w32 x) → nat_abs k ≤ max_multiple → nat_abs x ≤ max_base → Product k x y
 product k x y e a b = record {
   fits = rw same (fits_signed w64 (k *ℤ x) (omega (arith, low)));
   reads = rw same (read_signed w64 (k *ℤ x) (omega (arith, low)));
   low = low;
 }
   where
-    low : nat_abs (k *ℤ x) ≤ max_factor * max_base
-    low = nat_abs-*-≤ k x max_factor max_base a b
+    low : nat_abs (k *ℤ x) ≤ max_multiple * max_base
+    low = nat_abs-*-≤ k x max_multiple max_base a b
 
     same : k *ℤ to_z w64 (of_z w64 y) ≡ k *ℤ x
     same = ap (λ z. k *ℤ to_z w64 (of_z w64 z)) e ∙ ap (λ z. k *ℤ z) (cast_read w32 w64 x (omega arith) (fits_signed w32 x (omega arith)))

@@ -1,4 +1,4 @@
--- Which products a variable reaches and a term uses; a weight is small for a valid register.
+-- Which products a variable reaches and a term uses; a usage and a weight are small for a valid register.
 use mathlib.Core.Path.{◌≡◌, refl, sym, ◌∙◌}
 use mathlib.Core.Logic.{◌⊎◌, inl, inr, ⊎_elim, ◌↔◌}
 use mathlib.Core.Bool.{Bool, true, false, cond, ◌||◌}
@@ -7,21 +7,23 @@ use native.Mathlib.Nat.{le_refl}
 use native.Mathlib.Omega.{arith}
 use lib.Dec.{T, eqb, eqb→eq}
 use lib.IntN.{ℤ, pos, nat_abs, ◌*ℤ◌, zero-*ℤ, *ℤ-zero}
+use lib.Signed.{◌≤ℤ◌, ≤ℤ_refl}
 use borrow.Author.Tests.{eq-eqb, ne_eqb}
 use Rattle.integers.specs.Integer.{abs}
 use Rattle.integers.specs.Sum.{sum_below}
-use Rattle.integers.proofs.Sum.{nat_abs-sum}
+use Rattle.integers.proofs.Order.{abs_nonneg, nat_abs-*-≤}
+use Rattle.integers.proofs.Sum.{sum_below_nonneg, nat_abs-sum}
 use Rattle.register.specs.declared.Register.{Register}
 use Rattle.register.specs.Limits.{max_coefficient}
 use Rattle.register.specs.Register.{coefficient}
 use Rattle.register.specs.Valid.{Within}
 use Rattle.scheme.specs.declared.Scheme.{Scheme}
-use Rattle.scheme.specs.Scheme.{left, right, variables, split_left, split_right}
-use Rattle.scheme.specs.Valid.{Products, SplitOf, Valid}
+use Rattle.scheme.specs.Scheme.{max_factor, left, right, variables, split_left, split_right}
+use Rattle.scheme.specs.Valid.{Factor, Products, SplitOf, Valid}
 use Rattle.integers.proofs.Lists.{T_or}
 use Rattle.scheme.proofs.Table.{split_of}
 use Rattle.scheme.proofs.Variables.{upward_choice, upward_product, left_falls, variable_ind}
-use Rattle.penalty.specs.Weights.{reaches, uses, contribution, weight, max_product_weight}
+use Rattle.penalty.specs.Weights.{reaches, uses, contribution, usage, max_usage, weight, max_product_weight}
 
 -- ---- which products a variable reaches
 
@@ -147,7 +149,7 @@ uses_iff r s valid t k h a m = (
     of_right : T (reaches n s k (split_right s t)) ↔ ((split_right s t ≡ k) ⊎ OperandOf n s (λ j. reaches n s j (split_right s t)) k)
     of_right = reaches_iff n s valid.within.products k (split_right s t) a m split.there
 
--- ---- weights
+-- ---- usages and weights
 
 module _ (c : ℕ → ℤ) (n : ℕ) (s : Scheme) (k t : ℕ) where
   -- a term that uses product k adds |coefficient|, others nothing
@@ -173,12 +175,36 @@ module _ (c : ℕ → ℤ) (n : ℕ) (s : Scheme) (k t : ℕ) where
       go true = l
       go false = omega arith
 
+  -- also one whose coefficient is 0, as the low one of a range may be
+  pub contribution_zero : c t ≡ pos 0 → contribution c n s k t ≡ pos 0
+  unfolding abs
+  contribution_zero e = rw e (cond_same (uses n s k t))
+    where
+      cond_same : (u : Bool) → cond u (pos 0) (pos 0) ≡ pos 0
+      cond_same true = refl
+      cond_same false = refl
+
+  pub contribution_nonneg : pos 0 ≤ℤ contribution c n s k t
+  contribution_nonneg = go (uses n s k t)
+    where
+      go : (u : Bool) → pos 0 ≤ℤ cond u (abs (c t)) (pos 0)
+      go true = abs_nonneg (c t)
+      go false = ≤ℤ_refl (pos 0)
+
+pub usage_nonneg : (c : ℕ → ℤ) (r : Register) (s : Scheme) (k : ℕ) → pos 0 ≤ℤ usage c r s k
+unfolding usage
+usage_nonneg c r s k = sum_below_nonneg r.terms _ (λ t l. contribution_nonneg c r.choices s k t)
+
 -- of a register within the limits, also of the first terms alone
 module _ (r : Register) (s : Scheme) (k : ℕ) (within : Within r) where
-  pub contributions_small : (t : ℕ) → t ≤ r.terms → nat_abs (sum_below t (contribution (coefficient r) r.choices s k)) ≤ max_product_weight
+  pub contributions_small : (t : ℕ) → t ≤ r.terms → nat_abs (sum_below t (contribution (coefficient r) r.choices s k)) ≤ max_usage
   contributions_small t l =
       omega (arith, within.terms.few, nat_abs-sum t max_coefficient (contribution (coefficient r) r.choices s k) (λ i m. contribution_small (coefficient r) r.choices s k i max_coefficient (within.terms.each i (omega arith)).coefficient_within))
 
-  pub weight_small : nat_abs (weight (coefficient r) r s k) ≤ max_product_weight
+  pub usage_small : nat_abs (usage (coefficient r) r s k) ≤ max_usage
+  unfolding usage
+  usage_small = contributions_small r.terms (le_refl r.terms)
+
+  pub weight_small : Factor s.factor → nat_abs (weight (coefficient r) r s k) ≤ max_product_weight
   unfolding weight
-  weight_small = contributions_small r.terms (le_refl r.terms)
+  weight_small f = nat_abs-*-≤ (pos s.factor) (usage (coefficient r) r s k) max_factor max_usage f.within usage_small

@@ -21,7 +21,7 @@ bracket k l r =
 abbrev pub bracket_of : ℕ → Scheme → ℕ → Form
 bracket_of n s k = bracket k (left n s k) (right n s k)
 
--- P_k times the bracket, for product k = n + i
+-- P_k times the bracket, for product k = n + i. The scheme's factor is in P_k, and nowhere else in h
 abbrev pub penalty_of : (ℕ → ℤ) → Register → Scheme → ℕ → Form
 penalty_of c r s i = let k = r.choices + i in times (weight c r s k) (bracket_of r.choices s k)
 

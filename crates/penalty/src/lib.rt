@@ -10,8 +10,8 @@ ghost use Rattle.forms.specs.Store.{Room, Adds, max_added, max_before_monomial, 
 ghost use Rattle.register.specs.Register.{coefficient};
 ghost use Rattle.scheme.specs.Scheme.{variables, side as side_of};
 ghost use Rattle.scheme.specs.Function.{term, term_of, g};
-ghost use Rattle.penalty.specs.Weights.{reaches, contribution, weight, max_product_weight};
-ghost use Rattle.penalty.specs.Factor.{max_factor};
+ghost use Rattle.penalty.specs.Weights.{reaches, contribution, usage, weight, max_product_weight};
+ghost use Rattle.penalty.specs.Multiple.{max_multiple};
 ghost use Rattle.penalty.specs.Penalty.{bracket, penalty_of, h};
 ghost use Rattle.penalty.specs.Answer.{answer, answer_of, penalty_answer, penalty_table};
 ghost use Rattle.wire.specs.Results.{number_of};
@@ -60,7 +60,7 @@ fn reaches(quadratization: &Quadratization, k: usize, v: usize) -> bool
     reaches(quadratization, k, usize::from(left)) || reaches(quadratization, k, usize::from(right))
 }
 
-// What term t adds to the weight of product k: the magnitude of its coefficient, once, where the left or the right variable of its
+// What term t adds to the usage of product k: the magnitude of its coefficient, once, where the left or the right variable of its
 // split reaches the product.
 fn contribution(quadratization: &Quadratization, k: usize, t: usize) -> u64
     requires { t < quadratization.now.register.terms }
@@ -78,15 +78,22 @@ fn contribution(quadratization: &Quadratization, k: usize, t: usize) -> u64
     }
 }
 
-// The weight of product k: each term that uses it adds its |coefficient| one time.
-fn weight(quadratization: &Quadratization, k: usize) -> u64
-    ensures { pos result ≡ weight (coefficient quadratization.now.register) quadratization.now.register quadratization.now.scheme k }
+// The usage of product k: each term that uses it adds its |coefficient| one time.
+fn usage(quadratization: &Quadratization, k: usize) -> u64
+    ensures { pos result ≡ usage (coefficient quadratization.now.register) quadratization.now.register quadratization.now.scheme k }
 {
     let mut total = 0;
     for t in 0..quadratization.register.terms {
         total += contribution(quadratization, k, t);
     }
     total
+}
+
+// The weight of product k: the scheme's factor times its usage.
+fn weight(quadratization: &Quadratization, k: usize) -> u64
+    ensures { pos result ≡ weight (coefficient quadratization.now.register) quadratization.now.register quadratization.now.scheme k }
+{
+    u64::from(quadratization.scheme.factor) * usage(quadratization, k)
 }
 
 // Adds c times variable l times variable r, variable l once when they are one.
@@ -107,7 +114,7 @@ pub fn add_term(table: &mut SquareTable, l: usize, r: usize, c: i64)
 pub fn add_terms(quadratization: &Quadratization, table: &mut SquareTable, scale: i64)
     requires side_value { table.old.side ≡ side_of quadratization.now.register.choices quadratization.now.scheme }
     requires room { Room max_before_form table.old }
-    requires scale_bound { nat_abs scale ≤ max_factor }
+    requires scale_bound { nat_abs scale ≤ max_multiple }
     ensures { Adds (join_below quadratization.now.register.terms (term_of (λ t. scale *ℤ coefficient quadratization.now.register t) quadratization.now.scheme)) table.old table.new }
 {
     for t in 0..quadratization.register.terms {
@@ -127,7 +134,7 @@ pub fn add_terms(quadratization: &Quadratization, table: &mut SquareTable, scale
 pub fn add_function(quadratization: &Quadratization, table: &mut SquareTable, scale: i64)
     requires side_value { table.old.side ≡ side_of quadratization.now.register.choices quadratization.now.scheme }
     requires room { Room max_before_forms table.old }
-    requires scale_bound { nat_abs scale ≤ max_factor }
+    requires scale_bound { nat_abs scale ≤ max_multiple }
     ensures { Adds (times scale (g (coefficient quadratization.now.register) quadratization.now.register quadratization.now.scheme)) table.old table.new }
 {
     table.add_monomial(0, 0, scale * i64::from(quadratization.register.base));

@@ -19,18 +19,18 @@ use Rattle.register.specs.Register.{coefficient}
 use Rattle.register.specs.Valid.{Within}
 use Rattle.scheme.specs.declared.Scheme.{Scheme}
 use Rattle.scheme.specs.Function.{g}
-use Rattle.penalty.specs.Factor.{max_factor}
+use Rattle.penalty.specs.Multiple.{max_multiple}
 use Rattle.penalty.proofs.Scaled.{Product, product, first_terms, times-g}
 use Rattle.scheme.proofs.Truncated.{valid_register}
 use Rattle.penalty.proofs.add_function.Goals as goal
 
 -- the scaled base cost as the code has it
-base : (z : ℤ) (r : Register) (y : ℤ) → y ≡ to_z w32 (of_z w32 r.base) → nat_abs z ≤ max_factor → Within r → Product (to_z w64 (of_z w64 z)) r.base y
+base : (z : ℤ) (r : Register) (y : ℤ) → y ≡ to_z w32 (of_z w32 r.base) → nat_abs z ≤ max_multiple → Within r → Product (to_z w64 (of_z w64 z)) r.base y
 base z r y e h within = product (to_z w64 (of_z w64 z)) r.base y e (rw (read_signed w64 z (omega arith)) h) within.base
 
 -- the table after the base cost, and after the terms: x is the scaled base cost and j and i the scale, as the code has them
 module _ (j x : ℤ) (r : Register) (s : Scheme) (e : x ≡ j *ℤ r.base) {t u : SquareTable} (a : Adds (mono 0 0 x ∷ []) t u) where
-  room : 0 < t.side → nat_abs (j *ℤ r.base) ≤ max_factor * max_base → Room max_before_forms t → Room max_before_form u
+  room : 0 < t.side → nat_abs (j *ℤ r.base) ≤ max_multiple * max_base → Room max_before_forms t → Room max_before_form u
   unfolding norm1
   room l low h = room_after h a (below_∷ l l below-[]) max_before_form (rw e (omega (arith, low)))
 

@@ -29,7 +29,7 @@ room : (r : Register) (s : Scheme) (i : ℕ) {before now : SquareTable} → With
     i ≤ s.products → Adds (join_below i (penalty_of (coefficient r) r s)) before now → Room max_before_form now
 room r s i within valid e h l a =
     room_after h a (rw e (below_penalties (coefficient r) r s valid i l)) max_before_form
-    (omega (arith, penalties_norm r s within i, valid.within.products_within))
+    (omega (arith, penalties_norm r s within valid.within.factor i, valid.within.products_within))
 
 -- the operands of product n + i, as the code reads them
 same : (n i : ℕ) → n + i - n ≡ i
@@ -55,7 +55,7 @@ loop-i-init c = adds_none _
 pub overflow_cast-weight : goal.overflow_cast-weight
 overflow_cast-weight c =
     let q = c.args.quadratization.now in
-    let l = weight_read_small q.register q.scheme _ _ (valid_register q.register_valid).within c.weight-weight.ensures in
+    let l = weight_read_small q.register q.scheme _ _ (valid_register q.register_valid).within q.scheme_valid.within.factor c.weight-weight.ensures in
     fits_signed w64 (pos c.weight-weight.result) (omega (arith, l))
 
 pub add_bracket-requires-clause-room : goal.add_bracket-requires-clause-room
@@ -72,11 +72,11 @@ add_bracket-requires-clause-k_bound c =
 pub add_bracket-requires-clause-w_bound : goal.add_bracket-requires-clause-w_bound
 add_bracket-requires-clause-w_bound c =
     let q = c.args.quadratization.now in
-    let w = weight_read_small q.register q.scheme _ _ (valid_register q.register_valid).within c.weight-weight.ensures in
+    let w = weight_read_small q.register q.scheme _ _ (valid_register q.register_valid).within q.scheme_valid.within.factor c.weight-weight.ensures in
     rw (read_unsigned w64 c.weight-weight.result (omega (arith, w))) (omega (arith, w))
 
 pub loop-i-preserved : goal.loop-i-preserved
 loop-i-preserved c =
     let q = c.args.quadratization.now in
-    let w = weight_read_small q.register q.scheme _ _ (valid_register q.register_valid).within c.weight-weight.ensures in
+    let w = weight_read_small q.register q.scheme _ _ (valid_register q.register_valid).within q.scheme_valid.within.factor c.weight-weight.ensures in
     turn q.register q.scheme c.loop-i.i _ (read_unsigned w64 _ (omega (arith, w)) ∙ c.weight-weight.ensures) c.loop-i.invariant (rw (c.from.ensures, c.from-in-loop-i.ensures) at c.add_bracket.ensures)

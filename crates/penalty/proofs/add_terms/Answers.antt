@@ -10,17 +10,17 @@ use Rattle.forms.proofs.Added.{adds_none}
 use Rattle.register.specs.declared.Register.{Register}
 use Rattle.register.specs.Register.{coefficient}
 use Rattle.register.specs.Valid.{Within}
-use Rattle.penalty.specs.Factor.{max_factor}
+use Rattle.penalty.specs.Multiple.{max_multiple}
 use Rattle.penalty.proofs.Scaled.{Product, product, terms_room, terms_turn}
 use Rattle.scheme.proofs.Truncated.{valid_register}
 use Rattle.penalty.proofs.add_terms.Goals as goal
 
 -- the scale as the code has it
-small : (z : ℤ) → nat_abs z ≤ max_factor → nat_abs (to_z w64 (of_z w64 z)) ≤ max_factor
+small : (z : ℤ) → nat_abs z ≤ max_multiple → nat_abs (to_z w64 (of_z w64 z)) ≤ max_multiple
 small z h = rw (read_signed w64 z (omega arith)) h
 
 -- times the coefficient of term t
-scaled : (z : ℤ) (r : Register) (t : ℕ) (y : ℤ) → y ≡ to_z w32 (of_z w32 (coefficient r t)) → nat_abs z ≤ max_factor → Within r → t < r.terms → Product (to_z w64 (of_z w64 z)) (coefficient r t) y
+scaled : (z : ℤ) (r : Register) (t : ℕ) (y : ℤ) → y ≡ to_z w32 (of_z w32 (coefficient r t)) → nat_abs z ≤ max_multiple → Within r → t < r.terms → Product (to_z w64 (of_z w64 z)) (coefficient r t) y
 scaled z r t y e h within l =
     let m = (within.terms.each t l).coefficient_within in
     product (to_z w64 (of_z w64 z)) (coefficient r t) y e (small z h) (omega arith)

@@ -1,45 +1,28 @@
-use mathlib.Core.Path.{◌≡◌, sym, ◌∙◌, ap₂}
-use Prim.Native.Nat.{ℕ, suc, ◌+◌, ◌*◌, ◌≤◌, ◌<◌}
+-- The factor is at most 1,000, so the product fits.
+use mathlib.Core.Path.{◌≡◌, ap}
+use Prim.Native.Nat.{ℕ, ◌≤◌}
+use native.Mathlib.Nat.{mul-le-mul}
 use native.Mathlib.Omega.{arith}
-use native.Mathlib.Numerals.{add-one}
-use lib.IntN.{ℤ, pos, ◌+ℤ◌}
-use Rattle.integers.specs.Sum.{sum_below}
-use Rattle.integers.proofs.Sum.{sum_below-zero, sum_below-suc}
+use lib.IntN.{pos, ◌*ℤ◌}
 use Rattle.register.specs.declared.Register.{Register}
-use Rattle.register.specs.Limits.{max_terms, max_coefficient}
 use Rattle.register.specs.Register.{coefficient}
 use Rattle.register.specs.Valid.{Within}
 use Rattle.scheme.specs.declared.Scheme.{Scheme}
 use Rattle.scheme.proofs.Truncated.{valid_register}
-use Rattle.penalty.specs.Weights.{contribution, weight}
-use Rattle.penalty.proofs.Weights.{contributions_small}
+use Rattle.penalty.specs.Weights.{usage, max_usage, weight}
+use Rattle.penalty.proofs.Weights.{usage_small}
 use Rattle.penalty.proofs.weight.Goals as goal
 
--- what the first t terms contribute
-abbrev sum_to : Register → Scheme → ℕ → ℕ → ℤ
-sum_to r s k t = sum_below t (contribution (coefficient r) r.choices s k)
+-- a usage as the code has it
+low : (r : Register) (s : Scheme) (k x : ℕ) → Within r → pos x ≡ usage (coefficient r) r s k → x ≤ max_usage
+low r s k x within e = rw (← e) at (usage_small r s k within)
 
-module _ (r : Register) (s : Scheme) (k t total x : ℕ) (e : pos total ≡ sum_to r s k t) (d : pos x ≡ contribution (coefficient r) r.choices s k t) where
-  -- one turn of the loop
-  turn : pos (total + x) ≡ sum_to r s k (suc t)
-  turn = ap₂ ◌+ℤ◌ e d ∙ sym (sum_below-suc t (contribution (coefficient r) r.choices s k))
-
-  low : Within r → t < r.terms → total + x ≤ max_terms * max_coefficient
-  low within l = rw (← turn) at (contributions_small r s k within (suc t) l)
-
-pub loop-t-init : goal.loop-t-init
-loop-t-init c = sym (sum_below-zero _)
-
-pub overflow_add-total : goal.overflow_add-total
-overflow_add-total c =
+pub overflow_mul-result : goal.overflow_mul-result
+overflow_mul-result c =
     let q = c.args.quadratization.now in
-    omega (arith, low q.register q.scheme c.args.k c.loop-t.t _ _ c.loop-t.invariant c.contribution-total.ensures (valid_register q.register_valid).within (omega arith))
-
-pub loop-t-preserved : goal.loop-t-preserved
-loop-t-preserved c =
-    let q = c.args.quadratization.now in
-    rw add-one (turn q.register q.scheme c.args.k c.loop-t.t _ _ c.loop-t.invariant c.contribution-total.ensures)
+    let f = q.scheme_valid.within.factor in
+    rw c.from.ensures (omega (arith, mul-le-mul f.within (low q.register q.scheme c.args.k _ (valid_register q.register_valid).within c.usage.ensures)))
 
 pub returns : goal.returns
 unfolding weight
-returns c = let e : c.loop-t.t ≡ c.args.quadratization.now.register.terms = omega arith in rw e at c.loop-t.invariant
+returns c = rw c.from.ensures (ap (λ u. pos c.args.quadratization.now.scheme.factor *ℤ u) c.usage.ensures)

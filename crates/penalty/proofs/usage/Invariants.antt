@@ -4,7 +4,7 @@ use lib.IntN.{pos}
 use Rattle.integers.specs.Sum.{sum_below}
 use Rattle.register.specs.Register.{coefficient}
 use Rattle.penalty.specs.Weights.{contribution}
-use Rattle.penalty.proofs.weight.Given as goal
+use Rattle.penalty.proofs.usage.Given as goal
 
 abbrev pub invariant-loop-t : goal.invariant-loop-t
 invariant-loop-t l =
