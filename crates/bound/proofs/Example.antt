@@ -68,6 +68,7 @@ example_scheme_lem : S.Valid example_register example_scheme
 unfolding all_below E upward up_to
 example_scheme_lem = record {
   within = record {
+    factor = record { positive = omega arith; within = omega arith };
     lefts = record { room = refl; rest = past_2 0 2 30 };
     rights = record { room = refl; rest = past_2 1 3 30 };
     products_within = omega arith;

@@ -109,6 +109,7 @@ scheme_for reg other sch n m ms v =
     let w = v.within in
     record {
       within = record {
+        factor = w.factor;
         lefts = w.lefts;
         rights = w.rights;
         products_within = w.products_within;

@@ -26,37 +26,37 @@ use Rattle.bound.specs.Bound.{row_holds, carries}
 use Rattle.bound.specs.Format.{dominance_checked, certificate_in_job}
 use Rattle.bound.specs.Check.{with_residual}
 
--- ---- two registers of which the commands are read alike, with coefficients with which R is the same
+-- ---- two registers and two schemes with which the commands are read alike, with coefficients with which R is the same
 
-module _ (c d : ℕ → ℤ) (reg other : Register) (sch : Scheme) (choices : other.choices ≡ reg.choices) (commands : (s : List ℕ) → commands_in_job other sch s ≡ commands_in_job reg sch s) (residual : (k : Certificate) → R c other sch k ≡ R d reg sch k) where
-  carries_alike : (k : Certificate) → carries c other sch k ≡ carries d reg sch k
+module _ (c d : ℕ → ℤ) (reg other : Register) (sch changed : Scheme) (sides : side other.choices changed ≡ side reg.choices sch) (commands : (s : List ℕ) → commands_in_job other changed s ≡ commands_in_job reg sch s) (residual : (k : Certificate) → R c other changed k ≡ R d reg sch k) where
+  carries_alike : (k : Certificate) → carries c other changed k ≡ carries d reg sch k
   unfolding carries
-  carries_alike k = ap₂ (λ n t. all_below n (row_holds n t)) (ap (λ n. side n sch) choices) (residual k)
+  carries_alike k = ap₂ (λ n t. all_below n (row_holds n t)) sides (residual k)
 
-  dominance_alike : (x : Reading (Progress Certificate)) → dominance_checked c other sch x ≡ dominance_checked d reg sch x
+  dominance_alike : (x : Reading (Progress Certificate)) → dominance_checked c other changed x ≡ dominance_checked d reg sch x
   unfolding dominance_checked
   dominance_alike (refused n at) = refl
   dominance_alike (accepted p end) = ap (λ b. cond b (accepted p end) (refused 9 (end - 1))) (carries_alike p.parsed)
 
-  pub certificate_alike : (s : List ℕ) → certificate_in_job c other sch s ≡ certificate_in_job d reg sch s
+  pub certificate_alike : (s : List ℕ) → certificate_in_job c other changed s ≡ certificate_in_job d reg sch s
   unfolding certificate_in_job
-  certificate_alike s = dominance_alike (commands_in_job other sch s) ∙ ap (dominance_checked d reg sch) (commands s)
+  certificate_alike s = dominance_alike (commands_in_job other changed s) ∙ ap (dominance_checked d reg sch) (commands s)
 
-  pub reading_alike : (x : Reading (Progress Certificate)) (lent : List ℤ) → with_residual c other sch x lent ≡ with_residual d reg sch x lent
+  reading_alike : (x : Reading (Progress Certificate)) (lent : List ℤ) → with_residual c other changed x lent ≡ with_residual d reg sch x lent
   reading_alike (refused n at) lent = refl
-  reading_alike (accepted p end) lent = ap₂ (λ n t. with_table n t lent) (ap (λ n. side n sch) choices) (residual p.parsed)
+  reading_alike (accepted p end) lent = ap₂ (λ n t. with_table n t lent) sides (residual p.parsed)
 
-  pub residual_alike : (s : List ℕ) (lent : List ℤ) → with_residual c other sch (commands_in_job other sch s) lent ≡ with_residual d reg sch (commands_in_job reg sch s) lent
-  residual_alike s lent = reading_alike (commands_in_job other sch s) lent ∙ ap (λ x. with_residual d reg sch x lent) (commands s)
+  pub residual_alike : (s : List ℕ) (lent : List ℤ) → with_residual c other changed (commands_in_job other changed s) lent ≡ with_residual d reg sch (commands_in_job reg sch s) lent
+  residual_alike s lent = reading_alike (commands_in_job other changed s) lent ∙ ap (λ x. with_residual d reg sch x lent) (commands s)
 
 -- ---- coefficients that are the same
 
 module _ (c d : ℕ → ℤ) (reg : Register) (sch : Scheme) (h : (t : ℕ) → t < reg.terms → c t ≡ d t) where
   pub certificate_same : (s : List ℕ) → certificate_in_job c reg sch s ≡ certificate_in_job d reg sch s
-  certificate_same = certificate_alike c d reg reg sch refl (λ s. refl) (R_same c d reg sch h)
+  certificate_same = certificate_alike c d reg reg sch sch refl (λ s. refl) (R_same c d reg sch h)
 
   pub residual_same : (x : Reading (Progress Certificate)) (lent : List ℤ) → with_residual c reg sch x lent ≡ with_residual d reg sch x lent
-  residual_same = reading_alike c d reg reg sch refl (λ s. refl) (R_same c d reg sch h)
+  residual_same = reading_alike c d reg reg sch sch refl (λ s. refl) (R_same c d reg sch h)
 
 -- ---- the register that the code makes for a plan
 
@@ -75,8 +75,8 @@ module _ (reg : Register) (w : Within reg) (sch : Scheme) (plan : ℕ) where
   R_under k = R_same (coefficient made) (chosen reg plan) reg sch (λ t l. under_coefficient reg w plan t) k
 
   pub certificate_under : (s : List ℕ) → certificate_in_job (coefficient made) made sch s ≡ certificate_in_job (chosen reg plan) reg sch s
-  certificate_under = certificate_alike (coefficient made) (chosen reg plan) reg made sch refl commands_under R_under
+  certificate_under = certificate_alike (coefficient made) (chosen reg plan) reg made sch sch refl commands_under R_under
 
   pub residual_under : (s : List ℕ) (lent : List ℤ) →
       with_residual (coefficient made) made sch (commands_in_job made sch s) lent ≡ with_residual (chosen reg plan) reg sch (commands_in_job reg sch s) lent
-  residual_under = residual_alike (coefficient made) (chosen reg plan) reg made sch refl commands_under R_under
+  residual_under = residual_alike (coefficient made) (chosen reg plan) reg made sch sch refl commands_under R_under

@@ -30,7 +30,7 @@ pub record Shown (register scheme certificate plan : List ℕ) (a : CheckAnswer)
   pub cert : Certificate
   pub chooses : ℕ
   pub register_is : Bytes register → RE.Encodes reg register
-  pub scheme_is : SE.Encodes reg sch scheme
+  pub scheme_is : Bytes scheme → SE.Encodes reg sch scheme
   pub certificate_is : Bytes certificate → Encodes cert certificate
   pub plan_is : has_range reg ≡ true → Bytes plan → PE.Encodes reg chooses plan
   pub register_valid : R.Valid reg

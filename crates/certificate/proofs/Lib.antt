@@ -1,5 +1,5 @@
 -- The counts, and the multipliers' forms, in the paper's words; the conditions and the reader's tests; the commands one by one, and
--- reading them.
+-- reading them; that the scheme's factor makes no difference.
 pub mod Counts
 pub mod MultiplierForms
 pub mod Conditions
@@ -7,6 +7,7 @@ pub mod Commands
 pub mod Operands
 pub mod Filling
 pub mod Within
+pub mod OtherFactor
 pub mod Ranges
 pub mod Asks
 pub mod Sizes

@@ -12,7 +12,6 @@ use Rattle.forms.specs.Form.{places, value}
 use Rattle.register.specs.declared.Register.{Register}
 use Rattle.scheme.specs.declared.Scheme.{Scheme}
 use Rattle.scheme.specs.Scheme.{left, right}
-use Rattle.certificate.specs.Certificate.{Multiplier}
 use Rattle.certificate.specs.Rules.{by_key, rule_of}
 
 -- ---- forms of three or four numbers, with 1 for the constant

@@ -27,7 +27,7 @@ use Rattle.scheme.specs.Valid as S
 use Rattle.scheme.specs.Encoding as SE
 use Rattle.scheme.specs.Format.{scheme_in_job, scheme_by_itself}
 use Rattle.scheme.specs.Answer.{open_parts}
-use Rattle.scheme.proofs.Accept.{scheme_accepted, accepted_iff}
+use Rattle.scheme.proofs.Accept.{scheme_accepted, encoding_accepted as scheme_encoded}
 use Rattle.scheme.proofs.Prefix.{scheme_longest, scheme_reach, scheme_prefix, scheme_end}
 use Rattle.plan.specs.Format.{plan_in_job, plan_by_itself}
 use Rattle.plan.proofs.Prefix.{plan_longest, plan_prefix, plan_end}
@@ -248,5 +248,5 @@ follows = record {
   scheme_refused = λ reg register rest number at v e r q.
       first_right reg register rest v e ∙ second_refused (length register) register rest _ _ (encoding_accepted register reg v e) r number at q;
   plan_refused = λ reg sch register scheme plan number at v e r w x q.
-      first_two_right reg sch register scheme plan v e r w x ∙ rw (encoding_accepted register reg v e, (accepted_iff reg v scheme sch).1 (w, x), r, q);
+      first_two_right reg sch register scheme plan v e r w x ∙ rw (encoding_accepted register reg v e, scheme_encoded reg v scheme sch w x, r, q);
 }

@@ -28,7 +28,8 @@ use Rattle.hidden.specs.Alike.{SameButHidden, HiddenLaws}
 use Rattle.hidden.proofs.Commands.{Ends}
 use Rattle.hidden.proofs.Marks.{marks_of, walk_marks, places_only, places_all}
 use Rattle.hidden.proofs.Blank.{Like, registers_alike}
-use Rattle.hidden.proofs.Rest.{blank_parts, blank_outcome, blind, blind_before, after_blank, table_blank, after_same, table_same}
+use Rattle.job.proofs.Changed.{changed, alike_before}
+use Rattle.hidden.proofs.Rest.{blank_parts, blind, after_blank, table_blank, after_same, table_same}
 
 -- ---- an accepted job: the commands of its part 1, and what stands after them
 
@@ -100,20 +101,20 @@ module _ (job job' : List ℕ) (p p' : Parts) (o : Opened job p) (o' : Opened jo
   after : drop (end job p o) job ≡ drop (end job p o) job'
   after = left job p o ∙ alike.after ∙ sym (left job' p' o') ∙ ap (λ n. drop n job') (sym ends)
 
-  outcomes : blank_outcome (outcome job) ≡ blank_outcome (outcome job')
+  outcomes : changed blank_parts (outcome job) ≡ changed blank_parts (outcome job')
   outcomes =
       let n = end job p o in
-      ap blank_outcome (then_outcome job p o)
+      ap (changed blank_parts) (then_outcome job p o)
       ∙ sym (after_blank job r (of_register r) n (last_of 1 (order r)))
       ∙ after_same job job' a.lengths (order r) (blank_parts (of_register r)) n (last_of 1 (order r)) after
       ∙ ap (λ x. and_then (in_turn (order x) job' (of_register x) n) (ended (last_of 1 (order x)) job')) alike.like
       ∙ ap (λ k. and_then (in_turn (order r') job' (blank_parts (of_register r')) k) (ended (last_of 1 (order r')) job')) ends
       ∙ after_blank job' r' (of_register r') (end job' p' o') (last_of 1 (order r'))
-      ∙ sym (ap blank_outcome (then_outcome job' p' o'))
+      ∙ sym (ap (changed blank_parts) (then_outcome job' p' o'))
 
   same_parts : outcome job ≡ accepts p → outcome job' ≡ accepts p' → SameButHidden p p'
   same_parts e e' =
-      let q : blank_parts p ≡ blank_parts p' = accepts_one (sym (ap blank_outcome e) ∙ outcomes ∙ ap blank_outcome e') in
+      let q : blank_parts p ≡ blank_parts p' = accepts_one (sym (ap (changed blank_parts) e) ∙ outcomes ∙ ap (changed blank_parts) e') in
       record {
         register = ap (λ (p : Parts). p.register) q;
         scheme = ap (λ (p : Parts). p.scheme) q;
@@ -125,11 +126,11 @@ module _ (job job' : List ℕ) (p p' : Parts) (o : Opened job p) (o' : Opened jo
   same_table lent =
       let n = end job p o in
       then_table job p o lent
-      ∙ sym (table_blank job (before 3 (order r)) (blind_before 3 (order r) (blind r)) (of_register r) n lent)
+      ∙ sym (table_blank job (before 3 (order r)) (alike_before blank_parts 3 (order r) (blind r)) (of_register r) n lent)
       ∙ table_same job job' a.lengths (before 3 (order r)) (blank_parts (of_register r)) n lent after
       ∙ ap (λ x. table_by job' lent (in_turn (before 3 (order x)) job' (of_register x) n)) alike.like
       ∙ ap (λ k. table_by job' lent (in_turn (before 3 (order r')) job' (blank_parts (of_register r')) k)) ends
-      ∙ table_blank job' (before 3 (order r')) (blind_before 3 (order r') (blind r')) (of_register r') (end job' p' o') lent
+      ∙ table_blank job' (before 3 (order r')) (alike_before blank_parts 3 (order r') (blind r')) (of_register r') (end job' p' o') lent
       ∙ sym (then_table job' p' o' lent)
 
 open_accepted : (job : List ℕ) (p : Parts) → Bytes job → outcome job ≡ accepts p → Opened job p

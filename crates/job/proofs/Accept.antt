@@ -89,7 +89,7 @@ module _ (s : List ℕ) (b : Bytes s) (p : Parts) (a : AllRead s p) where
     third = take a.three third;
     fourth = take a.four fourth;
     register = (RA.bytes_accepted s _ a.one a.register.is b).0;
-    scheme = (SA.bytes_accepted p.register valid.register second _ a.two a.scheme.is).0;
+    scheme = (SA.bytes_accepted p.register valid.register second _ a.two a.scheme.is (bytes_drop a.one s b)).0;
     certificate = certificate_encodes;
     plan = plan_encodes;
     bytes = sym (take-append-drop a.one s) ∙ ap (λ x. take a.one s ++ x) (split s a.one a.two ∙ ap (λ x. take a.two second ++ x) last_two);

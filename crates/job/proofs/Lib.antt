@@ -1,9 +1,12 @@
--- What the job's call answers; which jobs are accepted; how long a job can be.
+-- What the job's call answers; which jobs are accepted; how long a job can be; that the scheme's factor makes no difference.
 pub mod Positions
 pub mod Turn
+pub mod Changed
+pub mod Moved
 pub mod EachRead
 pub mod Answers
 pub mod FirstTwo
+pub mod OtherFactor
 pub mod Sound
 pub mod Prefix
 pub mod Ranges

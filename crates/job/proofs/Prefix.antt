@@ -46,16 +46,16 @@ two_longest = register_longest + scheme_longest - size_of (product_row fresh) * 
 unfoldable pub job_longest : ℕ
 job_longest = two_longest + certificate_longest + plan_longest
 
--- the bytes that can matter: after the longest register, the longest scheme and a plan, those of a certificate with a square too many. Where
--- the plan comes last, they are fewer
+-- the bytes that can matter: after the longest register, the longest scheme and a plan, those of a certificate with a square too many.
+-- Where the plan comes last, they are fewer
 unfoldable pub job_reach : ℕ
 job_reach = two_longest + plan_longest + certificate_reach
 
-pub longest_is : job_longest ≡ 27_097
+pub longest_is : job_longest ≡ 27_100
 unfolding job_longest register_longest scheme_longest certificate_longest plan_longest command_size total arity by_key
 longest_is = refl
 
-pub reach_is : job_reach ≡ 27_231
+pub reach_is : job_reach ≡ 27_234
 unfolding job_reach register_longest scheme_longest certificate_reach plan_longest command_size total arity by_key
 reach_is = refl
 

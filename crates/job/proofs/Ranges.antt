@@ -23,7 +23,7 @@ use Rattle.register.specs.Format.{base_checks, choice_checks, term_checks, windo
 use Rattle.register.specs.Format as RF
 use Rattle.scheme.specs.declared.Scheme.{Scheme}
 use Rattle.scheme.specs.Scheme as S
-use Rattle.scheme.specs.Format.{product_row, split_row, product_checks, split_checks, scheme_part, scheme_in_job}
+use Rattle.scheme.specs.Format.{product_checks, split_checks, scheme_rows, scheme_part, scheme_in_job}
 use Rattle.scheme.specs.Format as SF
 use Rattle.certificate.specs.Certificate as C
 use Rattle.bound.specs.Bound.{carries}
@@ -78,8 +78,8 @@ unfolding register_in_job base_checks choice_checks term_checks window_checks ro
 register_small s = part_small R.fresh register_rows ((λ r xs. tt) ▹ (λ r xs. tt) ▹ (λ r xs. tt) ▹ (λ r xs. tt) ▹ (λ r xs. tt) ▹ (λ r xs. tt) ▹ (λ r xs. tt) ▹ (λ r xs. tt) ▹ (λ r xs. tt) ▹ tt) s
 
 scheme_small : (reg : Register) (s : List ℕ) → number_of (scheme_in_job reg s) ≤ highest
-unfolding scheme_in_job product_checks split_checks SF.end_checks
-scheme_small reg s = part_small S.fresh (product_row reg ∷ split_row reg ∷ SF.end_row reg ∷ []) ((λ r xs. tt) ▹ (λ r xs. tt) ▹ (λ r xs. tt) ▹ tt) s
+unfolding scheme_in_job SF.factor_checks product_checks split_checks SF.end_checks
+scheme_small reg s = part_small S.initial (scheme_rows reg) ((λ r xs. tt) ▹ (λ r xs. tt) ▹ (λ r xs. tt) ▹ (λ r xs. tt) ▹ tt) s
 
 certificate_small : (c : ℕ → ℤ) (reg : Register) (sch : Scheme) (s : List ℕ) → number_of (certificate_in_job c reg sch s) ≤ highest
 unfolding certificate_in_job commands_in_job dominance_checked scale_checks multiplier_checks square_checks

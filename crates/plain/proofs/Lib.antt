@@ -1,5 +1,5 @@
 -- The coefficients that it is made of; the worked row; the table of our own B; its rows; its commands and numbers; that it is valid; its
--- bytes and the call's answer.
+-- bytes and the call's answer; that the scheme's factor makes no difference.
 pub mod Coefficients
 pub mod Same
 pub mod Changes
@@ -15,3 +15,4 @@ pub mod Encoded
 pub mod Answers
 pub mod ReadBack
 pub mod Call
+pub mod OtherFactor

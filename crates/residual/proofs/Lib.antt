@@ -1,5 +1,5 @@
 -- The rules; the tables of B and R; how large the numbers become; numbers subtracted from a table, and squares; the forms as the
--- code adds them; R command by command.
+-- code adds them; R command by command; that the scheme's factor makes no difference.
 pub mod Forms
 pub mod Rules
 pub mod Table
@@ -15,3 +15,4 @@ pub mod ByCommand
 pub mod Midway
 pub mod Filled
 pub mod Same
+pub mod OtherFactor

@@ -5,7 +5,7 @@ use mathlib.Core.List.{List, [], ◌∷◌, ◌++◌}
 use native.Mathlib.Nat.{mul-le-mul}
 use native.Mathlib.Decide.{ℕ_discrete}
 use native.Mathlib.Omega.{arith}
-use lib.IntN.{ℤ, pos, neg_ℤ, nat_abs, ◌*ℤ◌, ◌+ℤ◌, *ℤ-zero, +ℤ_idr}
+use lib.IntN.{ℤ, pos, neg_ℤ, nat_abs, ◌*ℤ◌, *ℤ-zero, +ℤ_idr}
 use lib.ListN.{get_or, set}
 use lib.Seq.{set-get_or}
 use Rattle.integers.specs.Lists.{join_below}
