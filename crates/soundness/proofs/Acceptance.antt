@@ -79,7 +79,7 @@ of_scheme : SchemeAcceptance scheme_call
 of_scheme = record {
   all = λ t s sch p. opened_answer t s p.reg sch (opened_parts t s p.reg sch p.part_1 p.part_2);
   only = λ t s sch b b' e.
-      let (reg, ((v, x), (v', x'))) = (answer_iff t s sch b).0 e in
+      let (reg, ((v, x), (v', x'))) = (answer_iff t s sch b b').0 e in
       record { reg = reg; part_1 = record { conditions = v; bytes = x }; part_2 = record { conditions = v'; bytes = x' } };
   number_0 = λ t s z. opened_answer t s _ _ (answer_opened t s z);
 }
@@ -134,7 +134,7 @@ check_only t s k q lent b b₁ b₂ b₃ b₄ e =
       fed = c.plan;
       cert = c.read.parsed;
       part_1 = record { conditions = o.register_valid; bytes = register_bytes t s c.reg c.sch o b₁ };
-      part_2 = record { conditions = o.scheme_valid; bytes = scheme_bytes t s c.reg c.sch o };
+      part_2 = record { conditions = o.scheme_valid; bytes = scheme_bytes t s c.reg c.sch o b₂ };
       choosing = choosing_of c.opens b₄;
       part_3 = record { conditions = whole_valid c.reg c.sch d k c.read c.end c.reads; bytes = whole_encodes c.reg c.sch d k c.read c.end c.reads b₃ };
       bound_is = ap (λ a. a.bound) (sym e ∙ c.answers);
@@ -216,9 +216,9 @@ of_penalty = record {
       let o = opened_encodings t s p.reg sch p.part_1.conditions p.part_1.bytes p.part_2.conditions p.part_2.bytes in
       let q = PenaltyCall.parts_accepted t s lent l p.reg sch o in
       ap₂ (λ a b. (a, b)) (sym q.answers) (sym q.holds);
-  only = λ t s lent b z.
+  only = λ t s lent b b' z.
       let m = zeros_made t s lent (penalty_zeros t s lent z) in
-      (m.sch, record { reg = m.reg; part_1 = record { conditions = m.register_valid; bytes = m.register_is b }; part_2 = record { conditions = m.scheme_valid; bytes = m.scheme_is } });
+      (m.sch, record { reg = m.reg; part_1 = record { conditions = m.register_valid; bytes = m.register_is b }; part_2 = record { conditions = m.scheme_valid; bytes = m.scheme_is b' } });
 }
 
 -- ---- part 1, and the visit limit

@@ -28,7 +28,13 @@ pub mod NullEveryPlan
 pub mod ReadBeforeRowMultipliers
 pub mod EveryPlan
 pub mod PriceRanges
+pub mod SecondRefused
+pub mod JobsAlike
+pub mod LaterParts
 pub mod MoreChoices
 pub mod BeforeMoreChoices
+pub mod Factors
+pub mod BeforeFactors
+pub mod HeavierPenalties
 pub mod Suppliers
 pub mod SupplierListing

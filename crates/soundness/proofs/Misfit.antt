@@ -35,7 +35,7 @@ use Rattle.register.specs.Format.{base_checks, choice_checks, term_checks, windo
 use Rattle.register.specs.Format as RF
 use Rattle.register.proofs.Accept as Ra
 use Rattle.scheme.specs.declared.Scheme.{Scheme}
-use Rattle.scheme.specs.Format.{product_checks, split_checks, end_checks, scheme_rows, scheme_part, scheme_in_job}
+use Rattle.scheme.specs.Format.{factor_checks, product_checks, split_checks, end_checks, scheme_rows, scheme_part, scheme_in_job}
 use Rattle.scheme.proofs.Accept as SA
 use Rattle.certificate.specs.Format.{scale_checks, multiplier_checks, square_checks, multiplier_row, certificate_rows}
 use Rattle.bound.specs.declared.CheckAnswer.{CheckAnswer}
@@ -190,9 +190,10 @@ module _ (n : ℕ) (l : 13 < n) where
 
 module _ (n : ℕ) (l : 12 < n) where
   pub scheme_never : (reg : Register) → All (Never n) (scheme_rows reg)
-  unfolding product_checks split_checks end_checks
+  unfolding factor_checks product_checks split_checks end_checks
   scheme_never reg =
-      (λ r xs. (λ k. absurd (omega arith)) ▹ (λ k. absurd (omega arith)) ▹ (λ k. absurd (omega arith)) ▹ (λ k. absurd (omega arith)) ▹ tt)
+      (λ r xs. (λ k. absurd (omega arith)) ▹ tt)
+      ▹ (λ r xs. (λ k. absurd (omega arith)) ▹ (λ k. absurd (omega arith)) ▹ (λ k. absurd (omega arith)) ▹ (λ k. absurd (omega arith)) ▹ tt)
       ▹ (λ r xs. (λ k. absurd (omega arith)) ▹ (λ k. absurd (omega arith)) ▹ (λ k. absurd (omega arith)) ▹ (λ k. absurd (omega arith)) ▹ tt)
       ▹ (λ r xs. (λ k. absurd (omega arith)) ▹ tt)
       ▹ tt

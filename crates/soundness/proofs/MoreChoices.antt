@@ -8,11 +8,11 @@ use mathlib.Core.Path.{◌≡◌, refl, sym, ◌∙◌, ap}
 use mathlib.Core.Logic.{◌↔◌, ◌⊎◌, inl, inr, ⊎_elim}
 use mathlib.Core.Bool.{Bool, cond, true, false, ◌||◌}
 use mathlib.Core.List.{List, [], ◌∷◌, ◌++◌}
-use lib.IntN.{ℤ, pos}
-use lib.Dec.{ltb, leb}
-use lib.ListN.{length, drop}
-use lib.Seq.{append_snoc, drop_at}
-use borrow.Author.Tests.{ltb-false, leb-true, leb-false, le-leb}
+use lib.IntN.{pos}
+use lib.Dec.{leb}
+use lib.ListN.{length}
+use lib.Seq.{append_snoc}
+use borrow.Author.Tests.{leb-true, leb-false, le-leb}
 use Rattle.integers.proofs.Lists.{flag, or_either}
 use Rattle.integers.proofs.Sum.{sum_below_cong}
 use Rattle.sets.specs.Sets.{is_member}
@@ -23,7 +23,6 @@ use Rattle.wire.specs.Rows.{Progress}
 use Rattle.wire.specs.Outcome.{Outcome, refuses, accepts, given}
 use Rattle.wire.specs.Outcome as O
 use Rattle.wire.proofs.Outcome.{itself_refused}
-use Rattle.forms.specs.Table.{table_numbers}
 use Rattle.register.specs.declared.Register.{Register}
 use Rattle.register.specs.Limits.{max_choices, row_entries}
 use Rattle.register.specs.Register.{mask, row_entry, has_range}
@@ -33,23 +32,21 @@ use Rattle.register.specs.Position.{term_position}
 use Rattle.register.specs.Opening.{open_register}
 use Rattle.register.specs.Answer.{refused_answer, register_answer}
 use Rattle.register.proofs.Entries.{entry_past}
-use Rattle.register.proofs.Accept.{register_accepted, encoding_accepted}
+use Rattle.register.proofs.Accept.{encoding_accepted}
 use Rattle.register.proofs.Opened.{opened}
 use Rattle.register.proofs.Outside.{choice_refused_there}
-use Rattle.plan.specs.Plan.{cost}
 use Rattle.plan.specs.Fits.{Fits, fed_sum}
 use Rattle.plan.specs.Format.{plan_by_itself}
 use Rattle.plan.specs.Answer.{cost_answer}
 use Rattle.plan.proofs.Accept.{whole_accepted}
 use Rattle.scheme.specs.declared.Scheme.{Scheme}
-use Rattle.scheme.specs.Scheme.{max_products, max_variables, variables, fresh}
+use Rattle.scheme.specs.Scheme.{max_products, max_variables, variables, fresh, initial}
 use Rattle.scheme.specs.Valid as S
 use Rattle.scheme.specs.Format.{product_checks, product_row, scheme_in_job, scheme_by_itself}
-use Rattle.scheme.specs.Answer as SA
-use Rattle.scheme.proofs.Products.{product_refused_there}
+use Rattle.scheme.proofs.RefusedAfter.{product_refused_there}
 use Rattle.scheme.proofs.Opened.{answer_opened}
 use Rattle.scheme.proofs.Sets.{new_at}
-use Rattle.scheme.proofs.Entries.{fresh_within}
+use Rattle.scheme.proofs.Entries.{initial_within}
 use Rattle.builder.specs.Builder.{Step, full, next, WithVariable, stopped, built, and_then, follow, choices_of, join_pair, pair_up, reduce, build_term, build_from, build}
 use Rattle.builder.proofs.Steps.{no_room, found, found_within, found_new, join_found, join_new, reduce_done, reduce_zero, reduce_more, pass_kept}
 use Rattle.builder.proofs.Unions.{choices_hold}
@@ -57,26 +54,19 @@ use Rattle.builder.proofs.Holds.{Holding, holding_joins}
 use Rattle.builder.proofs.Steady.{All-back}
 use Rattle.builder.proofs.Validity.{SplitTo, term_split, build_valid}
 use Rattle.penalty.specs.Answer.{penalty_answer, penalty_table}
-use Rattle.bound.specs.Bound.{bound}
 use Rattle.bound.specs.Opening.{open_plan, open_chosen}
 use Rattle.bound.specs.Check.{check_answer, check_table}
 use Rattle.plain.specs.Answer.{plain_answer, plain_buffer}
-use Rattle.job.specs.Outcome.{Parts, coefficients, outcome, table_after}
-use Rattle.job.specs.Valid as J
-use Rattle.job.specs.Tally.{suppliers, fresh as fresh_tally}
-use Rattle.job.specs.Answer.{job_answer, job_table}
-use Rattle.job.proofs.EachRead.{read_all}
-use Rattle.job.proofs.Accept.{encoded_read}
+use Rattle.job.specs.Outcome.{outcome}
 use Rattle.job.proofs.Suppliers.{table_enough}
-use Rattle.listing.specs.Answer.{answer_with, listing_table, buffer_with}
 use Rattle.search.specs.Answer.{search_answer}
 use Rattle.soundness.specs.Calls.{register_call, scheme_call, cost_call, penalty_call, check_call, plain_call, build_call, job_call, listing_call, supplier_listing_call, search_call}
-use Rattle.soundness.specs.Parts.{Part1, Part4, with_r}
-use Rattle.soundness.specs.Acceptance.{OfJob}
+use Rattle.soundness.specs.Parts.{Part1, Part4}
 use Rattle.soundness.specs.Writers.{refused_back}
-use Rattle.soundness.specs.MoreChoices.{ChoiceTooMany, ProductTooMany, CountsKept, Joined, itself, joined, FullAt, BuilderKeeps, RegistersAlike, PlansAlike, JobsAlike, FormsAlike, RowsOfFirst}
-use Rattle.soundness.proofs.Acceptance.{acceptance}
+use Rattle.soundness.specs.MoreChoices.{ChoiceTooMany, ProductTooMany, CountsKept, Joined, itself, joined, FullAt, BuilderKeeps, RegistersAlike, PlansAlike, FormsAlike, RowsOfFirst}
 use Rattle.soundness.proofs.Writers.{build_is}
+use Rattle.soundness.proofs.SecondRefused.{second_refused, second_refused_in_job}
+use Rattle.soundness.proofs.JobsAlike.{jobs_alike}
 
 -- ---- counts
 
@@ -108,29 +98,14 @@ module _ (reg : Register) (s : List ℕ) (at : ℕ) (k : ProductTooMany reg s at
   product_full = rw products_full
 
   product_refused : R.Valid reg → scheme_in_job reg s ≡ refused 3 at
-  product_refused valid = product_refused_there reg valid before k.within k.no_split s at k.l k.r k.rest k.bytes k.position 3 product_full (λ z. omega arith)
+  product_refused valid = product_refused_there reg valid before k.within k.header k.header_is k.no_split s at k.l k.r k.rest k.bytes k.position 3 product_full (λ z. omega arith)
 
-  product_too_many : (t : List ℕ) → Part1 t reg → scheme_call t s ≡ SA.refused_answer 3 2 at
-  unfolding scheme_by_itself
-  product_too_many t p =
-      let e = itself_refused s (product_refused p.conditions) in
-      rw (encoding_accepted t reg p.conditions p.bytes, e)
-
--- in a job the refusal is that of its first part, or of the second behind it
+-- in a job the refusal is that of its first part
 
 module _ (job : List ℕ) (at : ℕ) (k : ChoiceTooMany job at) where
   outcome_choice : outcome job ≡ refuses 3 1 at
   unfolding outcome
   outcome_choice = rw (choice_refused job at k)
-
-module _ (job t rest : List ℕ) (reg : Register) (at : ℕ) (p : Part1 t reg) (e : job ≡ t ++ rest) (k : ProductTooMany reg rest at) where
-  outcome_product : outcome job ≡ refuses 3 2 (length t + at)
-  unfolding outcome
-  outcome_product =
-      let first = ap register_in_job e ∙ register_accepted reg t rest p.conditions p.bytes in
-      let dropped : drop (length t) job ≡ rest = ap (drop (length t)) e ∙ drop_at t rest (length t) refl in
-      let second = ap (scheme_in_job reg) dropped ∙ product_refused reg rest at k p.conditions in
-      rw first (flag (has_range reg) (λ f. rw (f, second) refl) (λ f. rw (f, second) refl))
 
 pub counts_kept : CountsKept register_call scheme_call job_call
 counts_kept = record {
@@ -139,8 +114,8 @@ counts_kept = record {
   choice_too_many = choice_too_many;
   choice_too_many_in_job = λ job table supplier tally at l m k. (table_enough job table supplier tally l m).0 ∙ rw (outcome_choice job at k);
   products_few = λ register scheme z. let w = (answer_opened register scheme z).scheme_valid.within in (w.products_within, w.variables_within);
-  product_too_many = λ register scheme reg at p k. product_too_many reg scheme at k register p;
-  product_too_many_in_job = λ job table supplier tally register rest reg at l m p e k. (table_enough job table supplier tally l m).0 ∙ rw (outcome_product job register rest reg at p e k);
+  product_too_many = λ register scheme reg at p k. second_refused register scheme reg p 3 at (product_refused reg scheme at k p.conditions);
+  product_too_many_in_job = λ job table supplier tally register rest reg at l m p e k. second_refused_in_job register rest reg p 3 at (product_refused reg rest at k p.conditions) job table supplier tally l m e;
 }
 
 -- ---- the builder
@@ -177,7 +152,7 @@ module _ (reg : Register) (valid : R.Valid reg) where
       (or_either _ _ e)
 
   -- term t has its list, and what has been joined for it
-  module _ (t : ℕ) (before : Scheme) (builds : build_from reg t 0 fresh ≡ built before) where
+  module _ (t : ℕ) (before : Scheme) (builds : build_from reg t 0 initial ≡ built before) where
     record Held (sch : Scheme) (l : List ℕ) : Type 0 where
       pub holding : Holding reg (mask reg t) t sch l
       pub joins : Joined n before sch
@@ -242,20 +217,20 @@ module _ (reg : Register) (valid : R.Valid reg) where
       go full q ih = let d = rw q at e in let z : ◌≡◌ {A = ℕ} 0 1 = cc in absurd (omega arith)
       go (next s) q ih = let u : suc t + k ≡ t + suc k = omega arith in rw q (ih s sch' made (rw q at e) (rw u f))
 
-  stops_from : (k t u : ℕ) (sch : Scheme) → t + k ≤ reg.terms → SplitTo reg t sch → build_from reg t 0 fresh ≡ built sch → build_from reg k t sch ≡ stopped u → FullAt reg u
+  stops_from : (k t u : ℕ) (sch : Scheme) → t + k ≤ reg.terms → SplitTo reg t sch → build_from reg t 0 initial ≡ built sch → build_from reg k t sch ≡ stopped u → FullAt reg u
   unfolding build_from follow
   stops_from zero t u sch d s b e = let z : ◌≡◌ {A = ℕ} 0 1 = cc in absurd (omega arith)
   stops_from (suc k) t u sch d s b e = go (build_term n sch (mask reg t)) refl (stops_from k (suc t) u)
     where
-      go : (x : Step Scheme) → build_term n sch (mask reg t) ≡ x → ((sch : Scheme) → suc t + k ≤ reg.terms → SplitTo reg (suc t) sch → build_from reg (suc t) 0 fresh ≡ built sch → build_from reg k (suc t) sch ≡ stopped u → FullAt reg u) → FullAt reg u
+      go : (x : Step Scheme) → build_term n sch (mask reg t) ≡ x → ((sch : Scheme) → suc t + k ≤ reg.terms → SplitTo reg (suc t) sch → build_from reg (suc t) 0 initial ≡ built sch → build_from reg k (suc t) sch ≡ stopped u → FullAt reg u) → FullAt reg u
       go full q ih = let f = rw q at e in let z : t ≡ u = cc in rw (← z) (term_full t sch b (omega arith) s q)
       go (next made) q ih =
-          ih made (omega arith) (term_split reg valid t sch made (omega arith) s q) (built_more t 0 fresh sch made b (ap (λ i. build_term n sch (mask reg i)) (zero-add t) ∙ q)) (rw q at e)
+          ih made (omega arith) (term_split reg valid t sch made (omega arith) s q) (built_more t 0 initial sch made b (ap (λ i. build_term n sch (mask reg i)) (zero-add t) ∙ q)) (rw q at e)
 
   stops_full : (t : ℕ) → build reg ≡ stopped t → FullAt reg t
   unfolding build build_from fresh
   stops_full t e =
-      stops_from reg.terms 0 t fresh (omega arith) (record { within = fresh_within reg valid.within.choices.few; splits_are = refl }) refl e
+      stops_from reg.terms 0 t initial (omega arith) (record { within = initial_within reg valid.within.choices.few; splits_are = refl }) refl e
 
 pub builder_keeps : BuilderKeeps
 builder_keeps = record {
@@ -314,41 +289,13 @@ module _ (t plan other : List ℕ) (reg : Register) (fed : ℕ) (p : Part1 t reg
     plains = λ scheme lent. rw (opens_chosen_alike scheme) refl;
   }
 
--- the outcome of a job is that of its parts, and so is the table
-module _ (job other : List ℕ) (p : Parts) (v : J.Valid p) (e : J.Encodes p job) (d : J.Encodes p other) where
-  outcomes_alike : outcome job ≡ outcome other
-  outcomes_alike = read_all job p (encoded_read p v job e) ∙ sym (read_all other p (encoded_read p v other d))
-
-  abbrev of_parts : (s : List ℕ) → J.Encodes p s → OfJob s (bound p.certificate) (cost (coefficients p) p.register p.plan)
-  of_parts s b = record { parts = p; conditions = v; bytes = b; bound_is = refl; cost_is = refl }
-
-  table_of : (s : List ℕ) → J.Encodes p s → (lent : List ℤ) → table_numbers ≤ length lent → table_after s lent ≡ with_r (coefficients p) p.register p.scheme p.certificate lent
-  table_of s b lent l =
-      let known : 0 < suppliers = omega arith in
-      sym (table_enough s lent 0 fresh_tally known l).1 ∙ acceptance.of_job.table_back s lent 0 fresh_tally _ _ known l (of_parts s b)
-
-  -- a table that is too short stays as it is
-  tables_alike : (lent : List ℤ) → listing_table job lent ≡ listing_table other lent
-  unfolding listing_table
-  tables_alike lent =
-      flag (ltb (length lent) table_numbers) (λ t. rw t refl)
-      (λ f. let l = ltb-false _ _ f in rw (f, table_of job e lent (omega (arith, l)), table_of other d lent (omega (arith, l))) refl)
-
-  jobs_alike : JobsAlike job_call listing_call supplier_listing_call job other
-  unfolding job_answer job_table answer_with buffer_with listing_table
-  jobs_alike = record {
-    jobs = λ table supplier tally. rw (outcomes_alike, tables_alike table) refl;
-    listings = λ table buffer. rw (outcomes_alike, tables_alike table) refl;
-    supplier_listings = λ table buffer. rw (outcomes_alike, tables_alike table) refl;
-  }
-
 pub forms_alike : FormsAlike register_call scheme_call cost_call penalty_call check_call plain_call build_call search_call job_call listing_call supplier_listing_call
 forms_alike = record {
   of_register = registers_alike;
   of_builder = λ register other reg sch p q. builds_alike register other reg p q sch;
   builder_stops = λ register other reg term p q. stops_alike register other reg p q term;
   of_plan = plan_forms_alike;
-  of_job = jobs_alike;
+  of_job = λ job other p v e d. jobs_alike job other p p.scheme.factor v.scheme.within.factor v e d;
 }
 
 -- ---- rows

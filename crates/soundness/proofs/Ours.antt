@@ -39,7 +39,7 @@ module _ (t s : List ℕ) (z : Accepted t s) (lent : List ℤ) (l : table_number
   o : Opened t s (register_of t) (scheme_of t s)
   o = answer_opened t s z
 
-  holds : Holds (register_of t) (scheme_of t s) lent (penalty_table t s lent)
+  pub holds : Holds (register_of t) (scheme_of t s) lent (penalty_table t s lent)
   holds = made_holds t s lent l (register_of t) (scheme_of t s) o
 
   -- the table of our call
@@ -62,7 +62,7 @@ module _ (t s : List ℕ) (z : Accepted t s) (lent : List ℤ) (l : table_number
   as_written : Bytes t → AsWritten penalty_call check_call plain_call t s lent
   as_written b = record {
     part_1 = record { conditions = o.register_valid; bytes = register_bytes t s (register_of t) (scheme_of t s) o b };
-    part_2 = record { conditions = o.scheme_valid; bytes = scheme_bytes t s (register_of t) (scheme_of t s) o };
+    part_2 = λ b'. record { conditions = o.scheme_valid; bytes = scheme_bytes t s (register_of t) (scheme_of t s) o b' };
     penalty_accepted = made_answer t s lent l (register_of t) (scheme_of t s) o;
     penalty_form = sym (Penalty.parts_accepted t s lent l (register_of t) (scheme_of t s) o).holds;
   }

@@ -42,7 +42,7 @@ use Rattle.scheme.specs.Format.{scheme_in_job, scheme_by_itself}
 use Rattle.scheme.specs.Function.{g}
 use Rattle.builder.specs.Builder.{stopped, built, follow, build_term, build_from, build}
 use Rattle.penalty.specs.Penalty.{h}
-use Rattle.penalty.specs.Weights.{weight}
+use Rattle.penalty.specs.Weights.{usage, weight}
 use Rattle.penalty.specs.declared.PenaltyAnswer.{PenaltyAnswer}
 use Rattle.penalty.specs.Answer.{with_penalty, penalty_answer, penalty_table}
 use Rattle.penalty.specs.Answer as Penalty
@@ -104,7 +104,7 @@ module _ (reg : Register) (highs : List ℤ) (ranged : List Bool) where
   higher = record reg { highs = highs; ranged = ranged }
 
   form_same : (sch : Scheme) → h (coefficient higher) higher sch ≡ h (coefficient reg) reg sch
-  unfolding h g weight
+  unfolding h g weight usage
   form_same sch = refl
 
   penalty_same : (sch : Scheme) (lent : List ℤ) → with_penalty higher sch lent ≡ with_penalty reg sch lent

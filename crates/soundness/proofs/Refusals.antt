@@ -97,27 +97,27 @@ register_whole t b reg e =
 abbrev before2 : (t : List ℕ) → Bytes t → (reg : Register) → open_register t ≡ accepts reg → Before2 t
 before2 t b reg e = let (v, x) = register_whole t b reg e in record { reg = reg; part_1 = record { conditions = v; bytes = x } }
 
-abbrev before3 : (t s : List ℕ) → Bytes t → (reg : Register) (sch : Scheme) → open_parts t s ≡ accepts (reg, sch) → Before3 t s
-before3 t s b reg sch e =
+abbrev before3 : (t s : List ℕ) → Bytes t → Bytes s → (reg : Register) (sch : Scheme) → open_parts t s ≡ accepts (reg, sch) → Before3 t s
+before3 t s b b' reg sch e =
     let o = opened t s reg sch e in
     record {
       reg = reg;
       sch = sch;
       part_1 = record { conditions = o.register_valid; bytes = register_bytes t s reg sch o b };
-      part_2 = record { conditions = o.scheme_valid; bytes = scheme_bytes t s reg sch o };
+      part_2 = record { conditions = o.scheme_valid; bytes = scheme_bytes t s reg sch o b' };
     }
 
 -- and the plan that chooses the coefficients
-abbrev before_chosen : (t s q : List ℕ) → Bytes t → Bytes q → (reg : Register) (sch : Scheme) (plan : ℕ) → open_chosen t s q ≡ accepts (reg, sch, plan) → WithPlan t s q
-before_chosen t s q b b' reg sch plan e =
+abbrev before_chosen : (t s q : List ℕ) → Bytes t → Bytes s → Bytes q → (reg : Register) (sch : Scheme) (plan : ℕ) → open_chosen t s q ≡ accepts (reg, sch, plan) → WithPlan t s q
+before_chosen t s q b b' b'' reg sch plan e =
     let o = chosen_opened t s q reg sch plan e in
     record {
       reg = reg;
       sch = sch;
       fed = plan;
       part_1 = record { conditions = o.parts.register_valid; bytes = register_bytes t s reg sch o.parts b };
-      part_2 = record { conditions = o.parts.scheme_valid; bytes = scheme_bytes t s reg sch o.parts };
-      choosing = choosing_of o b';
+      part_2 = record { conditions = o.parts.scheme_valid; bytes = scheme_bytes t s reg sch o.parts b' };
+      choosing = choosing_of o b'';
     }
 
 module _ (n part at : ℕ) where
@@ -143,7 +143,7 @@ module _ (n part at : ℕ) where
   in_chosen : (t s q : List ℕ) → Bytes t → Bytes s → Bytes q → open_chosen t s q ≡ refuses n part at → InRegister n part at t ⊎ (InScheme n part at t s ⊎ InChoosing n part at t s q)
   in_chosen t s q b b' b'' e =
       then_refuses (open_parts t s) _ e (λ x. ⊎_elim inl (λ r. inr (inl r)) (in_parts t s b b' x)) λ (reg, sch) x y.
-      then_refuses (open_plan reg q) _ y (λ z. inr (inr (in_choosing t s q b'' (before3 t s b reg sch x) z)))
+      then_refuses (open_plan reg q) _ y (λ z. inr (inr (in_choosing t s q b'' (before3 t s b b' reg sch x) z)))
       (λ plan z w. absurd (not_both (sym w)))
 
   in_cost : (t s : List ℕ) → Bytes t → Bytes s → cost_outcome t s ≡ refuses n part at → InRegister n part at t ⊎ InPlan n part at t s
@@ -252,7 +252,7 @@ plain_refusals t s q b b' b'' lent = go (open_chosen t s q) refl
     go (refuses n part at) e h = (refl, refl, ⊎_elim inl (λ r. inr (⊎_elim inl (λ r. inr (inl r)) r)) (in_chosen n part at t s q b b' b'' e))
     go (accepts (reg, sch, plan)) e h =
         let (z, u, r) = short_buffer (own_bytes reg sch plan) lent h in
-        (z, u, inr (inr (inr (record { before = before_chosen t s q b b'' reg sch plan e; buffer = r }))))
+        (z, u, inr (inr (inr (record { before = before_chosen t s q b b' b'' reg sch plan e; buffer = r }))))
 
 pub listing_refusals : (lines : PlanLines) → ListingRefusals lines (listing_with lines)
 unfolding answer_with listing_table buffer_with
@@ -308,7 +308,7 @@ module _ (t s k q : List ℕ) (b : Bytes t) (b' : Bytes s) (b'' : Bytes k) (b₄
       (a.bound ≡ pos 0) × ((InRegister a.number a.part a.position t × (table ≡ lent)) ⊎ ((InScheme a.number a.part a.position t s × (table ≡ lent)) ⊎
       ((InChoosing a.number a.part a.position t s q × (table ≡ lent)) ⊎ InCertificate a.number a.part a.position t s q k lent table)))
   first (refuses n part at) e d = (refl, ⊎_elim (λ r. inl (r, refl)) (λ r. inr (⊎_elim (λ r. inl (r, refl)) (λ r. inr (inl (r, refl))) r)) (in_chosen n part at t s q b b' b₄ e))
-  first (accepts (reg, sch, plan)) e d = let (z, r) = third (before_chosen t s q b b₄ reg sch plan e) (certificate_by_itself (chosen reg plan) reg sch k) refl d in (z, inr (inr (inr r)))
+  first (accepts (reg, sch, plan)) e d = let (z, r) = third (before_chosen t s q b b' b₄ reg sch plan e) (certificate_by_itself (chosen reg plan) reg sch k) refl d in (z, inr (inr (inr r)))
 
 pub check_refusals : CheckRefusals check_call
 unfolding check_answer check_table
@@ -457,13 +457,14 @@ module _ (s : List ℕ) (b : Bytes s) (n m k : ℕ) (lent table : List ℤ) wher
   by_scheme t from h f last ks front w e others =
       let reg = h.reg in
       let left = drop from s in
+      let d = bytes_drop from s b in
       let add = with_scheme (of_register reg) in
       by_part s last 2 from add (scheme_in_job reg left) ks n m k e
       (λ at x p q.
-      let r = (scheme_refused reg left (bytes_drop from s b) n at).0 x in
+      let r = (scheme_refused reg left d n at).0 x in
       inl (record { part_is = p; register = t; before = h; behind = behind s t from at k f q r; table_is = w ∙ ap (table_next s lent 2 from add front) x }))
       (λ read end x y.
-      let (encodes, l) = SA.bytes_accepted reg h.part_1.conditions left read end x in
+      let (encodes, l) = SA.bytes_accepted reg h.part_1.conditions left read end x d in
       let valid = (SA.valid_accepted reg h.part_1.conditions left read end x).0 in
       let g = further s t (take end left) from end f (sym (take-append-drop end left)) (length-take-le end left l) in
       inr (others (take end left) (from + end) read.parsed (record { conditions = valid; bytes = encodes }) g (w ∙ ap (table_next s lent 2 from add front) x) y))

@@ -115,7 +115,7 @@ module _ (t s k q : List ℕ) (lent : List ℤ) (e : (check_call t s k q lent).0
         accepted = parts_1_and_2;
         fed = c.plan;
         part_1 = λ b. record { conditions = o.parts.register_valid; bytes = register_bytes t s (register_of t) (scheme_of t s) o.parts b };
-        part_2 = record { conditions = o.parts.scheme_valid; bytes = scheme_bytes t s (register_of t) (scheme_of t s) o.parts };
+        part_2 = λ b. record { conditions = o.parts.scheme_valid; bytes = scheme_bytes t s (register_of t) (scheme_of t s) o.parts b };
         choosing = choosing_of o;
         no_other_plan = λ other p p₁ p₄.
             let same : other ≡ reg = ap (λ x. (register_answer x).register) (sym (R.encoding_accepted t other p₁.conditions p₁.bytes)) in

@@ -22,7 +22,7 @@ use Rattle.scheme.specs.Filling.{Filling, factor}
 use Rattle.scheme.specs.Scheme.{side}
 use Rattle.scheme.specs.Function.{g}
 use Rattle.penalty.specs.Carried.{carried}
-use Rattle.penalty.specs.Weights.{weight}
+use Rattle.penalty.specs.Weights.{usage, weight}
 use Rattle.penalty.specs.Penalty.{h}
 use Rattle.plain.specs.Plain.{half_row_sum, linear_left, subtracted_constant, plain}
 use Rattle.certificate.specs.Certificate.{Multiplier, Certificate}
@@ -88,7 +88,7 @@ module _ (c : ℕ → ℤ) (reg : Register) (sch : Scheme) where
   same_function = refl
 
   same_form : h c (without_rows reg) sch ≡ h c reg sch
-  unfolding h g weight
+  unfolding h g weight usage
   same_form = refl
 
   same_plain : plain c (without_rows reg) sch ≡ plain c reg sch

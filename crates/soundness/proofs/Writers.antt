@@ -27,6 +27,7 @@ use Rattle.scheme.proofs.Canonical.{canonical}
 use Rattle.scheme.proofs.Opened.{register_bytes, scheme_bytes, answer_opened}
 use Rattle.builder.specs.Builder.{Built, stopped, built, build}
 use Rattle.builder.specs.Answer.{built_room, built_answer, built_buffer}
+use Rattle.builder.proofs.Factor.{built_factor}
 use Rattle.builder.proofs.Validity.{build_valid, build_size}
 use Rattle.builder.proofs.Call as B
 use Rattle.plan.specs.Chosen.{chosen}
@@ -99,7 +100,7 @@ build_writes t reg sch o =
 built_part : (t : List ℕ) (reg : Register) (sch : Scheme) → OfBuild t reg sch → (lent : List ℕ) → (build_call t lent).0.number ≡ 0 → Part2 reg (front (build_call t lent)) sch
 built_part t reg sch o lent z = record {
   conditions = build_valid reg o.part_1.conditions sch o.builds;
-  bytes = rw (front_is (build_call t) (encode_scheme reg.choices sch) built_room (build_writes t reg sch o) lent z) (canonical reg sch);
+  bytes = rw (front_is (build_call t) (encode_scheme reg.choices sch) built_room (build_writes t reg sch o) lent z) (canonical reg sch (built_factor reg sch o.builds));
 }
 
 build_reads : (t : List ℕ) (reg : Register) (sch : Scheme) → OfBuild t reg sch → (lent : List ℕ) → (build_call t lent).0.number ≡ 0 → scheme_call t (front (build_call t lent)) ≡ scheme_accepted sch
@@ -176,8 +177,8 @@ module _ (t s q : List ℕ) (k : WithPlan t s q) where
         let a = acceptance.of_check in
         ap₂ (λ x y. (x, y)) (a.all t s _ q table _ l d) (a.table_back t s _ q table _ l d)
 
-plain_only : (t s q lent : List ℕ) → Bytes t → Bytes q → (plain_call t s q lent).0.number ≡ 0 → WithPlan t s q
-plain_only t s q lent b b' z =
+plain_only : (t s q lent : List ℕ) → Bytes t → Bytes s → Bytes q → (plain_call t s q lent).0.number ≡ 0 → WithPlan t s q
+plain_only t s q lent b b' b'' z =
     let w = P.call_reads t s q lent z in
     let o = w.opens.parts in
     record {
@@ -185,8 +186,8 @@ plain_only t s q lent b b' z =
       sch = w.sch;
       fed = w.plan;
       part_1 = record { conditions = o.register_valid; bytes = register_bytes t s _ _ o b };
-      part_2 = record { conditions = o.scheme_valid; bytes = scheme_bytes t s _ _ o };
-      choosing = choosing_of w.opens b';
+      part_2 = record { conditions = o.scheme_valid; bytes = scheme_bytes t s _ _ o b' };
+      choosing = choosing_of w.opens b'';
     }
 
 plain_keeps : (t s q : List ℕ) → KeepsRefused (plain_call t s q)

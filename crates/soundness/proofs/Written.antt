@@ -5,15 +5,14 @@ use mathlib.Core.Bool.{Bool, true, false}
 use mathlib.Core.List.{List, [], ◌∷◌, ◌++◌, append_assoc, append-nil, flat_map}
 use native.Mathlib.Omega.{arith}
 use lib.IntN.{ℤ}
-use lib.ListN.{get_or}
 use Prim.Native.Nat.{ℕ, zero, suc, ◌/◌}
 use native.Mathlib.Nat.{zero-lt-suc, mod-lt}
 use mir.Val.{of_z}
 use mir.Syntax.{w8}
 use borrow.Author.Tests.{eq-eqb}
-use Rattle.integers.specs.Lists.{join_below}
 use Rattle.integers.proofs.Lists.{All-append, All-join}
 use Rattle.wire.specs.Number.{Bytes, bytes_of}
+use Rattle.wire.proofs.Begins.{Other, join_other}
 use Rattle.register.specs.declared.Register.{Register}
 use Rattle.register.specs.Limits.{usual_day}
 use Rattle.register.specs.Register.{tank, minute, mask, coefficient, high, is_range, window_tank, window_from, window_to, row_total}
@@ -22,6 +21,7 @@ use Rattle.register.specs.Encoding.{row_list, Encodes, MasksNarrow, EncodedBy, e
 use Rattle.register.proofs.Canonical as R
 use Rattle.register.proofs.SaysWide.{unsaid_forms, writer_unsaid}
 use Rattle.scheme.proofs.Canonical as S
+use Rattle.scheme.proofs.Factors.{unsaid_iff, said_iff}
 use Rattle.plan.proofs.Accept as P
 use Rattle.soundness.specs.Written.{Written}
 
@@ -36,16 +36,8 @@ after_same reg same s = ⊎_elim (λ e. inl (e ∙ same _)) (λ (day, e). inr (d
 
 -- ---- without `18` a command of another byte stands where it would
 
-abbrev Other : List ℕ → Type 0
-Other s = get_or s 0 0 ≡ 0x18 → ⊥
-
-join_other : (f : ℕ → List ℕ) → ((i : ℕ) (rest : List ℕ) → Other (f i ++ rest)) → (n : ℕ) (rest : List ℕ) → Other rest → Other (join_below n f ++ rest)
-unfolding join_below
-join_other f h zero rest o = o
-join_other f h (suc n) rest o = rw append_assoc (join_other f h n (f n ++ rest) (h n rest))
-
 -- in each form of a term
-entry_other : (wide ranged : Bool) (m : ℕ) (a b : ℤ) (rest : List ℕ) → Other (encode_entry wide ranged m a b ++ rest)
+entry_other : (wide ranged : Bool) (m : ℕ) (a b : ℤ) (rest : List ℕ) → Other 0x18 (encode_entry wide ranged m a b ++ rest)
 unfolding encode_term encode_wide_term encode_range
 entry_other wide true m a b rest z = omega arith
 entry_other true false m a b rest z = omega arith
@@ -68,12 +60,12 @@ module _ (reg : Register) where
     without_other : SaysLength without_length → ⊥
     unfolding encode_base encode_window encode_choice encode_row bytes_of
     without_other (_, e) =
-        let one : Other (0x1F ∷ []) = λ z. omega arith in
+        let one : Other 0x18 (0x1F ∷ []) = λ z. omega arith in
         let o =
-        join_other (λ j. encode_window (window_tank reg j) (window_from reg j) (window_to reg j)) (λ i rest z. omega arith) reg.windows _
-        (join_other (λ i. encode_choice (tank reg i) (minute reg i)) (λ i rest z. omega arith) reg.choices _
-        (join_other (λ k. encode_row (row_total reg k) (row_list reg k)) (λ i rest z. omega arith) reg.rows _
-        (join_other (λ t. encode_entry (wide t) (is_range reg t) (mask reg t) (coefficient reg t) (high reg t)) (λ t. entry_other (wide t) (is_range reg t) (mask reg t) (coefficient reg t) (high reg t)) reg.terms _ one))) in
+        join_other 0x18 (λ j. encode_window (window_tank reg j) (window_from reg j) (window_to reg j)) (λ i rest z. omega arith) reg.windows _
+        (join_other 0x18 (λ i. encode_choice (tank reg i) (minute reg i)) (λ i rest z. omega arith) reg.choices _
+        (join_other 0x18 (λ k. encode_row (row_total reg k) (row_list reg k)) (λ i rest z. omega arith) reg.rows _
+        (join_other 0x18 (λ t. encode_entry (wide t) (is_range reg t) (mask reg t) (coefficient reg t) (high reg t)) (λ t. entry_other (wide t) (is_range reg t) (mask reg t) (coefficient reg t) (high reg t)) reg.terms _ one))) in
         o (simp append_assoc at e)
 
     says_by : (s : List ℕ) → EncodedBy wide reg s → SaysLength s ↔ (s ≡ with_length)
@@ -165,7 +157,9 @@ written = record {
   without_length = λ reg s v none no_length.
       let w = unsaid reg s v none no_length in
       ((λ x. let (narrow, day, e) = w.0 x in (narrow, day, e ∙ sym (usual_bytes reg day))), λ (narrow, day, e). w.1 (narrow, day, e ∙ usual_bytes reg day));
-  of_scheme = λ reg sch s. (S.only_canonical reg sch s, λ e. rw e (S.canonical reg sch));
+  of_scheme = λ reg sch s. S.encodes_forms reg sch s;
+  without_factor = unsaid_iff;
+  with_factor = said_iff;
   of_plan = P.encodings;
   plan_by_writer = P.canonical;
   narrow_plan = P.narrow_encodings;

@@ -142,7 +142,7 @@ pub record JobAcceptance (call : JobCall) : Type 0 where
 pub record PenaltyAcceptance (call : PenaltyCall) : Type 0 where
   pub all : (register scheme : List ℕ) (table : List ℤ) (sch : Scheme) → table_numbers ≤ length table → (p : OfScheme register scheme sch) →
       call register scheme table ≡ (record { number = 0; part = 0; position = 0 }, with_penalty p.reg sch table)
-  pub only : (register scheme : List ℕ) (table : List ℤ) → Bytes register → (call register scheme table).0.number ≡ 0 → (sch : Scheme) × OfScheme register scheme sch
+  pub only : (register scheme : List ℕ) (table : List ℤ) → Bytes register → Bytes scheme → (call register scheme table).0.number ≡ 0 → (sch : Scheme) × OfScheme register scheme sch
 
 -- a limit is asked that the visits do not pass: as many visits as the limit are accepted
 pub record SearchAcceptance (call : SearchCall) : Type 0 where

@@ -1,8 +1,8 @@
--- The calls before forty-eight choices, which had at most 32 choices, no `15` and no `41`. Parts 1, 2 and 4 were read as `BeforeWide` of their
--- crates has it, and the builder made products until it needed a 33rd. What the parts are, how part 3 is read and the forms of the answers
--- are those of today. The calls that are given parts by themselves answer and hand back what they did then, where part 1 says no `15` and no
--- 33rd choice and part 4, where they are given it, does not begin with `41`. Of the job call and the listing calls it is said how each part
--- of a job is read.
+-- The calls before forty-eight choices, which had at most 32 choices, no `15` and no `41`. Parts 1, 2 and 4 were read as `BeforeWide` of
+-- their crates has it, and the builder made products until it needed a 33rd. What the parts are, how part 3 is read and the forms of the
+-- answers are those of today, and so `23`, which came later, is read as today. The calls that are given parts by themselves answer and hand
+-- back what they did then, where part 1 says no `15` and no 33rd choice and part 4, where they are given it, does not begin with `41`. Of
+-- the job call and the listing calls it is said how each part of a job is read.
 use Rattle.std.specs.Prelude.{ℕ, ◌≤◌, ◌<◌, ◌≡◌, ◌↔◌, Bool, true, not, ◌&&◌, cond, List, ◌++◌, ltb, ℤ, length}
 use Rattle.integers.specs.Lists.{any_below}
 use Rattle.wire.specs.declared.WriterAnswer.{WriterAnswer}
@@ -106,8 +106,8 @@ search_before_wide register limit =
 abbrev pub SaysNoMore : List ℕ → Type 0
 SaysNoMore s = (SaysWide s → ⊥) × (SaysMoreChoices s → ⊥)
 
--- each call that is given part 1 by itself answers such bytes as it did, whether it accepts or refuses them, and leaves in the lent table or
--- buffer what it left. Where it is given part 4 too, this is said of a part 4 that does not begin with `41`
+-- each call that is given part 1 by itself answers such bytes as it did, whether it accepts or refuses them, and leaves in the lent table
+-- or buffer what it left. Where it is given part 4 too, this is said of a part 4 that does not begin with `41`
 pub record CallsAsBeforeWide (register_call : RegisterCall) (scheme_call : SchemeCall) (cost_call : CostCall) (penalty_call : PenaltyCall) (check_call : CheckCall) (plain_call : PlainCall) (build_call : BuildCall) (search_call : SearchCall) : Type 0 where
   pub registers : (register : List ℕ) → SaysNoMore register → register_call register ≡ register_answer (by_itself_before_wide register)
   pub schemes : (register scheme : List ℕ) → SaysNoMore register → scheme_call register scheme ≡ scheme_before_wide register scheme

@@ -1,6 +1,6 @@
 -- The terms of a register and the calls before registers had ranges: part 1 is read without `16`, each term has one coefficient, the plan
 -- is the last part of every job, and the check and our own certificate are given no plan. All else, among it what the parts are and the
--- forms of the answers, is what it was; `15`, `41` and more than 32 choices, which came later, are read as today.
+-- forms of the answers, is what it was; `15`, `41`, more than 32 choices and `23`, which came later, are read as today.
 use Rattle.std.specs.Prelude.{ℕ, ◌≤◌, ◌<◌, ◌^◌, false, cond, List, [], ◌∷◌, ltb, ℤ, pos, nat_abs, ◌-ℤ◌, length, drop, get_or, replicate}
 use Rattle.integers.specs.Lists.{Column, Table, join_below}
 use Rattle.wire.specs.declared.WriterAnswer.{WriterAnswer}

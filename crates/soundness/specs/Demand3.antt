@@ -154,7 +154,7 @@ module _ (penalty_call : PenaltyCall) (check_call : CheckCall) (plain_call : Pla
   -- each object of (a) and (b) is the one that the paper defines: parts 1 and 2, and the whole table
   pub record AsWritten (register scheme : List ℕ) (table : List ℤ) : Type 0 where
     pub part_1 : Part1 register (register_of register)
-    pub part_2 : Part2 (register_of register) scheme (scheme_of register scheme)
+    pub part_2 : Bytes scheme → Part2 (register_of register) scheme (scheme_of register scheme)
     pub penalty_accepted : (penalty_call register scheme table).0 ≡ record { number = 0; part = 0; position = 0 }
     pub penalty_form : table_back register scheme table ≡ with_penalty (register_of register) (scheme_of register scheme) table
 

@@ -1,8 +1,9 @@
--- What the calls are held to, each statement a predicate of any such calls: what they accept, what a refusal says, in which order
--- commands stand, what they write, demand 3, the bound in the relaxation, what a farm reads of a job, and what it is promised of
--- feeding windows, of the day's length, of the cheapest plan, of the rows that fix how many feedings there are and of what was before
--- there were any, of costs known within ranges and of what was before these, of forty-eight choices and of what was before these, of the
--- tallies of suppliers, and of what a supplier may read. Of no call: what the multiplier commands add and subtract.
+-- What the calls are held to, each statement a predicate of any such calls: what they accept, what a refusal says, in which order commands
+-- stand, what they write, demand 3, the bound in the relaxation, what a farm reads of a job, and what it is promised of feeding windows, of
+-- the day's length, of the cheapest plan, of the rows that fix how many feedings there are and of what was before there were any, of costs
+-- known within ranges and of what was before these, of forty-eight choices and of what was before these, of the factor of the weights and
+-- of what was before there was one, of the tallies of suppliers, and of what a supplier may read. Of no call: what the multiplier commands
+-- add and subtract.
 pub mod Calls
 pub mod Parts
 pub mod BeforeRanges
@@ -24,5 +25,7 @@ pub mod BeforeRowMultipliers
 pub mod PriceRanges
 pub mod MoreChoices
 pub mod BeforeMoreChoices
+pub mod HeavierPenalties
+pub mod BeforeFactors
 pub mod Suppliers
 pub mod SupplierListing

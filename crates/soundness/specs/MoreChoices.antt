@@ -14,10 +14,10 @@ use Rattle.register.specs.Outside.{EncodesChoices}
 use Rattle.register.specs.Answer.{refused_answer}
 use Rattle.plan.specs.Fits.{Fits}
 use Rattle.scheme.specs.declared.Scheme.{Scheme}
-use Rattle.scheme.specs.Scheme.{max_products, max_variables, variables, fresh}
+use Rattle.scheme.specs.Scheme.{max_products, max_variables, variables, initial}
 use Rattle.scheme.specs.Variables.{E}
 use Rattle.scheme.specs.Valid as S
-use Rattle.scheme.specs.Encoding.{encode_product, encode_products}
+use Rattle.scheme.specs.Encoding.{HeaderBytes, encode_product, encode_products}
 use Rattle.scheme.specs.Answer as SA
 use Rattle.builder.specs.Builder.{next, WithVariable, join_pair, stopped, built, build_from, build}
 use Rattle.job.specs.declared.Tally.{Tally}
@@ -48,23 +48,25 @@ pub record ChoiceTooMany (s : List ℕ) (at : ℕ) : Type 0 where
   pub bytes : s ≡ front ++ (encode_choice t m ++ rest)
   pub position : at ≡ length front
 
--- at a position of a run of bytes stands a product too many: before it stand products, all of them right, which are as many as there may be,
--- or with the choices as many variables as there may be, and after it whatever follows
+-- at a position of a run of bytes stands a product too many: before it stand a header and products, all of them right, which are as many as
+-- there may be, or with the choices as many variables as there may be, and after it whatever follows
 pub record ProductTooMany (reg : Register) (s : List ℕ) (at : ℕ) : Type 0 where
   pub before : Scheme
   pub within : S.Within reg before
   pub no_split : before.splits ≡ 0
   pub full : (before.products ≡ max_products) ⊎ (variables reg.choices before ≡ max_variables)
+  pub header : List ℕ
+  pub header_is : HeaderBytes before header
   pub l : ℕ
   pub r : ℕ
   pub rest : List ℕ
-  pub bytes : s ≡ encode_products reg.choices before ++ (encode_product l r ++ rest)
-  pub position : at ≡ length (encode_products reg.choices before)
+  pub bytes : s ≡ header ++ encode_products reg.choices before ++ (encode_product l r ++ rest)
+  pub position : at ≡ length (header ++ encode_products reg.choices before)
 
--- the answer for a job that is refused 3 in this part at this position of it
-abbrev pub job_too_many : ℕ → ℕ → ℕ → Tally → JobAnswer
-job_too_many part position supplier tally =
-    record { number = 3; part = part; position = position; bound = pos 0; cost = pos 0; gap = pos 0; tally = moved with_refused supplier tally }
+-- the answer for a job that is refused with this number in this part at this position of it
+abbrev pub job_refused : (number part position supplier : ℕ) → Tally → JobAnswer
+job_refused number part position supplier tally =
+    record { number = number; part = part; position = position; bound = pos 0; cost = pos 0; gap = pos 0; tally = moved with_refused supplier tally }
 
 pub record CountsKept (register_call : RegisterCall) (scheme_call : SchemeCall) (job_call : JobCall) : Type 0 where
   -- an accepted register has at most 48 choices, and no term names another
@@ -74,7 +76,7 @@ pub record CountsKept (register_call : RegisterCall) (scheme_call : SchemeCall) 
   -- a choice more is refused 3 at its command, whatever it is
   pub choice_too_many : (register : List ℕ) (at : ℕ) → ChoiceTooMany register at → register_call register ≡ refused_answer 3 at
   pub choice_too_many_in_job : (job : List ℕ) (table : List ℤ) (supplier : ℕ) (tally : Tally) (at : ℕ) → supplier < suppliers → table_numbers ≤ length table →
-      ChoiceTooMany job at → (job_call job table supplier tally).0 ≡ job_too_many 1 at supplier tally
+      ChoiceTooMany job at → (job_call job table supplier tally).0 ≡ job_refused 3 1 at supplier tally
   -- an accepted scheme has at most 32 products, and with the choices at most 64 variables
   pub products_few : (register scheme : List ℕ) → (scheme_call register scheme).number ≡ 0 →
       ((scheme_call register scheme).scheme.products ≤ max_products) × (variables (register_call register).register.choices (scheme_call register scheme).scheme ≤ max_variables)
@@ -83,7 +85,7 @@ pub record CountsKept (register_call : RegisterCall) (scheme_call : SchemeCall) 
       scheme_call register scheme ≡ SA.refused_answer 3 2 at
   pub product_too_many_in_job : (job : List ℕ) (table : List ℤ) (supplier : ℕ) (tally : Tally) (register rest : List ℕ) (reg : Register) (at : ℕ) →
       supplier < suppliers → table_numbers ≤ length table → Part1 register reg → job ≡ register ++ rest → ProductTooMany reg rest at →
-      (job_call job table supplier tally).0 ≡ job_too_many 2 (length register + at) supplier tally
+      (job_call job table supplier tally).0 ≡ job_refused 3 2 (length register + at) supplier tally
 
 -- ---- the builder, of no call in particular: `InTerm` in `Refusals` and `BuildWrites` in `Writers` say what the call makes of this
 
@@ -97,7 +99,7 @@ pub data Joined (n : ℕ) (from : Scheme) : Scheme → Type 0 where
 -- have a union that is the set of no variable, so they need a product more
 pub record FullAt (reg : Register) (t : ℕ) : Type 0 where
   pub before : Scheme
-  pub builds : build_from reg t 0 fresh ≡ built before
+  pub builds : build_from reg t 0 initial ≡ built before
   pub sch : Scheme
   pub joins : Joined reg.choices before sch
   pub within : S.Within reg sch

@@ -3,16 +3,17 @@
 use Rattle.std.specs.Prelude.{List, [], ◌∷◌}
 use Rattle.register.specs.declared.Register.{Register}
 use Rattle.register.specs.Format.{register_rows}
-use Rattle.register.specs.Order.{Group, once, any_number, InOrder, register_order}
+use Rattle.register.specs.Order.{Group, once, at_most_once, any_number, InOrder, register_order}
 use Rattle.scheme.specs.declared.Scheme.{Scheme}
 use Rattle.scheme.specs.Format.{scheme_rows}
 use Rattle.certificate.specs.Format.{certificate_rows}
 use Rattle.plan.specs.Format.{plan_rows}
 
--- part 2: each `21`, each `22`, `2F`
+-- part 2: `23` at most once, each `21`, each `22`, `2F`
 abbrev pub scheme_order : List Group
 scheme_order =
-    record { often = any_number; bytes = 0x21 ∷ [] }
+    record { often = at_most_once; bytes = 0x23 ∷ [] }
+    ∷ record { often = any_number; bytes = 0x21 ∷ [] }
     ∷ record { often = any_number; bytes = 0x22 ∷ [] }
     ∷ record { often = once; bytes = 0x2F ∷ [] }
     ∷ []

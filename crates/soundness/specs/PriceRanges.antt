@@ -125,8 +125,8 @@ pub record RangesKept (register_call : RegisterCall) (cost_call : CostCall) (che
   pub plan_unread : (register scheme certificate plan other : List ℕ) (table : List ℤ) → has_range (register_call register).register ≡ false →
       check_call register scheme certificate plan table ≡ check_call register scheme certificate other table
   pub plan_unread_own : (register scheme plan other lent : List ℕ) → has_range (register_call register).register ≡ false → plain_call register scheme plan lent ≡ plain_call register scheme other lent
-  -- bytes that say no range are answered as they were, accepted or refused, with no range, and with every plan; but for `15`, `41` and more
-  -- than 32 choices, which came later and are read as today
+  -- bytes that say no range are answered as they were, accepted or refused, with no range, and with every plan; but for `15`, `41`,
+  -- more than 32 choices and `23`, which came later and are read as today
   pub register_as_before : (register : List ℕ) → (SaysRange register → ⊥) →
       (register_call register ≡ register_answer (by_itself_before_ranges register)) × (without_ranges (register_call register).register ≡ (register_call register).register)
   pub cost_as_before : (register plan : List ℕ) → (SaysRange register → ⊥) → cost_call register plan ≡ cost_before_ranges register plan

@@ -33,7 +33,7 @@ pub record ProvesRelaxed (c : Register → ℕ → ℤ) (register scheme certifi
 pub record CheckedRelaxed (register scheme certificate plan : List ℕ) (b : ℤ) : Type 0 where
   pub accepted : Accepted register scheme
   pub part_1 : Bytes register → Part1 register (register_of register)
-  pub part_2 : Part2 (register_of register) scheme (scheme_of register scheme)
+  pub part_2 : Bytes scheme → Part2 (register_of register) scheme (scheme_of register scheme)
   -- this plan chooses, and no other
   pub fed : ℕ
   pub choosing : Bytes plan → Choosing (register_of register) plan fed

@@ -85,7 +85,7 @@ pub record PlainWrites (plain_call : PlainCall) (check_call : CheckCall) : Type 
       check_call register scheme (front (plain_call register scheme plan lent)) plan table
       ≡ (check_accepted (bound (own_certificate k.reg k.sch k.fed)), with_r (chosen k.reg k.fed) k.reg k.sch (own_certificate k.reg k.sch k.fed) table)
   -- 0 is answered for no other parts
-  pub only : (register scheme plan lent : List ℕ) → Bytes register → Bytes plan → (plain_call register scheme plan lent).0.number ≡ 0 → WithPlan register scheme plan
+  pub only : (register scheme plan lent : List ℕ) → Bytes register → Bytes scheme → Bytes plan → (plain_call register scheme plan lent).0.number ≡ 0 → WithPlan register scheme plan
   pub keeps : (register scheme plan : List ℕ) → KeepsRefused (plain_call register scheme plan)
 
 -- ---- a job of what these two write

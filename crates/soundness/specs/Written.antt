@@ -1,7 +1,8 @@
--- The encodings of parts 1, 2 and 4, byte by byte. Part 2 has one, which is the writer's. Part 1 has one for each choice of forms: the day's
--- length, where it is the usual one, is said or not, and each term without a range is said by `15` or, where its mask is narrow, by `12`. Part 4
--- has two where the plan is narrow, else one. In part 3 commands may stand in any order, and its encodings are defined byte by byte.
-use Rattle.std.specs.Prelude.{ℕ, ◌≤◌, ◌≡◌, ◌⊎◌, ◌↔◌, Bool, false, List}
+-- The encodings of parts 1, 2 and 4, byte by byte. Part 2 has one with `23`, and where the factor is 1 one without it too, as the builder
+-- writes it. Part 1 has one for each choice of forms: the day's length, where it is the usual one, is said or not, and each term without a
+-- range is said by `15` or, where its mask is narrow, by `12`. Part 4 has two where the plan is narrow, else one. In part 3 commands may
+-- stand in any order, and its encodings are defined byte by byte.
+use Rattle.std.specs.Prelude.{ℕ, ◌≤◌, ◌≡◌, ◌⊎◌, ◌↔◌, Bool, false, List, ◌++◌}
 use Rattle.register.specs.declared.Register.{Register}
 use Rattle.register.specs.Limits.{usual_day, narrow_choices}
 use Rattle.register.specs.Valid as R
@@ -31,7 +32,11 @@ pub record Written : Type 0 where
   -- and where they say no length either, it is the writer's, as it was before there were day lengths
   pub without_length : (reg : Register) (register : List ℕ) → R.Valid reg → (SaysWide register → ⊥) → (SaysLength register → ⊥) →
       RE.Encodes reg register ↔ (MasksNarrow reg × (reg.day_length ≡ usual_day) × (register ≡ RE.encode_register reg))
-  pub of_scheme : (reg : Register) (sch : Scheme) (scheme : List ℕ) → SE.Encodes reg sch scheme ↔ (scheme ≡ SE.encode_scheme reg.choices sch)
+  pub of_scheme : (reg : Register) (sch : Scheme) (scheme : List ℕ) → SE.Encodes reg sch scheme ↔ SE.EncodedBy reg.choices sch scheme
+  -- bytes that do not begin with `23`, as before there was one
+  pub without_factor : (reg : Register) (sch : Scheme) (scheme : List ℕ) → (SE.SaysFactor scheme → ⊥) → SE.Encodes reg sch scheme ↔ ((sch.factor ≡ 1) × (scheme ≡ SE.encode_scheme reg.choices sch))
+  -- and those that do
+  pub with_factor : (reg : Register) (sch : Scheme) (scheme : List ℕ) → SE.SaysFactor scheme → SE.Encodes reg sch scheme ↔ (scheme ≡ SE.encode_factor sch.factor ++ SE.encode_scheme reg.choices sch)
   pub of_plan : (reg : Register) (fed : ℕ) (plan : List ℕ) → PE.Encodes reg fed plan ↔ ((Narrow fed × (plan ≡ PE.encode_narrow_plan fed)) ⊎ (plan ≡ PE.encode_wide_plan fed))
   pub plan_by_writer : (reg : Register) (fed : ℕ) → PE.Encodes reg fed (PE.encode_plan fed)
   -- bytes that do not begin with `41`, as before there was one

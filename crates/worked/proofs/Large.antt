@@ -142,6 +142,7 @@ large_scheme = record {
   rights = 47 ∷ replicate (max_products - 1) 0;
   split_lefts = 0 ∷ 40 ∷ 46 ∷ 45 ∷ replicate (max_terms - 4) 0;
   split_rights = 0 ∷ 40 ∷ 47 ∷ 48 ∷ replicate (max_terms - 4) 0;
+  factor = 1;
 }
 
 pub large_scheme_read : scheme_answer large_register large_scheme_bytes ≡ record { number = 0; part = 0; position = 0; scheme = large_scheme }
@@ -167,6 +168,7 @@ paired_scheme = record {
   rights = join_below 16 (λ i. (17 + 2 * i) ∷ []) ++ replicate (max_products - 16) 0;
   split_lefts = 0 ∷ 40 ∷ 63 ∷ 45 ∷ replicate (max_terms - 4) 0;
   split_rights = 0 ∷ 40 ∷ 63 ∷ 63 ∷ replicate (max_terms - 4) 0;
+  factor = 1;
 }
 
 -- they are accepted, and after them a 17th product, of the choices 0 and 1, is refused

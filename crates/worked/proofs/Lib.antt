@@ -7,3 +7,4 @@ pub mod Full
 pub mod Prices
 pub mod Table
 pub mod Large
+pub mod Heavier

@@ -85,6 +85,7 @@ triangle_parts = record {
     rights = 1 ∷ 2 ∷ 2 ∷ replicate 29 0;
     split_lefts = 0 ∷ 1 ∷ 3 ∷ 2 ∷ 4 ∷ 5 ∷ replicate 250 0;
     split_rights = 0 ∷ 1 ∷ 3 ∷ 2 ∷ 4 ∷ 5 ∷ replicate 250 0;
+    factor = 1;
   };
   certificate = record {
     scale = 8;
@@ -121,6 +122,7 @@ product_parts = record {
     rights = 1 ∷ replicate 31 0;
     split_lefts = 0 ∷ 1 ∷ 2 ∷ replicate 253 0;
     split_rights = 0 ∷ 1 ∷ 2 ∷ replicate 253 0;
+    factor = 1;
   };
   certificate = record { scale = 1; target = negsuc 0; multipliers = command 0x37 2 1 ∷ []; squares = [] };
   plan = 1;

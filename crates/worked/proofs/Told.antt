@@ -83,6 +83,7 @@ scheme = record {
   rights = replicate 32 0;
   split_lefts = replicate 256 0;
   split_rights = replicate 256 0;
+  factor = 1;
 }
 
 abbrev parts : (tank coefficient : ℕ) → Parts
