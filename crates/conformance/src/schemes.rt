@@ -1,4 +1,5 @@
-// scheme.txt: name REG SCH | number part position n p m, then p times: l r set, then m times: l r.
+// scheme.txt: name REG SCH | number part position n p m, then p times: l r set, then m times: l r, then the
+// factor.
 use crate::answers::{listed, refusal};
 use register::{Register, feedcheck_register};
 use scheme::{Scheme, feedcheck_scheme};
@@ -58,5 +59,6 @@ pub fn agrees(mut fields: Fields) -> Result<(), Differs> {
     fields.is(scheme.splits)?;
     products(&mut fields, choices, scheme)?;
     splits(&mut fields, scheme)?;
+    fields.is(scheme.factor)?;
     fields.end()
 }
