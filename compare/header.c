@@ -1,6 +1,6 @@
 // The example of the scope through include/feedcheck.h, every call, a register with windows, days of each length, a register with
-// rows, one with ranges, one of 48 choices, a tally of several suppliers, what a supplier may read, the names and sentences of the
-// refusals, and the version. Prints a line and exits 1 where an answer is another than the scope's.
+// rows, one with ranges, one of 48 choices, a scheme with factors, a tally of several suppliers, what a supplier may read, the names
+// and sentences of the refusals, and the version. Prints a line and exits 1 where an answer is another than the scope's.
 #include <stddef.h>
 #include <stdio.h>
 #include <string.h>
@@ -253,6 +253,52 @@ static void try_wide(int64_t *table) {
     expect("a 65th variable", w.number == 10 && w.part == 1 && w.position == ALL_CHOICES && w.count == 0);
 }
 
+// The example's scheme, with a factor before the byte at this place, and what the scheme reader answers to it.
+static uint8_t factor_scheme[3 + SCHEME];
+
+static FeedcheckSchemeAnswer with_factor(unsigned factor, size_t place) {
+    memcpy(factor_scheme, JOB + REGISTER, place);
+    factor_scheme[place] = 0x23;
+    put(factor_scheme + place + 1, factor, 2);
+    memcpy(factor_scheme + place + 3, JOB + REGISTER + place, SCHEME - place);
+    return feedcheck_scheme(JOB, REGISTER, factor_scheme, sizeof factor_scheme);
+}
+
+static int factor_refused(FeedcheckSchemeAnswer b, unsigned number, size_t position) {
+    return b.number == number && b.part == 2 && b.position == position && b.scheme.products == 0 && b.scheme.factor == 0;
+}
+
+// Both products of the example have the weight 5; the term of all choices is variable 4.
+static int heavier(unsigned factor, int64_t *table) {
+    const int64_t weight = 5 * (int64_t)factor;
+    FeedcheckPenaltyAnswer p = feedcheck_penalty(JOB, REGISTER, factor_scheme, sizeof factor_scheme, table, FEEDCHECK_TABLE_NUMBERS);
+    return p.number == 0 && table[0] == 20 && table[1] == -6 && table[4] == 3 * weight && table[5] == 3 * weight + 5 &&
+           table[8] == weight && table[10] == -2 * weight;
+}
+
+static void try_factors(int64_t *table) {
+    static const unsigned RIGHT[3] = {1, 2, FEEDCHECK_MAX_FACTOR}, WRONG[3] = {0, FEEDCHECK_MAX_FACTOR + 1, 65535};
+    FeedcheckSchemeAnswer b = feedcheck_scheme(JOB, REGISTER, JOB + REGISTER, SCHEME);
+    expect("factors, not said", b.number == 0 && b.scheme.factor == 1);
+    for (int i = 0; i < 3; i++) {
+        b = with_factor(RIGHT[i], 0);
+        expect("factors", b.number == 0 && b.scheme.factor == RIGHT[i] && b.scheme.products == 2 && b.scheme.split_lefts[2] == 4);
+        expect("factors, penalty", heavier(RIGHT[i], table));
+        expect("factors, out of range", factor_refused(with_factor(WRONG[i], 0), 4, 0));
+        expect("factors, after a product", factor_refused(with_factor(RIGHT[i], 3), 1, 3));
+        expect("factors, after the splits", factor_refused(with_factor(WRONG[i], SCHEME - 1), 1, SCHEME - 1));
+        const uint8_t twice[6] = {0x23, 2, 0, 0x23, (uint8_t)RIGHT[i], (uint8_t)(RIGHT[i] >> 8)};
+        expect("factors, a second one", factor_refused(feedcheck_scheme(JOB, REGISTER, twice, sizeof twice), 1, 3));
+    }
+    with_factor(2, 0);
+    expect("factors, cut", factor_refused(feedcheck_scheme(JOB, REGISTER, factor_scheme, 2), 2, 0));
+    FeedcheckCheckAnswer k = feedcheck_check(JOB, REGISTER, factor_scheme, sizeof factor_scheme, JOB + REGISTER + SCHEME, CERTIFICATE,
+                                             JOB, 0, table, FEEDCHECK_TABLE_NUMBERS);
+    expect("factors, check", k.number == 0 && k.bound == 0 && table[0] == 0);
+    // The places that docs/LINKING.md speaks of.
+    expect("factors, record", sizeof b == 616 && sizeof b.scheme == 600 && offsetof(FeedcheckScheme, factor) == 592);
+}
+
 // Unequal counters; those of supplier 15 are at the top and one below it.
 static FeedcheckTally unequal(void) {
     FeedcheckTally tally;
@@ -389,6 +435,7 @@ int main(void) {
     try_rows();
     try_ranges(table);
     try_wide(table);
+    try_factors(table);
     // The places that docs/LINKING.md speaks of.
     expect("record", sizeof a == 5256 && sizeof a.reg == 5240 && offsetof(FeedcheckRegister, day_length) == 4 &&
                          offsetof(FeedcheckRegister, choices) == 8 && offsetof(FeedcheckRegister, masks) == 216);
@@ -433,8 +480,8 @@ int main(void) {
     try_refusals();
     try_version();
     if (!failed)
-        printf("header %s: the example, the windows, the days, the rows, the ranges, the 48 choices, the suppliers and their listing "
-               "are answered as the scope says, and each refusal has its name and sentence\n",
+        printf("header %s: the example, the windows, the days, the rows, the ranges, the 48 choices, the factors, the suppliers and "
+               "their listing are answered as the scope says, and each refusal has its name and sentence\n",
                FEEDCHECK_VERSION);
     return failed;
 }

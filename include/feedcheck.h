@@ -9,7 +9,8 @@
  *                of day outside of which a tank must not be fed, rows, which fix totals ("this tank exactly four times"), and the
  *                length of the day.
  *   scheme       Part 2: further variables beside the choices, each of them the product of two others, and for each term its
- *                split, the two variables whose product it is. So the cost becomes a polynomial of degree 2.
+ *                split, the two variables whose product it is. So the cost becomes a polynomial of degree 2. There may be a factor
+ *                that makes the penalty form heavier.
  *   certificate  Part 3: whole numbers which show that no plan that fits costs less than a bound. The check adds them up.
  *   plan         Part 4: which choices are fed. It costs the register's base cost and the coefficients of all terms whose choices
  *                are all fed, of a range the high one. It fits where the total of each row comes out; in a register without rows
@@ -64,9 +65,9 @@ extern "C" {
  * is that of the last change that users asked for (docs/changes/R-NUMBER.md), and the patch number counts what came after it.
  * Before 1.0 a new minor number may change calls and records, a new patch number does not. docs/LINKING.md tells what a program
  * must change, under "Programs compiled with an earlier header". */
-#define FEEDCHECK_VERSION "0.10.0"
+#define FEEDCHECK_VERSION "0.11.0"
 #define FEEDCHECK_VERSION_MAJOR 0
-#define FEEDCHECK_VERSION_MINOR 10
+#define FEEDCHECK_VERSION_MINOR 11
 #define FEEDCHECK_VERSION_PATCH 0
 
 enum {
@@ -77,6 +78,7 @@ enum {
     FEEDCHECK_ROW_ENTRIES = 32,     /* entries of a row, for choices 0 to 31; choices from 32 on are in no row */
     FEEDCHECK_MAX_PRODUCTS = 32,    /* the most products of a scheme, */
     FEEDCHECK_MAX_VARIABLES = 64,   /* and variables, choices and products together, so fewer products of more than 32 choices */
+    FEEDCHECK_MAX_FACTOR = 1000,    /* the largest factor of a scheme */
     FEEDCHECK_SHORT_DAY = 1380,     /* the lengths of a day in minutes: when the clocks go forward, */
     FEEDCHECK_USUAL_DAY = 1440,     /* when they are left alone, and where a register says no length, */
     FEEDCHECK_LONG_DAY = 1500,      /* when they go back */
@@ -84,8 +86,8 @@ enum {
     FEEDCHECK_MAX_BUILT = 865,      /* a buffer of so many bytes is enough for every scheme that is built, */
     FEEDCHECK_MAX_PLAIN = 1294,     /* for every certificate that feedcheck_plain writes, */
     FEEDCHECK_MAX_LISTING = 4096,   /* for every listing, the farm's and the supplier's */
-    FEEDCHECK_MAX_JOB = 27097,      /* no job of more bytes is accepted */
-    FEEDCHECK_MAX_JOB_READ = 27231  /* a longer job is answered as its first so many bytes are */
+    FEEDCHECK_MAX_JOB = 27100,      /* no job of more bytes is accepted */
+    FEEDCHECK_MAX_JOB_READ = 27234  /* a longer job is answered as its first so many bytes are */
 };
 
 /* How many suppliers a tally counts apart; their numbers begin at 0. A macro, so that #ifdef tells headers without suppliers. */
@@ -205,11 +207,14 @@ static inline bool feedcheck_has_range(const FeedcheckRegister *reg) {
  * operands are 1, which are the variables lefts[k] and rights[k], with lefts[k] < rights[k] < n + k. n and products together are at
  * most FEEDCHECK_MAX_VARIABLES.
  * There are as many splits as the register has terms. Term number t is the product of the variables split_lefts[t] and
- * split_rights[t], the left at most the right; where they are the same it is that variable. Entries past the counts are 0. */
+ * split_rights[t], the left at most the right; where they are the same it is that variable. Entries past the counts are 0.
+ * factor, 1 to FEEDCHECK_MAX_FACTOR, is what the weights of the penalty form are multiplied by (feedcheck_penalty): 1 where the
+ * scheme says none, and 0 on a refusal. Nothing else depends on it. */
 typedef struct {
     size_t products, splits;
     uint8_t lefts[FEEDCHECK_MAX_PRODUCTS], rights[FEEDCHECK_MAX_PRODUCTS];
     uint8_t split_lefts[FEEDCHECK_MAX_TERMS], split_rights[FEEDCHECK_MAX_TERMS];
+    uint16_t factor;
 } FeedcheckScheme;
 
 /* How many jobs of one supplier were accepted and refused; each count stays at 4,294,967,295. */
@@ -294,8 +299,8 @@ FeedcheckRegisterAnswer feedcheck_register(const uint8_t *reg, size_t reg_length
  * range, part 4. libscheme.a */
 FeedcheckSchemeAnswer feedcheck_scheme(const uint8_t *reg, size_t reg_length, const uint8_t *scheme, size_t scheme_length);
 
-/* Builds a scheme of a register and writes its bytes. Refused 10, in part 1 at the command of the term, where a term needs a 33rd
- * product, or one that is the 65th variable. libbuilder.a */
+/* Builds a scheme of a register and writes its bytes; it says no factor, so that its factor is 1. Refused 10, in part 1 at the
+ * command of the term, where a term needs a 33rd product, or one that is the 65th variable. libbuilder.a */
 FeedcheckWriterAnswer feedcheck_build(const uint8_t *reg, size_t reg_length, uint8_t *buffer, size_t buffer_length);
 
 /* The cost of a plan, the bytes of part 4, of a range with the high coefficient. Refused 15, at the plan's command, where the plan
@@ -312,8 +317,13 @@ FeedcheckSearchAnswer feedcheck_search(const uint8_t *reg, size_t reg_length, ui
 /* Leaves the penalty form in the table, a function of the scheme's variables for solvers that take no conditions. Where every
  * product is 1 just where both its operands are, the function is the cost of the plan that feeds the choices which are 1; its least
  * value over all 0s and 1s is the least cost. Where the register has rows, the least value over those whose choices fit is the
- * least cost of the plans that fit. Costs here are those with the low coefficients of ranges. On a refusal the table stays as it
- * was. libpenalty.a */
+ * least cost of the plans that fit. Costs here are those with the low coefficients of ranges.
+ * The weight of a product is the sum of the absolute values of the coefficients, of ranges the low ones, of the terms that use it,
+ * multiplied by the scheme's factor. A term uses the products of its split, their operands that are products, and so on down. The
+ * higher the factor, the higher is the function where a product of weight above 0 is not that of its operands; elsewhere it is the
+ * same. Its least value is the same with any factor. With a factor of 2 or more, all 0s and 1s that reach it and whose choices fit
+ * have each product of weight above 0 equal to the product of its operands; with 1 others may reach it too.
+ * On a refusal the table stays as it was. libpenalty.a */
 FeedcheckPenaltyAnswer feedcheck_penalty(const uint8_t *reg, size_t reg_length, const uint8_t *scheme, size_t scheme_length,
                                          int64_t *table, size_t table_length);
 

@@ -18,7 +18,7 @@ import sys
 sys.dont_write_bytecode = True
 
 from command_line import expect, files, put, read, run, say, tally
-from job_text import COMMANDS, DAYS, ROW, SQUARE, TEXT, USUAL_DAY, is_text, operands, size
+from job_text import COMMANDS, DAYS, MOST_FACTOR, ROW, SQUARE, TEXT, USUAL_DAY, is_text, operands, size
 
 
 class Refused(Exception):
@@ -102,26 +102,37 @@ class Job:
 
     def scheme(self):
         self.sets = [1 << i for i in range(len(self.choices))]
-        self.products, self.splits = {}, []
+        self.factor, self.products, self.splits = 1, {}, []
+        at_front = [0x23]  # what may stand only at the front
         while True:
-            byte, v = self.take(*([0x22, 0x2F] if self.splits else [0x21, 0x22, 0x2F]))
-            if byte == 0x2F:
+            before_splits = [] if self.splits else [0x21]
+            byte, v = self.take(0x22, 0x2F, *at_front, *before_splits)
+            at_front = []
+            if byte == 0x23:
+                self.need(1 <= v["factor"] <= MOST_FACTOR, 4)
+                self.factor = v["factor"]
+            elif byte == 0x2F:
                 self.need(len(self.splits) == len(self.terms), 3)
                 return
-            l, r, k = v["l"], v["r"], len(self.sets)
-            if byte == 0x21:
-                self.need(len(self.products) < 32 and k < 64, 3)
-                self.need(l < k and r < k, 5)
-                self.need(l < r, 6)
-                self.need(self.sets[l] | self.sets[r] not in self.sets, 8)
-                self.sets.append(self.sets[l] | self.sets[r])
-                self.products[k] = l, r
+            elif byte == 0x21:
+                self.product(v["l"], v["r"], len(self.sets))
             else:
-                self.need(len(self.splits) < len(self.terms), 3)
-                self.need(l < k and r < k, 5)
-                self.need(l <= r, 6)
-                self.need(self.sets[l] | self.sets[r] == self.terms[len(self.splits)][0], 8)
-                self.splits.append((l, r))
+                self.split(v["l"], v["r"])
+
+    def product(self, l, r, k):
+        self.need(len(self.products) < 32 and k < 64, 3)
+        self.need(l < k and r < k, 5)
+        self.need(l < r, 6)
+        self.need(self.sets[l] | self.sets[r] not in self.sets, 8)
+        self.sets.append(self.sets[l] | self.sets[r])
+        self.products[k] = l, r
+
+    def split(self, l, r):
+        self.need(len(self.splits) < len(self.terms), 3)
+        self.need(l < len(self.sets) and r < len(self.sets), 5)
+        self.need(l <= r, 6)
+        self.need(self.sets[l] | self.sets[r] == self.terms[len(self.splits)][0], 8)
+        self.splits.append((l, r))
 
     def form(self, byte, v):
         """The form of a command `31` to `39`, after its checks: c times the factors of places p and q, for each (p, q, c)."""

@@ -6,7 +6,7 @@ import sys
 
 TROUBLE, INTERRUPTED = 2, 130
 # the names of words that may be `-`, standard input
-FROM_INPUT = ("LINES",)
+FROM_INPUT = ("LINES", "BITS")
 
 
 class Trouble(Exception):

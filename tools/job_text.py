@@ -58,6 +58,7 @@ COMMANDS = {
     0x1F: (1, "end", []),
     0x21: (2, "product", [("l", U8), ("r", U8)]),
     0x22: (2, "split", [("l", U8), ("r", U8)]),
+    0x23: (2, "weights", [("factor", U16)]),
     0x2F: (2, "end", []),
     0x30: (3, "scale", [("s", U32), ("T", I64)]),
     0x31: (3, "add", [("i", U8), ("m", I64)]),
@@ -87,6 +88,8 @@ ENDS = {1: (0x1F,), 2: (0x2F,), 3: (0x3F,), 4: (0x40, 0x41)}
 PARTS = {1: "register", 2: "scheme", 3: "certificate", 4: "plan"}
 # the choices of a register, whose fed ones have a bit each in the plan's mask
 MOST_CHOICES = 48
+# the largest factor of a scheme's weights
+MOST_FACTOR = 1_000
 # what looks like a minus sign and is none in a number here
 NO_MINUS = "\u2010\u2011\u2012\u2013\u2014\u2015\u207b\u2212\u2796\ufe58\ufe63\uff0d"
 
@@ -258,6 +261,8 @@ class Meaning:
             self.splits += 1
             said = f"term {self.splits - 1} = {product_of(v['l'], v['r'])}"
             return said if self.is_apart else f"{said}: {choices_of(self.union(v['l'], v['r']))}"
+        if byte == 0x23 and (before is None or before == 0x1F):
+            return f"all weights times {v['factor']}" if 1 <= v["factor"] <= MOST_FACTOR else ""
         if byte == 0x30:
             return f"bound {-(-v['T'] // v['s'])}" if v["s"] else ""
         if 0x31 <= byte <= 0x39:

@@ -1,14 +1,15 @@
 #!/usr/bin/env python3
-"""Says which lines of a folder of vectors do not hold, by the scope paper and the requests as check_job.py and cheapest.py read them:
+"""Says which lines of a folder of vectors do not hold, by the scope paper and the requests as check_job.py, cheapest.py and
+penalty_qubo.py read them:
 
     tools/kept_vectors.py FOLDER    FOLDER is crates/conformance/data/kept, or another with files of vectors
 
 Each line that does not hold is printed, by its file and its name. Where a request alters answers, change check_job.py first: the lines
 that are printed then are those that the request alters.
 
-Judged are all lines of register.txt, scheme.txt, cost.txt, check.txt, job.txt, listing.txt, supplier.txt, search.txt and feedcheck.txt.
-There is no second opinion on what build, penalty and plain write. Of build.txt, penalty.txt and plain.txt what is refused in the parts
-that the call reads, or for a table, is judged, and the other lines are counted as not judged. Other files are passed over.
+Judged are all lines of register.txt, scheme.txt, cost.txt, penalty.txt, check.txt, job.txt, listing.txt, supplier.txt, search.txt and
+feedcheck.txt. There is no second opinion on what build and plain write. Of build.txt and plain.txt what is refused in the parts that the
+call reads, or for a table, is judged, and the other lines are counted as not judged. Other files are passed over.
 
 The exit status is 0 where all lines that are judged hold, else 1. Where something else is wrong it is 2, and one line on standard
 error says what.
@@ -20,6 +21,7 @@ sys.dont_write_bytecode = True
 from cheapest import Search, register_of
 from check_job import Job, Refused, farm, supplier, text
 from command_line import Trouble, expect, files, put, run
+from penalty_qubo import penalty_form
 from program_vectors import bytes_of, cases
 
 ACCEPTED, SHORT, NO_SUPPLIER = (0, 0, 0), (11, 0, 0), (17, 0, 0)
@@ -67,7 +69,7 @@ def numbers(lists):
 
 
 def table_after(job, length):
-    """The fields of a lent table of so many numbers: R where `3F` was reached, else as it was."""
+    """The fields of a lent table of so many numbers: R where `3F` was reached, or the penalty form, else as it was."""
     if job.table is None:
         return ["same"]
     variables, entries = len(job.table) - 1, numbers(job.table)
@@ -97,9 +99,9 @@ def register(first):
 def scheme(first, second):
     job, answer = opened({1: first, 2: second})
     if answer != ACCEPTED:
-        return [*answer, 0, 0, 0]
+        return [*answer, 0, 0, 0, 0]
     products = [(*operands, job.sets[k]) for k, operands in job.products.items()]
-    return [*answer, len(job.choices), len(products), len(job.splits), *numbers(products + job.splits)]
+    return [*answer, len(job.choices), len(products), len(job.splits), *numbers(products + job.splits), job.factor]
 
 
 def build(first, room):
@@ -114,11 +116,22 @@ def cost(first, fourth):
     return [*answer, job.cost(job.fed) if answer == ACCEPTED else 0]
 
 
+def table_of(constant, variables, entries):
+    """The table of a form without squares, of its constant and of its coefficients by (i, i) and (i, j)."""
+    table = [[0] * (variables + 1) for _ in range(variables + 1)]
+    table[0][0] = 2 * constant
+    for (i, j), c in entries.items():
+        p = 0 if i == j else i + 1
+        table[p][j + 1] = table[j + 1][p] = c
+    return table
+
+
 def penalty(first, second, length):
-    _, answer = opened({1: first, 2: second}) if int(length) >= TABLE else (None, SHORT)
+    job, answer = opened({1: first, 2: second}) if int(length) >= TABLE else (Job(b""), SHORT)
     if answer == ACCEPTED:
-        raise NotJudged
-    return [*answer, "same"]
+        form = penalty_form(job)
+        job.table = table_of(form.constant, form.variables, form.entries)
+    return [*answer, *table_after(job, int(length))]
 
 
 def bound(job):

@@ -5,8 +5,8 @@ one line in both, and R is there to be printed exactly where `3F` is reached. Of
 cost less than its plan, whether a range is at its low or at its high, and no plan that fits less than the bound, with the coefficients
 that count; the least cost is that of all plans, or with more than 16 choices what the search of tools/cheapest.py finds. Then the two
 listings side by side, of one job of each kind, and of the pair of jobs in `examples` that differ only in tanks, minutes and windows; and
-jobs with ranges, and jobs with many choices or with the commands `15` and `41`, right ones and others, with the last line of each, which
-was worked out by hand.
+jobs with ranges, jobs with many choices or with the commands `15` and `41`, and jobs with the command `23`, right ones and others, with the
+last line of each, which was worked out by hand.
 
     tools/test_check_job.py [FOLDER ..]
 """
@@ -283,6 +283,49 @@ LARGE = [
     (choices(34) + "16 01000000 00000000 01000000 1F 22 00 00 2F " + ZERO + "41 " + wide(33), "R 1 193"),
 ]
 
+# two choices and a term of both, of 25 bytes; a scheme for it with a product, command by command; and what stands behind its splits
+BOTH_FED = choices(2) + "12 03000000 01000000 1F "
+PRODUCT, SPLIT_2 = "21 00 01 ", "22 02 02 "
+BEHIND = "2F " + scale(0) + "38 02 0100000000000000 3F 40 03000000"
+
+FACTOR = [
+    # none, the smallest, the next, the largest: the same lines; and one past both ends, with its bytes exchanged, the highest of 16 bits
+    (BOTH_FED + PRODUCT + SPLIT_2 + BEHIND, "B 0 1 1"),
+    (BOTH_FED + "23 0100 " + PRODUCT + SPLIT_2 + BEHIND, "B 0 1 1"),
+    (BOTH_FED + "23 0200 " + PRODUCT + SPLIT_2 + BEHIND, "B 0 1 1"),
+    (BOTH_FED + "23 E803 " + PRODUCT + SPLIT_2 + BEHIND, "B 0 1 1"),
+    (BOTH_FED + "23 0000 " + PRODUCT + SPLIT_2 + BEHIND, "R 4 25"),
+    (BOTH_FED + "23 E903 " + PRODUCT + SPLIT_2 + BEHIND, "R 4 25"),
+    (BOTH_FED + "23 03E8 " + PRODUCT + SPLIT_2 + BEHIND, "R 4 25"),
+    (BOTH_FED + "23 FFFF", "R 4 25"),
+    # cut off, and the last command of the job
+    (BOTH_FED + "23", "R 2 25"),
+    (BOTH_FED + "23 00", "R 2 25"),
+    (BOTH_FED + "23 0100", "R 2 28"),
+    # a second one, also where it is cut off or out of range, and behind one that is out of range
+    (BOTH_FED + "23 0100 23 0100 " + PRODUCT + SPLIT_2 + BEHIND, "R 1 28"),
+    (BOTH_FED + "23 0100 23", "R 1 28"),
+    (BOTH_FED + "23 0100 23 0000", "R 1 28"),
+    (BOTH_FED + "23 0000 23 0100", "R 4 25"),
+    # behind a product, a split and the end of the part, in part 1, and in place of the base cost
+    (BOTH_FED + PRODUCT + "23 0100 " + SPLIT_2 + BEHIND, "R 1 28"),
+    (BOTH_FED + PRODUCT + SPLIT_2 + "23 0100 " + BEHIND, "R 1 31"),
+    (BOTH_FED + PRODUCT + SPLIT_2 + "2F 23 0100", "R 1 32"),
+    (choices(2) + "23 0100", "R 1 15"),
+    ("23 0100", "R 1 0"),
+    # nothing else in the scheme, too few splits, and a product, a split and a byte that are wrong behind it
+    (choices(1) + "1F 23 E803 2F " + ZERO + NONE, "B 0 0 0"),
+    (BOTH_FED + "23 E803 2F", "R 3 28"),
+    (BOTH_FED + "23 E803 21 02 00", "R 5 28"),
+    (BOTH_FED + "23 E803 22 00 00", "R 8 28"),
+    (BOTH_FED + "23 E803 7E", "R 1 28"),
+    # with a range, where the plan is due behind the scheme all the same, and with the most variables and one more
+    (ONE + "16 01000000 00000000 03000000 1F 23 E803 22 00 00 2F " + UNFED + TEN, "B 10 10 0"),
+    (ONE + "16 01000000 00000000 03000000 1F 23 E803 22 00 00 2F " + TEN + UNFED, "R 1 31"),
+    (choices(48) + "1F 23 E803 " + products(48, 16) + "2F " + ZERO + NONE, "B 0 0 0"),
+    (choices(48) + "1F 23 E803 " + products(48, 17) + "2F " + ZERO + NONE, "R 3 297"),
+]
+
 
 def moved(job, chance):
     """A job with other tanks and minutes: those that it names are exchanged for others in the same order, minutes for ones of its day."""
@@ -360,7 +403,7 @@ def main(folders):
     for name, rows in BOTH.items():
         trials.append((f"not the rows of both listings: {name}", lines(both, (EXAMPLES / f"{name}.job").read_bytes()) == rows))
     trials.append(("not the rows of both listings: nothing fed", lines(both, NOTHING) == NOTHING_BOTH))
-    for job, line in RANGED + LARGE:
+    for job, line in RANGED + LARGE + FACTOR:
         last = lines(both, bytes.fromhex(job))[-1].split("|")
         trials.append((f"not the last line: {line}, but {last}: {job}", [it.strip() for it in last] == [line, line]))
     night, other = ((EXAMPLES / f"windows.{name}.job").read_bytes() for name in ("night", "night.moved"))

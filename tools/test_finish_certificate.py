@@ -6,7 +6,7 @@ plan and the scale of the job, the largest target that its certificate carries, 
 has as it is. What is not finished must be refused as it is. The jobs of `examples` that have multipliers of a solver must come to the
 bound of the solver's own squares, and those with a certificate of our own to its target, which squares only make smaller. Then a
 certificate with wrong squares, certificates that take several `31` of one variable, or more than 1,024 multipliers, jobs whose masks and
-plan are of 64 bits without need, and jobs that are refused, with the line of each.
+plan are of 64 bits without need, jobs with a factor before their products, and jobs that are refused, with the line of each.
 
     tools/test_finish_certificate.py [FOLDER ..]
 """
@@ -62,6 +62,9 @@ REFUSED = [
     (113, "00", "R 12 113"),
     (0, "7E", "R 1 0"),
     (48, "21 01 00", "R 6 48"),
+    (48, "23 0000", "R 4 48"),
+    (48, "23 E803 21 01 00", "R 6 51"),
+    (48, "23 E803 23 E803", "R 1 51"),
 ]
 
 
@@ -82,6 +85,12 @@ def bare(job):
 def widened(job):
     """A job with each `12` written as `15` and each `40` as `41`."""
     return joined(({0x12: 0x15, 0x40: 0x41}.get(byte, byte), v) for byte, v in parts(job))
+
+
+def with_factor(job, factor):
+    """A job that says no factor with one."""
+    register = cut(job)[0]
+    return register + encode(0x23, {"factor": factor}) + job[len(register):]
 
 
 def enlarged(job):
@@ -181,6 +190,9 @@ class Trials:
             narrow = bare((EXAMPLES / f"{name}.job").read_bytes())
             self.job(f"{name}, 64 bits", widened(narrow))
             self.expect("not the same but for the width", name, finish(widened(narrow))[0] == widened(finish(narrow)[0]))
+            heavy = with_factor(narrow, 1_000)
+            self.job(f"{name}, factor 1,000", heavy)
+            self.expect("not the same but for the factor", name, finish(heavy)[0] == with_factor(finish(narrow)[0], 1_000))
         example = (EXAMPLES / "example.job").read_bytes()
         for at, other, line in REFUSED:
             job = example[:at] + bytes.fromhex(other)

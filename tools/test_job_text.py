@@ -1,11 +1,12 @@
 #!/usr/bin/env python3
 """Tries tools/job_text.py: bytes to lines and back, and the lines of what `blank` writes, on every example, on every file of the folders
-given, and on damaged copies of seven jobs, one without windows, one with them, one with a day's length too, two with a row, one with
-ranges and one with masks and a plan of 64 bits: each front of it, each byte changed to twelve others, each byte left out; and that the
-parts of what can be cut into four are the whole of it. Then the bytes that `blank` writes of some others, the lines of registers with
-windows, lengths, rows, ranges and masks of 64 bits, right ones and others, of what names a row, of plans before part 3, and of parts apart
-from their register, where nothing is said that the whole job shows otherwise, lines that are no command and what is said of them,
-registers written by hand, the parts of jobs, and which bytes are a text.
+given, and on damaged copies of eight jobs, one without windows, one with them, one with a day's length too, two with a row, one with
+ranges, one with a row, ranges and a factor, and one with masks and a plan of 64 bits: each front of it, each byte changed to thirteen
+others, each byte left out; and that the parts of what can be cut into four are the whole of it. Then the bytes that `blank` writes of some
+others, the lines of registers with windows, lengths, rows, ranges and masks of 64 bits, right ones and others, of what names a row, of
+factors in their place and out of it, of plans before part 3, and of parts apart from their register, where nothing is said that the whole
+job shows otherwise, lines that are no command and what is said of them, registers written by hand, the parts of jobs, and which bytes are
+a text.
 
     tools/test_job_text.py [FOLDER ..]
 """
@@ -21,7 +22,7 @@ from job_text import COMMANDS, ENDS, blank, commands, cut, is_text, lines_of, ma
 EXAMPLES = pathlib.Path(__file__).resolve().parent.parent / "examples"
 
 # jobs whose damaged copies are tried, and whose part 1
-JOBS = ("example", "windows.night", "days.autumn", "raceway.four", "prices.quoted")
+JOBS = ("example", "windows.night", "days.autumn", "raceway.four", "prices.quoted", "weights.farm")
 
 # runs of bytes, command by command, with the line of each
 SHOWN = [
@@ -228,6 +229,45 @@ SHOWN = [
         ("41 01000000 000000", "00001  -  raw  41 01 00 00 00 00 00 00"),
     ],
     [("41 0300000000000000", "00000  4  41 plan      fed 0x0000000000000003  (choices 0 1)")],
+    # a factor in its place, the largest, and in none: a second one, behind a product, a split and the end of the part
+    [
+        ("11 0300 6801", "00000  1  11 choice    tank 3  minute 360  (choice 0, 06:00)"),
+        ("11 0300 5802", "00005  1  11 choice    tank 3  minute 600  (choice 1, 10:00)"),
+        ("1F", "00010  1  1F end"),
+        ("23 E803", "00011  2  23 weights   factor 1000  (all weights times 1000)"),
+        ("23 0200", "00014  2  23 weights   factor 2"),
+        ("21 00 01", "00017  2  21 product   l 0  r 1  (variable 2 = z0 z1: choices 0 1)"),
+        ("23 0200", "00020  2  23 weights   factor 2"),
+        ("22 02 02", "00023  2  22 split     l 2  r 2  (term 0 = z2: choices 0 1)"),
+        ("23 0200", "00026  2  23 weights   factor 2"),
+        ("2F", "00029  2  2F end"),
+        ("23 0200", "00030  2  23 weights   factor 2"),
+    ],
+    # one too large, none, one before the end of part 1, and one that is cut off
+    [
+        ("1F", "00000  1  1F end"),
+        ("23 E903", "00001  2  23 weights   factor 1001"),
+    ],
+    [
+        ("1F", "00000  1  1F end"),
+        ("23 0000", "00001  2  23 weights   factor 0"),
+    ],
+    [
+        ("10 00000000", "00000  1  10 base      cost 0"),
+        ("23 0200", "00005  2  23 weights   factor 2"),
+    ],
+    [
+        ("1F", "00000  1  1F end"),
+        ("23 01", "00001  -  raw  23 01"),
+    ],
+    # apart from the register: the smallest at the front and another behind it, and one too large at the front
+    [
+        ("23 0100", "00000  2  23 weights   factor 1  (all weights times 1)"),
+        ("23 0300", "00003  2  23 weights   factor 3"),
+        ("21 00 01", "00006  2  21 product   l 0  r 1  (z0 z1)"),
+        ("2F", "00009  2  2F end"),
+    ],
+    [("23 FFFF", "00000  2  23 weights   factor 65535")],
 ]
 
 NO_NUMBER = "is no number: decimal without zeros before it, 0x and hexadecimal, or 0b and binary"
@@ -254,6 +294,11 @@ NO_COMMANDS = [
     ("00015  1  15 term      mask 0x0000000000000001", "coefficient is missing"),
     ("00015  1  15 term      coefficient 1", "mask is missing"),
     ("00015  1  15 term      mask 0x0000000000000001  low 1", "term has no operand low"),
+    ("00048  2  23 weights", "factor is missing"),
+    ("00048  2  23 weights   factor", "factor has no number"),
+    ("00048  2  23 factor 3", f"the name weights is missing before factor: {ORDER}"),
+    ("00048  2  23 weights   times 3", "weights has no operand times"),
+    ("00048  2  23 weights   factor 3  factor 3", "factor is given twice"),
     ("00275  4  41 plan", "fed is missing"),
     ("00275  4  41 plan      fed", "fed has no number"),
     ("00208  3  3B add       row 0  m 1", "i is missing"),
@@ -269,6 +314,8 @@ NO_COMMANDS = [
     ("00005  1  13 window    tank 4  from -1  to 1440", "from -1 is not within 0 and 65535"),
     ("00005  1  18 day       length 65536", "length 65536 is not within 0 and 65535"),
     ("00005  1  18 day       length -1", "length -1 is not within 0 and 65535"),
+    ("00048  2  23 weights   factor 65536", "factor 65536 is not within 0 and 65535"),
+    ("00048  2  23 weights   factor -1", "factor -1 is not within 0 and 65535"),
     ("00005  1  14 row       b 2  z0 128", "z0 128 is not within -128 and 127"),
     ("00005  1  14 row       b 2  z0 -129", "z0 -129 is not within -128 and 127"),
     ("00005  1  14 row       b 32768  z0 1", "b 32768 is not within -32768 and 32767"),
@@ -313,6 +360,7 @@ LOOSE = [
     ("-  -  0x11 choice  tank 0b100  minute 0x1E0  (at eight", "11 0400 E001"),
     ("99999  1  1f", "1F"),
     ("-  1  1F nothing", "1F"),
+    ("-  2  23 heavier  factor 0x3E8", "23 E803"),
     ("-  1  15 term  coefficient -1  mask 0b1", "15 0100000000000000 FFFFFFFF"),
     (f"-  1  15 range  mask 0b1{47 * '0'}  coefficient 1", "15 0000000000800000 01000000"),
     ("-  4  41 plan  fed 0", "41 0000000000000000"),
@@ -362,6 +410,7 @@ BLANK = [
     ("11 0400 2705 15 0300000000000000 FDFFFFFF 1F 41 0300000000000000 11 0400 2705",
      "11 0000 0000 15 0300000000000000 FDFFFFFF 1F 41 0300000000000000 11 0400 2705"),
     ("15 0300000000000000 FDFFFF", "15 0300000000000000 FDFFFF"),
+    ("11 0400 2705 1F 23 0400 21 00 01", "11 0000 0000 1F 23 0400 21 00 01"),
     ("", ""),
 ]
 
@@ -387,6 +436,11 @@ CUT = [
     (f"{RANGE} 1F 2F 41 0000000000000000 3F 7E", [f"{IN_LETTERS} 1f", "2f", "41 00 00 00 00 00 00 00 00", "3f 7e"]),
     (f"{RANGE} 1F 2F 41 0000000000 3F", [f"{IN_LETTERS} 1f", "2f"]),
     ("15 0100000000000000 01000000 1F 2F 3F", ["15 01 00 00 00 00 00 00 00 01 00 00 00 1f", "2f", "3f", ""]),
+    ("1F 23 0200 2F 3F", ["1f", "23 02 00 2f", "3f", ""]),
+    ("1F 23 2F3F 2F 3F 7E", ["1f", "23 2f 3f 2f", "3f", "7e"]),
+    (f"{RANGE} 1F 23 0200 2F 40 00000000 3F", [f"{IN_LETTERS} 1f", "23 02 00 2f", "40 00 00 00 00", "3f"]),
+    ("1F 23 2F", ["1f"]),
+    ("23 0200 1F 2F 3F", []),
     ("2F 3F", []),
     ("", []),
 ]
@@ -401,7 +455,7 @@ def damaged(job):
     for at in range(len(job)):
         yield job[:at]
         yield job[:at] + job[at + 1:]
-        for byte in (0x00, 0x11, 0x13, 0x14, 0x15, 0x16, 0x18, 0x3B, 0x3F, 0x40, 0x41, 0xFF):
+        for byte in (0x00, 0x11, 0x13, 0x14, 0x15, 0x16, 0x18, 0x23, 0x3B, 0x3F, 0x40, 0x41, 0xFF):
             yield job[:at] + bytes([byte]) + job[at + 1:]
 
 

@@ -21,9 +21,10 @@ from job_text import ENDS, PARTS, TEXT, blank, cut, order_of, show, size
 
 ROOT = pathlib.Path(__file__).resolve().parent.parent
 EXAMPLES = ROOT / "examples"
-JOB_TEXT, CHECK_JOB, CHEAPEST, FINISH = (f"tools/{name}.py" for name in ("job_text", "check_job", "cheapest", "finish_certificate"))
+JOB_TEXT, CHECK_JOB, CHEAPEST, FINISH, QUBO = (f"tools/{name}.py" for name in (
+    "job_text", "check_job", "cheapest", "finish_certificate", "penalty_qubo"))
 PORT, COUNT = "tools/port_names.py", "tools/count_places.py"
-TOOLS = (JOB_TEXT, CHECK_JOB, CHEAPEST, FINISH, PORT, COUNT)
+TOOLS = (JOB_TEXT, CHECK_JOB, CHEAPEST, FINISH, QUBO, PORT, COUNT)
 SCRIPTS = ("compare/run", "compare/speed", "compare/search_speed", "compare/turns", "tools/programs", "tools/libraries")
 
 HINT = "; --help tells how it is called"
@@ -36,6 +37,8 @@ ENVIRONMENT = {name: value for name, value in os.environ.items() if not name.sta
 EXAMPLE, OUTSIDE, SHORT, HIGH = (f"examples/{name}.job" for name in (
     "example", "windows.night.bad-outside", "raceway.four.bad-no-form", "labs05.csdp.bad-t-up"))
 REGISTER, NONE_FITS = "examples/example.register", "examples/raceway.none.register"
+# a register, two schemes for it, and the form of the first
+PAIR, ONCE, TWICE, FORM = (f"examples/weights.pair.{kind}" for kind in ("register", "scheme", "twice.scheme", "qubo"))
 
 
 def bytes_in(file):
@@ -299,6 +302,56 @@ class Trials:
         self.wrong_output(0, FINISH, HIGH, str(out))
         self.expect("no file was written", out.read_bytes() == finished)
 
+    def qubo(self):
+        for words in (["qubo"], ["list"], ["sample", FORM, "101"]):
+            self.wrong_file(QUBO, *words)
+            self.wrong_file(QUBO, *words, PAIR)
+            self.wrong_file(QUBO, *words, after=(ONCE,))
+            self.misuse(QUBO, "FILE is missing", *words)
+            self.misuse(QUBO, f"{TWICE} is a word too many", *words, PAIR, ONCE, TWICE)
+            self.misuse(QUBO, "--in is no option here", *words, PAIR, "--in")
+            self.misuse(QUBO, "- is no option here", *words, "-")
+            self.wrong_output(0, QUBO, *words, PAIR, ONCE)
+            # refused in part 1 and in part 2, in one file and in two, also for what stands behind a part by itself
+            for files, said in (
+                ((OUTSIDE,), f"{OUTSIDE}: R 13 45, in part 1"),
+                ((OUTSIDE, ONCE), f"{OUTSIDE}: R 13 45, in part 1"),
+                ((PAIR,), f"{PAIR}: R 2 34, in part 2"),
+                ((EXAMPLE, ONCE), f"{EXAMPLE}: R 12 48, in part 1"),
+                ((PAIR, PAIR), f"{PAIR}: R 1 0, in part 2"),
+                ((PAIR, EXAMPLE), f"{EXAMPLE}: R 1 0, in part 2"),
+                ((REGISTER, ONCE), f"{ONCE}: R 8 3, in part 2"),
+                (("examples/weights.one.bad-zero.job",), "examples/weights.one.bad-zero.job: R 4 48, in part 2"),
+            ):
+                self.call([QUBO, *words, *files], 1, said=said)
+            self.call([QUBO, *words, self.lines, ONCE], 2, said=f"{self.lines}: {TEXT}")
+            self.call([QUBO, *words, PAIR, self.lines], 2, said=f"{self.lines}: {TEXT}")
+        self.misuse(QUBO, "one of qubo, list, sample is missing")
+        self.misuse(QUBO, f"{PAIR} is none of qubo, list, sample", PAIR)
+        self.misuse(QUBO, "FORM is missing", "sample")
+        self.misuse(QUBO, "BITS is missing", "sample", FORM)
+        self.call([QUBO, "qubo", PAIR, ONCE], 0, bytes_in(FORM))
+        self.call([QUBO, "qubo", PAIR, TWICE], 0, bytes_in("examples/weights.pair.twice.qubo"))
+        listed = b"# vartype=BINARY\n# energy + constant = value of the penalty form\n# constant 10\n"
+        listed += b"0 0 -6\n1 1 -4\n2 2 0\n3 3 15\n0 1 5\n0 3 -10\n1 3 -10\n2 3 5\n"
+        square = "examples/example.square.job"
+        self.call([QUBO, "list", square], 0, listed)
+        form = pathlib.Path(self.folder, "my.list")
+        form.write_bytes(listed)
+        sampled = b"# energy -5\n# value 5\n# product 3, of weight 5, is 0, and z0 z1 is 1\n# cost 0\n"
+        sampled += b"-  4  40 plan      fed 0x00000003  (choices 0 1)\n"
+        self.call([QUBO, "sample", str(form), "1100", square], 0, sampled)
+        self.call([QUBO, "sample", str(form), "-", square], 0, sampled, given=b"1 1\n0 0\n")
+        self.call([JOB_TEXT, "make", "/dev/stdin"], 0, bytes.fromhex("40 03000000"), given=sampled)
+        self.call([QUBO, "sample", str(form), "-", square], 2, said="-: BITS are to be digits 0 and 1", given=b"\xFF")
+        self.call([QUBO, "sample", str(form), "11", square], 2, said="11: 2 digits, and 4 are due, one for each variable")
+        self.wrong_file(QUBO, "sample", after=("1100", square))
+        self.call([QUBO, "sample", square, "1100", square], 2, said=f"{square}: bytes where the text of a form is due")
+        said = f"{FORM}: the constant is 0, and 10 is due"
+        self.call([QUBO, "sample", FORM, "1100", square], 2, said=said)
+        said = f"{FORM}: not the form of this register and scheme: 0 1 has 1, and 2 is due"
+        self.call([QUBO, "sample", FORM, "101", PAIR, TWICE], 2, said=said)
+
     def past(self):
         """The tools of past landings."""
         kept, page = pathlib.Path(self.folder, "kept"), "`tableValue`\n"
@@ -378,6 +431,7 @@ def main(words):
         trials.check_job()
         trials.cheapest()
         trials.finish()
+        trials.qubo()
         trials.past()
         trials.scripts()
     return tally(trials.all)

@@ -6,7 +6,7 @@ use reference::register::{
     Choice, Register, Row, Term, Window, DAY_LENGTHS, LONG_DAY, MAX_CHOICES, MAX_COEFFICIENT, MAX_ROWS, MAX_ROW_TOTAL, MAX_TERMS,
     MAX_WINDOWS, ROW_ENTRIES, SHORT_DAY, USUAL_DAY,
 };
-use reference::scheme::{Scheme, MAX_PRODUCTS, MAX_VARIABLES};
+use reference::scheme::{Scheme, MAX_FACTOR, MAX_PRODUCTS, MAX_VARIABLES};
 use reference::{builder, plain, plan as plans};
 use std::collections::{BTreeMap, BTreeSet};
 
@@ -67,6 +67,7 @@ pub fn input(random: &mut Random, seeds: &[Whole]) -> Input {
     if commands.iter().all(|command| command[0] != 0x18) && random.chance(30) {
         commands.insert(1, day_command(USUAL_DAY));
     }
+    add_factor(random, &mut whole.parts[1]);
     damaged(random, whole)
 }
 
@@ -408,6 +409,14 @@ fn add_wide_forms(random: &mut Random, whole: &mut Whole) {
     }
     if places(plan, 0x40) == [0] && random.chance(30) {
         plan[0] = wide_plan(plan_of(&plan[0]).unwrap());
+    }
+}
+
+/// A factor for about a third of the schemes that say none.
+pub fn add_factor(random: &mut Random, commands: &mut Vec<Vec<u8>>) {
+    if places(commands, 0x23).is_empty() && random.chance(33) {
+        let any = 1 + random.below(MAX_FACTOR as usize) as u16;
+        commands.insert(0, factor_command(random.pick(&[1, 2, MAX_FACTOR, any])));
     }
 }
 
@@ -766,8 +775,16 @@ fn last_number(term: &[u8]) -> i32 {
     i32::from_le_bytes(*term.last_chunk().unwrap())
 }
 
+fn factor_command(factor: u16) -> Vec<u8> {
+    command(0x23, &[&factor.to_le_bytes()])
+}
+
+/// The commands of a scheme; the factor 1 is not said.
 pub fn scheme_commands(scheme: &Scheme) -> Vec<Vec<u8>> {
     let mut commands: Vec<Vec<u8>> = Vec::new();
+    if scheme.factor != 1 {
+        commands.push(factor_command(scheme.factor));
+    }
     commands.extend(scheme.products.iter().map(|&(l, r)| vec![0x21, l as u8, r as u8]));
     commands.extend(scheme.splits.iter().map(|&(l, r)| vec![0x22, l as u8, r as u8]));
     commands.push(vec![0x2F]);
@@ -829,7 +846,7 @@ fn widths(byte: u8) -> Vec<usize> {
         0x14 => [vec![2], vec![1; ROW_ENTRIES]].concat(),
         0x15 => vec![8, 4],
         0x16 => vec![4, 4, 4],
-        0x18 => vec![2],
+        0x18 | 0x23 => vec![2],
         0x21 | 0x22 => vec![1, 1],
         0x30 => vec![4, 8],
         0x31 | 0x35..=0x39 => vec![1, 8],
@@ -842,9 +859,9 @@ fn widths(byte: u8) -> Vec<usize> {
     }
 }
 
-const COMMANDS: [u8; 28] = [
-    0x10, 0x11, 0x12, 0x13, 0x14, 0x15, 0x16, 0x18, 0x1F, 0x21, 0x22, 0x2F, 0x30, 0x31, 0x32, 0x33, 0x34, 0x35, 0x36, 0x37, 0x38,
-    0x39, 0x3A, 0x3B, 0x3F, 0x40, 0x41, 0x00,
+const COMMANDS: [u8; 29] = [
+    0x10, 0x11, 0x12, 0x13, 0x14, 0x15, 0x16, 0x18, 0x1F, 0x21, 0x22, 0x23, 0x2F, 0x30, 0x31, 0x32, 0x33, 0x34, 0x35, 0x36, 0x37,
+    0x38, 0x39, 0x3A, 0x3B, 0x3F, 0x40, 0x41, 0x00,
 ];
 
 // Damage.
@@ -921,6 +938,8 @@ fn damage_commands(random: &mut Random, whole: &mut Whole, part: usize) {
         0 if random.chance(if ranged { 40 } else { 5 }) => return damage_ranges(random, commands, n),
         0 if random.chance(if wide { 40 } else { 5 }) => return damage_wide_terms(random, commands, n),
         1 if random.chance(8) => return more_products(random, commands, products),
+        1 if random.chance(if places(commands, 0x23).is_empty() { 8 } else { 35 }) => return damage_factor(random, commands),
+        0 | 2 | 3 if random.chance(1) => return misplace_factor(random, commands),
         2 if n > 32 && random.chance(8) => return half_alike(random, commands, &products),
         2 if random.chance(percent) => return damage_row_forms(random, commands, rows, all),
         3 if random.chance(40) => return damage_plan(random, &mut commands[0], n),
@@ -1188,7 +1207,8 @@ fn more_products(random: &mut Random, commands: &mut Vec<Vec<u8>>, mut scheme: S
     let wanted = most_products(scheme.choices) + random.below(2);
     add_products(random, &mut scheme, wanted);
     let mut more: Vec<_> = scheme.products[count..].iter().map(|&(l, r)| vec![0x21, l as u8, r as u8]).collect();
-    let end = places(commands, 0x21).last().map_or(0, |at| at + 1);
+    let front = commands.first().is_some_and(|command| command.first() == Some(&0x23)) as usize;
+    let end = places(commands, 0x21).last().map_or(front, |at| at + 1);
     if let Some(last) = more.last_mut().filter(|_| random.chance(50)) {
         last[1 + random.below(2)] = random.pick(&[scheme.variables() as u8 - 1, 63, 64, 0xFF, last[1], last[2]]);
         if random.chance(20) {
@@ -1197,6 +1217,56 @@ fn more_products(random: &mut Random, commands: &mut Vec<Vec<u8>>, mut scheme: S
         }
     }
     commands.splice(end..end, more);
+}
+
+/// Changes the factor of a scheme, its place, or what stands directly after it, in one way.
+fn damage_factor(random: &mut Random, commands: &mut Vec<Vec<u8>>) {
+    let (right, any) = (1 + random.below(MAX_FACTOR as usize) as u16, random.next() as u16);
+    let wrong = random.pick(&[0, 0, MAX_FACTOR + 1, MAX_FACTOR + 1, u16::MAX, MAX_FACTOR.swap_bytes(), right | 0x8000, any]);
+    let factor = factor_command(random.pick(&[1, 2, right, MAX_FACTOR, wrong, wrong]));
+    // Where `23` stands, or would.
+    let place = commands.iter().position(|command| command[0] == 0x23).map_or(0..0, |at| at..at + 1);
+    let kind = random.pick(&[0x21, 0x22, 0x23, 0x2F]);
+    match random.below(12) {
+        // Any factor, or a wrong one; left out; once more, before it or after it.
+        0 => drop(commands.splice(place, [factor])),
+        1 | 2 => drop(commands.splice(place, [factor_command(wrong)])),
+        3 => commands.retain(|command| command[0] != 0x23),
+        4 | 5 if place.is_empty() => drop(commands.splice(place, [factor_command(right), factor])),
+        4 | 5 => commands.insert(place.start + random.below(2), factor),
+        // Elsewhere, once more or alone: after the last command of a kind, or anywhere. At times it is cut off there.
+        6..=8 => {
+            if random.chance(50) {
+                commands.retain(|command| command[0] != 0x23);
+            }
+            let anywhere = random.below(commands.len() + 1);
+            let after = commands.iter().rposition(|command| command[0] == kind).map_or(anywhere, |at| at + 1);
+            let at = random.pick(&[anywhere, after, after]);
+            commands.insert(at, factor);
+            if random.chance(25) {
+                commands.truncate(at + 1);
+                commands[at].truncate(1 + random.below(2));
+            }
+        }
+        // Cut off in its place: the scheme ends there, or goes on.
+        9 | 10 => {
+            let end = if random.chance(70) { commands.len() } else { place.end };
+            commands.splice(place.start..end, [factor[..1 + random.below(2)].to_vec()]);
+        }
+        // The end directly after it, or a command of the scheme once more.
+        _ => {
+            let command = commands.iter().rfind(|command| command[0] == kind).cloned().unwrap_or(vec![0x2F]);
+            commands.splice(place, [factor_command(right), command]);
+        }
+    }
+}
+
+/// A `23` where none may be: in a register, a certificate or a plan, first, last or anywhere, whole or cut off.
+fn misplace_factor(random: &mut Random, commands: &mut Vec<Vec<u8>>) {
+    let mut factor = factor_command(random.pick(&[1, 2, MAX_FACTOR, 0]));
+    factor.truncate(random.pick(&[1, 2, 3, 3, 3, 3]));
+    let anywhere = random.below(commands.len() + 1);
+    commands.insert(random.pick(&[0, anywhere, commands.len()]), factor);
 }
 
 /// One more null form, of variables whose sets don't fit, but would by choices 0 to 31 alone, or by those from 32 on.
@@ -1645,6 +1715,7 @@ fn notable_operand(random: &mut Random, command: &mut [u8], n: usize, all: usize
             random.pick(&[0, 1, 1 << (n - 1), 1 << n, 1 << 31, 1 << 32, 1 << past, i64::MAX]).wrapping_add(near)
         }
         1 => random.pick(&[0, n as i64 - 1, n as i64, all as i64 - 1, all as i64, 63, 64, 255]),
+        2 if command[0] == 0x23 => random.pick(&[0, 1, MAX_FACTOR as i64, MAX_FACTOR as i64]) + near,
         2 => {
             let length = random.pick(&DAY_LENGTHS) as i64;
             random.pick(&[0, 1, 9_999, length, length, 10_000, -10_000, 32_767, -32_768]) + near

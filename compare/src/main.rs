@@ -6,14 +6,14 @@
 //! The folders have jobs, `*.job`, of which a part of the inputs is made. Exit status 1: a difference, or a refusal number that
 //! the scope gives a call or a command and that no input led to, or a length of the day or a number of rows that no accepted
 //! register had, or no accepted certificate with `3B`, or a supplier of whom no job was accepted or none refused, or something else
-//! that `report_wide`, `report_ranges`, `report_suppliers` or `report_listings` asks for.
+//! that `report_wide`, `report_factors`, `report_ranges`, `report_suppliers` or `report_listings` asks for.
 
 use compare::generate::{input, seed, with_other_places, Input, Whole};
 use compare::random::Random;
 use feedcheck::raw;
 use reference::plan::FEEDS_NONE;
 use reference::register::{Register, Term, LONG_DAY, MAX_CHOICES, MAX_COEFFICIENT, MAX_ROWS, ROW_ENTRIES, SHORT_DAY, USUAL_DAY};
-use reference::scheme::{MAX_PRODUCTS, MAX_VARIABLES};
+use reference::scheme::{Scheme, MAX_FACTOR, MAX_PRODUCTS, MAX_VARIABLES};
 use reference::search::Found;
 use reference::table::NUMBERS as TABLE_NUMBERS;
 use reference::{Answer, Counters, Refusal, Tally, SUPPLIERS};
@@ -41,7 +41,7 @@ type Listing<A> = fn(&[u8], &mut [i64], &mut [u8]) -> A;
 const NUMBERS: usize = 18;
 
 /// Each command, by its part and byte, with the refusal numbers that the scope gives it there; 1 where it stands out of place.
-const COMMANDS: [(u8, u8, &[u8]); 27] = [
+const COMMANDS: [(u8, u8, &[u8]); 31] = [
     (1, 0x10, &[1, 2, 4]),
     (1, 0x11, &[1, 2, 3, 4, 7, 13]),
     (1, 0x12, &[1, 2, 3, 4, 5, 7]),
@@ -51,9 +51,12 @@ const COMMANDS: [(u8, u8, &[u8]); 27] = [
     (1, 0x16, &[1, 2, 3, 4, 5, 6, 7]),
     (1, 0x18, &[1, 2, 4]),
     (1, 0x1F, &[1, 3]),
+    (1, 0x23, &[1]),
     (2, 0x21, &[1, 2, 3, 5, 6, 8]),
     (2, 0x22, &[2, 3, 5, 6, 8]),
+    (2, 0x23, &[1, 2, 4]),
     (2, 0x2F, &[3]),
+    (3, 0x23, &[1]),
     (3, 0x30, &[1, 2, 4]),
     (3, 0x31, &[1, 2, 3, 4, 5]),
     (3, 0x32, &[1, 2, 3, 4, 5, 8]),
@@ -67,6 +70,7 @@ const COMMANDS: [(u8, u8, &[u8]); 27] = [
     (3, 0x3A, &[1, 2, 3, 4, 5]),
     (3, 0x3B, &[1, 2, 3, 4, 5]),
     (3, 0x3F, &[1, 9]),
+    (4, 0x23, &[1]),
     (4, 0x40, &[2, 5, 15]),
     (4, 0x41, &[2, 5, 15]),
 ];
@@ -111,6 +115,16 @@ const WIDE_JOBS: [&str; 5] = [
 /// What a scheme of more than 32 choices comes to, for which there are fewer than 32 products.
 const FEW_PRODUCTS: [&str; 3] = ["21 refused 3", "built, all products needed", "build refused 10"];
 
+/// The factor of an accepted scheme.
+const FACTORS: [&str; 5] = ["1, not said", "1, said", "2", "the largest", "another"];
+
+/// What else there is with a factor that is said.
+const WITH_FACTOR: [&str; 3] =
+    ["penalty forms made, factor 2 or more and a weight above 0", "accepted certificates", "accepted jobs"];
+
+/// Where a `23` is refused 1 in part 2.
+const OUT_OF_PLACE: [&str; 4] = ["a second one", "after 21", "after 22", "cut off"];
+
 /// What a range may be.
 const RANGES: [&str; 7] =
     ["one number", "from 0", "up to 0", "0 alone", "about 0", "from the lower limit", "up to the upper limit"];
@@ -151,6 +165,10 @@ struct Comparison {
     wide_jobs: [u64; 5],
     few_products: [u64; 3],
     wide_found: u64,
+    /// How many accepted schemes have each of `FACTORS`, how many times each of `WITH_FACTOR` occurred, and each of `OUT_OF_PLACE`.
+    factors: [u64; 5],
+    with_factor: [u64; 3],
+    out_of_place: [u64; 4],
     /// How many accepted registers have a range of each kind, by `RANGES`, and how many have other terms beside ranges.
     ranges: [u64; 7],
     both_kinds: u64,
@@ -278,9 +296,14 @@ impl Comparison {
 
         let library = raw::scheme(part1, part2);
         let answer = scheme_answer(reference::scheme(part1, part2));
-        // The products stand first.
+        // The products stand first, or after the factor, which has as many bytes as a product.
         let product = answer.part == 2 && part2.get(answer.position) == Some(&0x21);
-        self.few_products[0] += (product && answer.number == 3 && answer.position < 3 * MAX_PRODUCTS) as u64;
+        let most = 3 * (MAX_PRODUCTS + says_factor(part2) as usize);
+        self.few_products[0] += (product && answer.number == 3 && answer.position < most) as u64;
+        match reference::scheme(part1, part2) {
+            Ok(scheme) => add(&mut self.factors, kinds_of_factor(&scheme, part2)),
+            Err(refusal) => add(&mut self.out_of_place, misplaced_factor(refusal, part2)),
+        }
         self.count_answer("scheme", answer.number, library == answer, input, || format!("{library:?} {answer:?}"));
 
         self.compare_writer("build", input, 865, |buffer| raw::build(part1, buffer), |buffer| reference::build(part1, buffer));
@@ -401,6 +424,12 @@ impl Comparison {
         let library = raw::penalty(part1, part2, ours);
         let (refusal, ()) = split(reference::penalty(part1, part2, theirs), ());
         let answer = raw::PenaltyAnswer { number: refusal.number, part: refusal.part, position: refusal.position };
+        if answer.number == 0 {
+            let (register, _) = reference::register::read(part1).expect("an accepted register");
+            let (scheme, _) = reference::scheme::read(&register, part2).expect("an accepted scheme");
+            let weights = reference::scheme::weights(&register, &scheme);
+            self.with_factor[0] += (scheme.factor > 1 && weights.iter().any(|&weight| weight > 0)) as u64;
+        }
         let same = library == answer && table.same();
         self.count_answer("penalty", answer.number, same, input, || format!("{library:?} {answer:?} tables {}", table.same()));
     }
@@ -431,6 +460,7 @@ impl Comparison {
         let (register, _) = reference::register::read(part1).expect("an accepted register");
         let (scheme, _) = reference::scheme::read(&register, part2).expect("an accepted scheme");
         let (certificate, _) = reference::certificate::read(&register, &scheme, part3).expect("an accepted certificate");
+        self.with_factor[1] += says_factor(part2) as u64;
         self.row_forms += certificate.multipliers.iter().any(|multiplier| multiplier.kind == 0x3B) as u64;
         let carried = |plan| reference::certificate::residual(&register, &scheme, plan, &certificate).dominant();
         if register.has_range() {
@@ -505,6 +535,7 @@ impl Comparison {
     fn count_job(&mut self, job: &[u8]) {
         let (register, mut at) = reference::register::read(job).expect("an accepted register");
         let (scheme, length) = reference::scheme::read(&register, &job[at..]).expect("an accepted scheme");
+        self.with_factor[2] += says_factor(&job[at..]) as u64;
         at += length;
         if !register.has_range() {
             at += reference::certificate::read(&register, &scheme, &job[at..]).expect("an accepted certificate").1;
@@ -653,7 +684,8 @@ impl Comparison {
         }
         println!("accepted jobs with rows: {}; accepted certificates with 3B: {}", self.fitting, self.row_forms);
         missing += (self.fitting == 0) as usize + (self.row_forms == 0) as usize;
-        missing += self.report_wide() + self.report_ranges() + self.report_suppliers() + self.report_listings();
+        missing += self.report_wide() + self.report_factors() + self.report_ranges();
+        missing += self.report_suppliers() + self.report_listings();
         println!(
             "commands refused by the check, and those of part 4 by the cost too (--: no byte there, or bytes after the end)"
         );
@@ -686,6 +718,17 @@ impl Comparison {
         FEW_PRODUCTS.iter().zip(self.few_products).for_each(|(kind, count)| println!("{kind}: {count}"));
         println!("searches that found a plan of 2^32 or more: {}", self.wide_found);
         zeros(&self.wide_registers) + zeros(&self.wide_jobs) + zeros(&self.few_products) + zeros(&[self.wide_found])
+    }
+
+    /// Prints what was counted of factors; how much of it did not occur.
+    fn report_factors(&self) -> usize {
+        println!("accepted schemes by the factor");
+        FACTORS.iter().zip(self.factors).for_each(|(kind, count)| println!("{kind}: {count}"));
+        println!("with a factor that is said");
+        WITH_FACTOR.iter().zip(self.with_factor).for_each(|(kind, count)| println!("{kind}: {count}"));
+        println!("a 23 refused 1 in part 2");
+        OUT_OF_PLACE.iter().zip(self.out_of_place).for_each(|(kind, count)| println!("{kind}: {count}"));
+        zeros(&self.factors) + zeros(&self.with_factor) + zeros(&self.out_of_place)
     }
 
     /// Prints what was counted of ranges; how much of it did not occur.
@@ -835,6 +878,25 @@ fn kinds_of_register(register: &Register, bytes: &[u8]) -> [bool; 8] {
     ]
 }
 
+/// Whether these bytes of a scheme say a factor.
+fn says_factor(part2: &[u8]) -> bool {
+    part2.first() == Some(&0x23)
+}
+
+/// Which factor a scheme of these bytes has, as in `FACTORS`.
+fn kinds_of_factor(scheme: &Scheme, bytes: &[u8]) -> [bool; 5] {
+    let (factor, said) = (scheme.factor, says_factor(bytes));
+    [factor == 1 && !said, factor == 1 && said, factor == 2, factor == MAX_FACTOR, (3..MAX_FACTOR).contains(&factor)]
+}
+
+/// Where the `23` stands that is refused here, as in `OUT_OF_PLACE`. The command before it has three bytes, as each but the end has.
+fn misplaced_factor(refusal: Refusal, bytes: &[u8]) -> [bool; 4] {
+    let at = refusal.position;
+    let misplaced = (refusal.number, refusal.part) == (1, 2) && bytes[at] == 0x23;
+    let after = |byte| misplaced && bytes[at - 3] == byte;
+    [after(0x23), after(0x21), after(0x22), misplaced && bytes.len() < at + 3]
+}
+
 /// What a range is, as in `RANGES`.
 fn kinds_of_range(range: &Term) -> [bool; 7] {
     let (low, high, limit) = (range.low, range.high, MAX_COEFFICIENT as i32);
@@ -906,10 +968,18 @@ fn register_answer(answer: Answer<reference::register::Register>) -> raw::Regist
 }
 
 fn scheme_answer(answer: Answer<reference::scheme::Scheme>) -> raw::SchemeAnswer {
-    let mut record =
-        raw::Scheme { products: 0, splits: 0, lefts: [0; 32], rights: [0; 32], split_lefts: [0; 256], split_rights: [0; 256] };
+    let mut record = raw::Scheme {
+        products: 0,
+        splits: 0,
+        lefts: [0; 32],
+        rights: [0; 32],
+        split_lefts: [0; 256],
+        split_rights: [0; 256],
+        factor: 0,
+    };
     let refusal = answer.as_ref().err().copied().unwrap_or_default();
     if let Ok(scheme) = answer {
+        record.factor = scheme.factor;
         record.products = scheme.products.len();
         record.splits = scheme.splits.len();
         for (k, &(l, r)) in scheme.products.iter().enumerate() {
@@ -956,6 +1026,9 @@ fn main() {
         wide_jobs: [0; 5],
         few_products: [0; 3],
         wide_found: 0,
+        factors: [0; 5],
+        with_factor: [0; 3],
+        out_of_place: [0; 4],
         ranges: [0; 7],
         both_kinds: 0,
         with_range: BTreeMap::new(),

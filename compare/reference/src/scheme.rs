@@ -10,6 +10,9 @@ pub const MAX_PRODUCTS: usize = 32;
 /// The most variables, choices and products together.
 pub const MAX_VARIABLES: usize = 64;
 
+/// The largest factor of the weights.
+pub const MAX_FACTOR: u16 = 1_000;
+
 #[derive(Clone, Debug, PartialEq, Eq)]
 pub struct Scheme {
     /// The number n of choices.
@@ -20,12 +23,15 @@ pub struct Scheme {
     pub splits: Vec<(usize, usize)>,
     /// The set E of each variable, as a mask.
     pub sets: Vec<u64>,
+    /// What the weights are multiplied by, 1 where no command says it.
+    pub factor: u16,
 }
 
 impl Scheme {
     /// A scheme with no products and no splits yet.
     pub fn of_choices(choices: usize) -> Scheme {
-        Scheme { choices, products: Vec::new(), splits: Vec::new(), sets: (0..choices).map(|i| 1 << i).collect() }
+        let sets = (0..choices).map(|i| 1 << i).collect();
+        Scheme { choices, products: Vec::new(), splits: Vec::new(), sets, factor: 1 }
     }
 
     /// The number N of variables.
@@ -52,9 +58,13 @@ impl Scheme {
         self.products[k - self.choices]
     }
 
-    /// The bytes of part 2.
+    /// The bytes of part 2; the factor 1 is not said.
     pub fn bytes(&self) -> Vec<u8> {
         let mut bytes = Vec::new();
+        if self.factor != 1 {
+            bytes.push(0x23);
+            bytes.extend(self.factor.to_le_bytes());
+        }
         for &(l, r) in &self.products {
             bytes.extend([0x21, l as u8, r as u8]);
         }
@@ -70,14 +80,20 @@ pub fn read(register: &Register, bytes: &[u8]) -> Read<Scheme> {
     let mut commands = Commands::new(bytes);
     let mut scheme = Scheme::of_choices(register.choices.len());
     loop {
+        let first = commands.at == 0;
         let no_split_yet = scheme.splits.is_empty();
         let command = commands.next(|byte| match byte {
+            0x23 if first => Some(2),
             0x21 if no_split_yet => Some(2),
             0x22 => Some(2),
             0x2F => Some(0),
             _ => None,
         })?;
         match command.byte {
+            0x23 => {
+                scheme.factor = command.u16(0);
+                command.refuse(4, scheme.factor == 0 || scheme.factor > MAX_FACTOR)?;
+            }
             0x21 => {
                 let (l, r) = (command.u8(0) as usize, command.u8(1) as usize);
                 let k = scheme.variables();
@@ -117,8 +133,8 @@ pub fn add_function(register: &Register, scheme: &Scheme, plan: u64, s: i64, tab
     }
 }
 
-/// The table of the penalty form h, which takes the lows.
-pub fn penalty(register: &Register, scheme: &Scheme) -> Table {
+/// The weight P of each product, from the lows, with the factor.
+pub fn weights(register: &Register, scheme: &Scheme) -> Vec<i64> {
     let (n, count) = (scheme.choices, scheme.variables());
     // The products that each variable leads down to, itself among them, as a mask over all variables.
     let mut used = vec![0u64; count];
@@ -126,16 +142,19 @@ pub fn penalty(register: &Register, scheme: &Scheme) -> Table {
         let (l, r) = scheme.operands(k);
         used[k] = 1 << k | used[l] | used[r];
     }
-    let mut table = Table::new(count);
+    let weight = |k: usize| {
+        let terms = register.terms.iter().zip(&scheme.splits);
+        let using = terms.filter(|(_, &(l, r))| (used[l] | used[r]) & 1 << k != 0);
+        scheme.factor as i64 * using.map(|(term, _)| (term.low as i64).abs()).sum::<i64>()
+    };
+    (n..count).map(weight).collect()
+}
+
+/// The table of the penalty form h, which takes the lows.
+pub fn penalty(register: &Register, scheme: &Scheme) -> Table {
+    let mut table = Table::new(scheme.variables());
     add_function(register, scheme, FEEDS_NONE, 1, &mut table);
-    for k in n..count {
-        let weight: i64 = register
-            .terms
-            .iter()
-            .zip(&scheme.splits)
-            .filter(|(_, &(l, r))| (used[l] | used[r]) & 1 << k != 0)
-            .map(|(term, _)| (term.low as i64).abs())
-            .sum();
+    for (k, weight) in (scheme.choices..).zip(weights(register, scheme)) {
         let (l, r) = scheme.operands(k);
         table.add_linear(k, 3 * weight);
         table.add_product(k, l, -2 * weight);

@@ -119,13 +119,14 @@ fn scheme() {
             return false;
         }
         match answer {
-            Err(_) => [0, 0, 0].iter().all(|&zero| zero == f.number()),
+            Err(_) => [0; 4].iter().all(|&zero| zero == f.number()),
             Ok(scheme) => {
                 let counts = [scheme.choices, scheme.products.len(), scheme.splits.len()];
                 let products =
                     scheme.products.iter().zip(&scheme.sets[scheme.choices..]).flat_map(|(&(l, r), &set)| [l, r, set as usize]);
                 let splits = scheme.splits.iter().flat_map(|&(l, r)| [l, r]);
-                counts.into_iter().chain(products).chain(splits).all(|number| number as i64 == f.number())
+                let mut numbers = counts.into_iter().chain(products).chain(splits).chain([scheme.factor as usize]);
+                numbers.all(|number| number as i64 == f.number())
             }
         }
     });

@@ -6,7 +6,7 @@
 //!   be fed; its terms, each a set of choices and a coefficient that is added to the cost where all of them are fed, or a range of
 //!   coefficients, a low and a high one; its windows, rows and day's length.
 //! - The **scheme**, part 2: further variables, each the product of two others, and for each term the two variables whose product
-//!   it is. So the cost becomes a polynomial of degree 2.
+//!   it is. So the cost becomes a polynomial of degree 2. There may be a factor that makes the penalty form heavier.
 //! - The **certificate**, part 3: whole numbers which show that no plan that fits costs less than a bound.
 //! - The **plan**, part 4: which choices are fed. It costs the register's base cost and the coefficients of all terms whose choices
 //!   are all fed, of a range the high one. It fits where the total of each row comes out; without rows every plan fits.
@@ -68,6 +68,9 @@ pub const MAX_PRODUCTS: usize = 32;
 /// The most variables of a scheme, choices and products together.
 pub const MAX_VARIABLES: usize = 64;
 
+/// The largest factor of a scheme.
+pub const MAX_FACTOR: u16 = 1_000;
+
 /// How many suppliers a tally counts apart. Their numbers begin at 0.
 pub const SUPPLIERS: usize = 16;
 
@@ -84,10 +87,10 @@ pub const MAX_PLAIN: usize = 1_294;
 pub const MAX_LISTING: usize = 4_096;
 
 /// No job of more bytes is accepted.
-pub const MAX_JOB: usize = 27_097;
+pub const MAX_JOB: usize = 27_100;
 
 /// A longer job is answered as its first so many bytes are.
-pub const MAX_JOB_READ: usize = 27_231;
+pub const MAX_JOB_READ: usize = 27_234;
 
 /// The number of an answer of [`raw`] where nothing is refused.
 pub const ACCEPTED: u8 = 0;
@@ -202,8 +205,8 @@ pub fn scheme(register: &[u8], scheme: &[u8]) -> Result<Scheme, Refusal> {
     result(answer.number, answer.part, answer.position, answer.scheme)
 }
 
-/// Builds a scheme of a register: how many bytes were written to the front of the buffer. Refused 10 where a term needs a 33rd
-/// product, or one that is the 65th variable.
+/// Builds a scheme of a register, which says no factor, so that its factor is 1: how many bytes were written to the front of the
+/// buffer. Refused 10 where a term needs a 33rd product, or one that is the 65th variable.
 pub fn build(register: &[u8], buffer: &mut [u8]) -> Result<usize, Refusal> {
     let answer = raw::build(register, buffer);
     result(answer.number, answer.part, answer.position, answer.count)
@@ -229,6 +232,12 @@ pub fn search(register: &[u8], limit: u32) -> Result<Found, Refusal> {
 /// product is 1 just where both its operands are, the function is the cost of the plan that feeds the choices which are 1; its least
 /// value over all 0s and 1s is the least cost. Where the register has rows, the least value over those whose choices fit is the
 /// least cost of the plans that fit. Costs are those with the low coefficients of ranges.
+///
+/// The weight of a product is the sum of the absolute values of the coefficients, of ranges the low ones, of the terms that use it,
+/// multiplied by the scheme's factor. A term uses the products of its split, their operands that are products, and so on down. The
+/// higher the factor, the higher is the function where a product of weight above 0 is not that of its operands; elsewhere it is the
+/// same. Its least value is the same with any factor. With a factor of 2 or more, all 0s and 1s that reach it and whose choices fit
+/// have each product of weight above 0 equal to the product of its operands; with 1 others may reach it too.
 ///
 /// The table has, row by row, (N + 1)² numbers for N variables, the choices and then the products: with y_0 = 1 and y_{i + 1} the
 /// variable i, the function is half of the sum of all numbers, that of row i and column j times y_i · y_j. Numbers behind these stay

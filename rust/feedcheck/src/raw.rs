@@ -57,7 +57,8 @@ impl Register {
 /// operands are 1, which are the variables lefts\[k\] and rights\[k\], with lefts\[k\] < rights\[k\] < n + k. There are as many splits
 /// as the register has terms. Term number t is the product of the variables split_lefts\[t\] and split_rights\[t\], the left at most
 /// the right; where they are the same it is that variable. Entries past the counts are 0. n and products together are at most
-/// MAX_VARIABLES.
+/// MAX_VARIABLES. factor, 1 to MAX_FACTOR, is what the weights of the penalty form are multiplied by ([`penalty`](crate::penalty)): 1
+/// where the scheme says none, and 0 on a refusal. Nothing else depends on it.
 #[derive(Clone, Copy, Debug, PartialEq, Eq)]
 #[repr(C)]
 pub struct Scheme {
@@ -67,6 +68,7 @@ pub struct Scheme {
     pub rights: [u8; MAX_PRODUCTS],
     pub split_lefts: [u8; MAX_TERMS],
     pub split_rights: [u8; MAX_TERMS],
+    pub factor: u16,
 }
 
 /// How many jobs of one supplier were accepted and refused; each count stays at 4,294,967,295.

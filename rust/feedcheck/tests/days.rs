@@ -136,10 +136,15 @@ fn splits() -> impl Iterator<Item = [u8; 2]> {
 }
 
 /// Its job with so many squares, the plan before the certificate. Every count but theirs is at its limit, that of products at the 16
-/// that 48 choices leave variables for, and every multiplier is the longest command there is.
+/// that 48 choices leave variables for, the factor is said, and every multiplier is the longest command there is.
 fn longest_job(squares: usize) -> Vec<u8> {
     let products = (0..16).flat_map(|l| [0x21, l, l + 1]);
-    let scheme: Vec<u8> = products.chain(splits().flat_map(|[l, r]| [0x22, l, r])).chain([0x2F]).collect();
+    let scheme: Vec<u8> = command(0x23, &[1_000])
+        .into_iter()
+        .chain(products)
+        .chain(splits().flat_map(|[l, r]| [0x22, l, r]))
+        .chain([0x2F])
+        .collect();
     let scale = [0x30, 1, 0, 0, 0, 0, 0, 0, 0, 0, 0, 0, 0];
     let multipliers = [0x34, 0, 1, 0, 1, 0, 0, 0, 0, 0, 0, 0, 0].repeat(1_024);
     let square = [&[0x3A, 1, 0, 0, 0][..], &[0; 130]].concat();
@@ -159,10 +164,10 @@ fn longest() {
     };
     // 48 choices leave variables for 16 products. Right up to `3F`, where R falls short.
     assert_eq!(longest_job(64).len(), feedcheck::MAX_JOB);
-    assert_eq!(refused(&longest_job(64)), (9, 3, 27_096));
+    assert_eq!(refused(&longest_job(64)), (9, 3, 27_099));
     // The last byte of a 65th square is the last that can matter.
     let job = longest_job(65);
-    assert_eq!(refused(&job), (3, 3, 27_096));
-    assert_eq!(refused(&job[..feedcheck::MAX_JOB_READ]), (3, 3, 27_096));
-    assert_eq!(refused(&job[..feedcheck::MAX_JOB_READ - 1]), (2, 3, 27_096));
+    assert_eq!(refused(&job), (3, 3, 27_099));
+    assert_eq!(refused(&job[..feedcheck::MAX_JOB_READ]), (3, 3, 27_099));
+    assert_eq!(refused(&job[..feedcheck::MAX_JOB_READ - 1]), (2, 3, 27_099));
 }

@@ -26,7 +26,7 @@ fn register() {
 #[test]
 fn scheme() {
     let scheme = feedcheck::scheme(&REGISTER, &SCHEME).unwrap();
-    assert_eq!((scheme.products, scheme.splits), (2, 3));
+    assert_eq!((scheme.products, scheme.splits, scheme.factor), (2, 3, 1));
     assert_eq!((scheme.lefts[1], scheme.rights[1]), (2, 3));
     assert_eq!((scheme.split_lefts[2], scheme.split_rights[2]), (4, 4));
     let refusal = feedcheck::scheme(&REGISTER, &[0x21, 1, 0]).unwrap_err();
