@@ -38,7 +38,7 @@ bit_or_lem true false h = refl
 bit_or_lem false true h = refl
 bit_or_lem false false h = refl
 
-bit_small : (x : Bool) → cond x 1 0 ≤ 1
+pub bit_small : (x : Bool) → cond x 1 0 ≤ 1
 bit_small true = omega arith
 bit_small false = omega arith
 

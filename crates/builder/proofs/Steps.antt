@@ -15,7 +15,7 @@ use Rattle.scheme.specs.declared.Scheme.{Scheme}
 use Rattle.scheme.specs.Scheme.{max_products, max_variables, variables, with_product}
 use Rattle.scheme.specs.Variables.{E}
 use Rattle.scheme.specs.Format.{union_of, is_new}
-use Rattle.builder.specs.Builder.{Step, full, next, and_then, WithVariable, WithList, first_with, join_pair, pair_up, reduce}
+use Rattle.builder.specs.Builder.{Step, full, next, and_then, WithVariable, WithList, first_with, join_pair, pair_up, reduce, Built, built, follow}
 
 -- a step after another came to something: so did the first
 pub and_then_next : {A B G : Type 0} (x : Step A) (f : A → Step B) (q : B) → ((p : A) → x ≡ next p → f p ≡ next q → G) → and_then x f ≡ next q → G
@@ -25,6 +25,26 @@ and_then_next (next p) f q g e = g p refl e
 
 pub same_next : {A : Type 0} {p q : A} → ◌≡◌ {A = Step A} (next p) (next q) → p ≡ q
 same_next e = cc
+
+-- by what a step comes to
+pub step_cases : {A G : Type 0} (x : Step A) → (x ≡ full → G) → ((a : A) → x ≡ next a → G) → G
+step_cases full f g = f refl
+step_cases (next a) f g = g a refl
+
+pub next_not_full : {A : Type 0} {a : A} → ◌≡◌ {A = Step A} (next a) full → ⊥
+next_not_full e = let z : ◌≡◌ {A = ℕ} 0 1 = cc in omega arith
+
+-- a step after another is full: the first is, or the second
+pub and_then_full : {A B G : Type 0} (x : Step A) (f : A → Step B) → (x ≡ full → G) → ((a : A) → x ≡ next a → f a ≡ full → G) → and_then x f ≡ full → G
+unfolding and_then
+and_then_full full f g h e = g refl
+and_then_full (next a) f g h e = h a refl e
+
+-- what follows a step came to a scheme: so did the step
+pub follow_built : {G : Type 0} (x : Step Scheme) (t : ℕ) (rest : Scheme → Built) (after : Scheme) → ((sch : Scheme) → x ≡ next sch → rest sch ≡ built after → G) → follow x t rest ≡ built after → G
+unfolding follow
+follow_built full t rest after g e = let z : ◌≡◌ {A = ℕ} 0 1 = cc in absurd (omega arith)
+follow_built (next sch) t rest after g e = g sch refl e
 
 -- ---- a pair
 

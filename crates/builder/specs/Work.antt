@@ -1,10 +1,6 @@
 -- What the builder's functions lead to, by the builder's definition.
 use Rattle.std.specs.Prelude.{ℕ, ◌<◌, List, take, Result, Ok, Err}
 use Rattle.integers.specs.Lists.{All}
-use Rattle.wire.specs.declared.refusals.Fault.{Fault}
-use Rattle.wire.specs.declared.WriterAnswer.{WriterAnswer}
-use Rattle.wire.specs.Results.{number_of}
-use Rattle.wire.specs.Writer.{refused_answer, written_answer}
 use Rattle.scheme.specs.declared.Scheme.{Scheme}
 use Rattle.scheme.specs.Scheme.{variables}
 use Rattle.builder.specs.declared.list.Members.{Members}
@@ -37,8 +33,3 @@ scheme_step w (Err e) = full
 abbrev pub built_of : Result Scheme ℕ → Built
 built_of (Ok sch) = built sch
 built_of (Err t) = stopped t
-
--- the answer of a call that writes bytes, from how many it wrote
-abbrev pub writer_answer : Result ℕ Fault → WriterAnswer
-writer_answer (Ok count) = written_answer count
-writer_answer (Err fault) = refused_answer (number_of fault.refusal) fault.part fault.position

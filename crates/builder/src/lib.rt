@@ -11,7 +11,8 @@ mod writing;
 ghost use Rattle.std.specs.Prelude.{◌≡◌};
 ghost use Rattle.register.specs.Valid.{Valid};
 ghost use Rattle.builder.specs.Builder.{build};
-ghost use Rattle.builder.specs.Work.{built_of, writer_answer};
+ghost use Rattle.wire.specs.Writer.{writer_answer};
+ghost use Rattle.builder.specs.Work.{built_of};
 ghost use Rattle.builder.specs.Answer.{build_answer, build_buffer};
 
 use register::walk::term_position;

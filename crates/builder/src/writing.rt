@@ -4,9 +4,8 @@ ghost use Rattle.std.proofs.lemmas.List.Edits.{sets};
 ghost use Rattle.register.specs.Limits.{max_terms};
 ghost use Rattle.scheme.specs.Scheme.{max_products, Lengths};
 ghost use Rattle.scheme.specs.Encoding.{encode_scheme};
-ghost use Rattle.wire.specs.Writer.{bytes_answer, with_front};
+ghost use Rattle.wire.specs.Writer.{writer_answer, bytes_answer, with_front};
 ghost use Rattle.builder.specs.Encoding.{encode_pair, encode_pairs};
-ghost use Rattle.builder.specs.Work.{writer_answer};
 
 use scheme::Scheme;
 use wire::{Fault, Refusal, ToBytes};

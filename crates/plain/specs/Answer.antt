@@ -1,10 +1,8 @@
 -- What the call answers and what its lent buffer then holds, by what reading the parts leads to.
-use Rattle.std.specs.Prelude.{ℕ, ◌+◌, ◌*◌, List, Result, Ok, Err}
+use Rattle.std.specs.Prelude.{ℕ, ◌+◌, ◌*◌, List}
 use Rattle.wire.specs.Outcome.{answer_by}
 use Rattle.wire.specs.declared.WriterAnswer.{WriterAnswer}
-use Rattle.wire.specs.declared.refusals.Fault.{Fault}
-use Rattle.wire.specs.Results.{number_of}
-use Rattle.wire.specs.Writer.{refused_answer, written_answer, bytes_answer, with_front}
+use Rattle.wire.specs.Writer.{refused_answer, bytes_answer, with_front}
 use Rattle.register.specs.declared.Register.{Register}
 use Rattle.plan.specs.Chosen.{chosen}
 use Rattle.scheme.specs.declared.Scheme.{Scheme}
@@ -20,11 +18,6 @@ own_bytes reg sch plan = encode_plain (chosen reg plan) reg sch
 -- so many bytes are enough for every certificate of our own: `30`, for each variable at most `31` and one of `38` and `39`, and `3F`
 abbrev pub own_room : ℕ
 own_room = command_size 0x30 + max_variables * (command_size 0x31 + command_size 0x38) + command_size 0x3F
-
--- what the code's result answers
-abbrev pub answer_of : Result ℕ Fault → WriterAnswer
-answer_of (Ok count) = written_answer count
-answer_of (Err fault) = refused_answer (number_of fault.refusal) fault.part fault.position
 
 -- number, part and position of a refusal, count 0, or zeros and the count of bytes, of the bytes of parts 1 and 2, of part 4 where a term
 -- has a range, and the lent buffer: a short buffer is found after all else

@@ -12,14 +12,14 @@ ghost use Rattle.register.specs.Limits.{max_base};
 ghost use Rattle.scheme.specs.Scheme.{side};
 ghost use Rattle.scheme.specs.Function.{g};
 ghost use Rattle.wire.specs.Number.{written};
-ghost use Rattle.wire.specs.Writer.{bytes_answer, with_front};
+ghost use Rattle.wire.specs.Writer.{writer_answer, bytes_answer, with_front};
 ghost use Rattle.integers.specs.Lists.{join_below};
 ghost use Rattle.certificate.specs.Certificate.{Multiplier};
 ghost use Rattle.certificate.specs.Encoding.{encode_scale};
 ghost use Rattle.plain.specs.Plain.{unless_zero};
 ghost use Rattle.plain.specs.Encoding.{encode_multipliers, encode_plain};
 ghost use Rattle.plain.specs.InTable.{Small, entry_in, products_in, half_in, left_in, subtracted_in, diagonal_in, linear_in, commands_in, encode_in};
-ghost use Rattle.plain.specs.Answer.{answer_of, plain_answer, plain_buffer};
+ghost use Rattle.plain.specs.Answer.{plain_answer, plain_buffer};
 
 use bound::chosen::open_chosen;
 use forms::{SquareTable, WorkingTable};
@@ -228,7 +228,7 @@ fn function_table(quadratization: &Quadratization) -> [i64; WorkingTable::NUMBER
 
 // Writes our own certificate of a quadratization, if the buffer is long enough. Returns how many bytes it has.
 fn plain_certificate(quadratization: &Quadratization, out: &mut [u8]) -> Result<usize, Fault>
-    ensures value { answer_of result ≡ bytes_answer (encode_plain (coefficient quadratization.now.register) quadratization.now.register quadratization.now.scheme) out.old }
+    ensures value { writer_answer result ≡ bytes_answer (encode_plain (coefficient quadratization.now.register) quadratization.now.register quadratization.now.scheme) out.old }
     ensures out_after { out.new ≡ with_front (encode_plain (coefficient quadratization.now.register) quadratization.now.register quadratization.now.scheme) out.old }
 {
     let numbers = function_table(quadratization);
@@ -246,7 +246,7 @@ fn plain_certificate(quadratization: &Quadratization, out: &mut [u8]) -> Result<
 
 // Writes our own certificate of two parts, and of a plan where a term has a range, each by itself.
 fn put_plain(register: &[u8], scheme: &[u8], plan: &[u8], out: &mut [u8]) -> Result<usize, Fault>
-    ensures value { answer_of result ≡ plain_answer register.now scheme.now plan.now out.old }
+    ensures value { writer_answer result ≡ plain_answer register.now scheme.now plan.now out.old }
     ensures out_after { out.new ≡ plain_buffer register.now scheme.now plan.now out.old }
 {
     let quadratization = open_chosen(register, scheme, plan)?;

@@ -17,10 +17,8 @@ ghost use Rattle.register.specs.Format.{register_in_job, register_by_itself};
 ghost use Rattle.register.specs.Opening.{open_register};
 ghost use Rattle.register.specs.Answer.{register_answer};
 
-use checks::{
-    BASE_SIZE, CHOICE_SIZE, LENGTH_SIZE, RANGE_SIZE, ROW_SIZE, TERM_SIZE, WIDE_TERM_SIZE,
-    WINDOW_SIZE, refusal_at,
-};
+pub use checks::{BASE_SIZE, CHOICE_SIZE, TERM_SIZE};
+use checks::{LENGTH_SIZE, RANGE_SIZE, ROW_SIZE, WIDE_TERM_SIZE, WINDOW_SIZE, refusal_at};
 use rows::put_entries;
 use windows::pass_windows;
 use wire::{Fault, FromBytes, Read, Refusal, Refused, by_itself};

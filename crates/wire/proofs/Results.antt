@@ -8,7 +8,7 @@ use lib.Dec.{ltb}
 use lib.ListN.{length}
 use Rattle.std.proofs.Common.{Result, Ok, Err}
 use Rattle.wire.specs.declared.refusals.Refusal.{Refusal}
-use Rattle.wire.specs.declared.refusals.Refusal.TheVariants.{NoCommand, CutShort, TooMany, OutOfRange, NotThere, Misordered, NotRising, SetsUnfit, FallsShort, NoProductLeft, TooShort, PastEnd, OutsideWindows, PastLimit, Misfit, NoneFits, UnknownSupplier}
+use Rattle.wire.specs.declared.refusals.Refusal.TheVariants.{NoCommand, CutShort, TooMany, OutOfRange, NotThere, Misordered, NotRising, SetsUnfit, FallsShort, NoProductLeft, TooShort, PastEnd, OutsideWindows, PastLimit, Misfit, NoneFits, UnknownSupplier, ShapeOutOfRange}
 use Rattle.wire.specs.declared.refusals.Refused.{Refused}
 use Rattle.wire.specs.declared.refusals.Read.{Read}
 use Rattle.wire.specs.Part.{Reading, refused, accepted, by_itself}
@@ -35,6 +35,7 @@ numbered PastLimit e = omega arith
 numbered Misfit e = omega arith
 numbered NoneFits e = omega arith
 numbered UnknownSupplier e = omega arith
+numbered ShapeOutOfRange e = omega arith
 
 -- ---- a part at the front of a run of bytes, by what its commands gave
 

@@ -38,7 +38,7 @@ module _ (s : List ℕ) (at : ℕ) where
   put_at_next a next k x e = put_at-written (written s at a) next k x ∙ written_next a next (bytes_of k x) e
 
   -- three numbers
-  pub put_at_three : (j k l x y z second third : ℕ) → second ≡ at + j → third ≡ at + j + k →
+  put_at_three : (j k l x y z second third : ℕ) → second ≡ at + j → third ≡ at + j + k →
       put_at l (put_at k (put_at j s at x) second y) third z ≡ written s at (bytes_of j x ++ (bytes_of k y ++ bytes_of l z))
   put_at_three j k l x y z second third e d =
       rw (
@@ -56,6 +56,16 @@ written_front s a h = sets-eq a s 0 (rw zero-add h) ∙ rw zero-add
 pub one_byte : (x : ℕ) → x < 256 → bytes_of 1 x ≡ x ∷ []
 unfolding bytes_of
 one_byte x l = rw (mod-eq_of_lt l)
+
+-- a command's byte and two operands, stored one after the other
+module _ (s : List ℕ) (at k l byte y z : ℕ) (few : byte < 256) where
+  pub command_stored : {first second out : List ℕ} {next last : ℕ} → first ≡ put_at 1 s at byte → second ≡ put_at k first next y → out ≡ put_at l second last z →
+      next ≡ at + 1 → last ≡ at + 1 + k → out ≡ written s at (byte ∷ (bytes_of k y ++ bytes_of l z))
+  command_stored {first} {second} {out} {next} {last} a b c e d =
+      c
+      ∙ ap (λ o. put_at l o last z) (b ∙ ap (λ o. put_at k o next y) a)
+      ∙ put_at_three s at 1 k l byte y z next last e d
+      ∙ ap (λ o. written s at (o ++ (bytes_of k y ++ bytes_of l z))) (one_byte byte few)
 
 -- ---- writers
 

@@ -1,7 +1,7 @@
 -- What the code's results say: the paper's number of each refusal, a part that is read or refused, parts that are opened or refused.
 use Rattle.std.specs.Prelude.{ℕ, Result, Ok, Err}
 use Rattle.wire.specs.declared.refusals.Refusal.{Refusal}
-use Rattle.wire.specs.declared.refusals.Refusal.TheVariants.{NoCommand, CutShort, TooMany, OutOfRange, NotThere, Misordered, NotRising, SetsUnfit, FallsShort, NoProductLeft, TooShort, PastEnd, OutsideWindows, PastLimit, Misfit, NoneFits, UnknownSupplier}
+use Rattle.wire.specs.declared.refusals.Refusal.TheVariants.{NoCommand, CutShort, TooMany, OutOfRange, NotThere, Misordered, NotRising, SetsUnfit, FallsShort, NoProductLeft, TooShort, PastEnd, OutsideWindows, PastLimit, Misfit, NoneFits, UnknownSupplier, ShapeOutOfRange}
 use Rattle.wire.specs.declared.refusals.Refused.{Refused}
 use Rattle.wire.specs.declared.refusals.Fault.{Fault}
 use Rattle.wire.specs.declared.refusals.Read.{Read}
@@ -35,6 +35,8 @@ number_of PastLimit = 14
 number_of Misfit = 15
 number_of NoneFits = 16
 number_of UnknownSupplier = 17
+-- how many terms, and of how many choices each, are asked for
+number_of ShapeOutOfRange = 18
 
 -- the number of a refusal, or 0 where nothing is refused
 abbrev pub number_in : {A : Type 0} → Result A Refusal → ℕ

@@ -25,6 +25,7 @@ pub enum Refusal {
     Misfit,
     NoneFits,
     UnknownSupplier,
+    ShapeOutOfRange,
 }
 
 // A refusal, and the position in its part of the command that is at fault.

@@ -3,11 +3,10 @@ use Prim.Native.Nat.{◌≤◌, ◌<◌}
 use mathlib.Core.Path.{◌≡◌, sym, ◌∙◌, ap}
 use lib.ListN.{length}
 use Rattle.std.specs.Prelude.{Err}
-use Rattle.wire.specs.Writer.{refused_answer, written_answer}
+use Rattle.wire.specs.Writer.{refused_answer, written_answer, writer_answer}
 use Rattle.wire.proofs.Writer.{bytes_short, bytes_fit}
 use Rattle.scheme.specs.Encoding.{encode_scheme}
 use Rattle.scheme.proofs.Encoding.{length-encode}
-use Rattle.builder.specs.Work.{writer_answer}
 use Rattle.builder.proofs.writing.write_scheme.Goals as goal
 
 pub returns-then-out-count-clause-answer : goal.returns-then-out-count-clause-answer

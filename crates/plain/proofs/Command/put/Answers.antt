@@ -1,10 +1,9 @@
-use Prim.Native.Nat.{◌+◌}
 use mathlib.Core.Path.{refl, sym, ◌∙◌, ap}
-use mathlib.Core.List.{◌++◌, flat_map}
+use mathlib.Core.List.{flat_map}
 use native.Mathlib.Omega.{arith}
-use Rattle.wire.specs.Number.{bytes_of, put_at, written}
+use Rattle.wire.specs.Number.{written}
 use Rattle.plain.specs.Encoding.{encode_multipliers}
-use Rattle.wire.proofs.Written.{put_at_three, one_byte, same, nothing}
+use Rattle.wire.proofs.Written.{command_stored, same, nothing}
 use Rattle.plain.proofs.Encoded.{encode_command, unless_zero_none, unless_zero_one, unless_zero_ten}
 use Rattle.plain.proofs.Command.put.Goals as goal
 
@@ -33,8 +32,6 @@ returns c =
     record {
       value = omega (arith, unless_zero_ten a.self.kind a.self.name a.self.m c.if-self-eq0.false);
       out_after =
-          c.write-3.ensures
-          ∙ ap (λ l. put_at 8 l (a.at + 2) a.self.m) (c.write-2.ensures ∙ ap (λ l. put_at 1 l (a.at + 1) a.self.name) c.write.ensures)
-          ∙ put_at_three out a.at 1 1 8 a.self.kind a.self.name a.self.m (a.at + 1) (a.at + 2) refl (omega arith)
-          ∙ ap (written out a.at) (ap (λ l. l ++ (bytes_of 1 a.self.name ++ bytes_of 8 a.self.m)) (one_byte a.self.kind (omega arith)) ∙ sym (encode_command a.self.kind a.self.name a.self.m) ∙ ap encode_multipliers (sym (unless_zero_one a.self.kind a.self.name a.self.m c.if-self-eq0.false)));
+          command_stored out a.at 1 8 a.self.kind a.self.name a.self.m (omega arith) c.write.ensures c.write-2.ensures c.write-3.ensures refl (omega arith)
+          ∙ ap (written out a.at) (sym (encode_command a.self.kind a.self.name a.self.m) ∙ ap encode_multipliers (sym (unless_zero_one a.self.kind a.self.name a.self.m c.if-self-eq0.false)));
     }
