@@ -1,0 +1,2 @@
+-- How many products the builder forms of a register.
+pub mod Counting
