@@ -36,5 +36,6 @@ pub mod BeforeMoreChoices
 pub mod Factors
 pub mod BeforeFactors
 pub mod HeavierPenalties
+pub mod CostliestRegister
 pub mod Suppliers
 pub mod SupplierListing

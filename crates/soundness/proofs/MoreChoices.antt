@@ -47,8 +47,8 @@ use Rattle.scheme.proofs.RefusedAfter.{product_refused_there}
 use Rattle.scheme.proofs.Opened.{answer_opened}
 use Rattle.scheme.proofs.Sets.{new_at}
 use Rattle.scheme.proofs.Entries.{initial_within}
-use Rattle.builder.specs.Builder.{Step, full, next, WithVariable, stopped, built, and_then, follow, choices_of, join_pair, pair_up, reduce, build_term, build_from, build}
-use Rattle.builder.proofs.Steps.{no_room, found, found_within, found_new, join_found, join_new, reduce_done, reduce_zero, reduce_more, pass_kept}
+use Rattle.builder.specs.Builder.{Step, full, next, WithVariable, stopped, built, follow, choices_of, join_pair, pair_up, reduce, build_term, build_from, build}
+use Rattle.builder.proofs.Steps.{next_not_full, and_then_full, no_room, found, found_within, found_new, join_found, join_new, reduce_done, reduce_zero, reduce_more, pass_kept}
 use Rattle.builder.proofs.Unions.{choices_hold}
 use Rattle.builder.proofs.Holds.{Holding, holding_joins}
 use Rattle.builder.proofs.Steady.{All-back}
@@ -119,15 +119,6 @@ counts_kept = record {
 }
 
 -- ---- the builder
-
--- a step after another is full: the first is, or the second
-and_then_full : {A B G : Type 0} (x : Step A) (f : A → Step B) → (x ≡ full → G) → ((p : A) → x ≡ next p → f p ≡ full → G) → and_then x f ≡ full → G
-unfolding and_then
-and_then_full full f g h e = g refl
-and_then_full (next p) f g h e = h p refl e
-
-next_not_full : {A : Type 0} {p : A} → ◌≡◌ {A = Step A} (next p) full → ⊥
-next_not_full e = let z : ◌≡◌ {A = ℕ} 0 1 = cc in omega arith
 
 -- joining a pair is full
 pair_full : {G : Type 0} (n : ℕ) (sch : Scheme) (a b : ℕ) → join_pair n sch a b ≡ full → (found n sch a b ≡ variables n sch → no_room n sch ≡ true → G) → G

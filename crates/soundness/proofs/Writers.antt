@@ -21,8 +21,10 @@ use Rattle.register.specs.Format.{register_by_itself}
 use Rattle.register.specs.Answer.{register_answer}
 use Rattle.register.specs.Opening.{open_register}
 use Rattle.register.proofs.Accept as Ra
+use Rattle.register.proofs.Opened.{Opened}
 use Rattle.scheme.specs.declared.Scheme.{Scheme}
 use Rattle.scheme.specs.Encoding.{encode_scheme}
+use Rattle.scheme.proofs.Accept as Sa
 use Rattle.scheme.proofs.Canonical.{canonical}
 use Rattle.scheme.proofs.Opened.{register_bytes, scheme_bytes, answer_opened}
 use Rattle.builder.specs.Builder.{Built, stopped, built, build}
@@ -60,10 +62,10 @@ use Rattle.soundness.proofs.Acceptance.{acceptance}
 -- ---- a call that writes bytes
 
 -- one that answers and hands back just this
-abbrev writer_of : List ℕ → Writer
+abbrev pub writer_of : List ℕ → Writer
 writer_of bytes lent = (bytes_answer bytes lent, with_front bytes lent)
 
-writes_bytes : (writer : Writer) (bytes : List ℕ) (room : ℕ) → ((lent : List ℕ) → writer lent ≡ writer_of bytes lent) → length bytes ≤ room → Writes writer bytes room
+pub writes_bytes : (writer : Writer) (bytes : List ℕ) (room : ℕ) → ((lent : List ℕ) → writer lent ≡ writer_of bytes lent) → length bytes ≤ room → Writes writer bytes room
 unfolding bytes_answer
 writes_bytes writer bytes room e l = record {
   fits = fits;
@@ -74,12 +76,12 @@ writes_bytes writer bytes room e l = record {
     fits : (lent : List ℕ) → length bytes ≤ length lent → writer lent ≡ handed_back bytes lent
     fits lent m = e lent ∙ rw (le-ltb (length lent) (length bytes) m) refl
 
-keeps_bytes : (bytes : List ℕ) → KeepsRefused (writer_of bytes)
+pub keeps_bytes : (bytes : List ℕ) → KeepsRefused (writer_of bytes)
 unfolding bytes_answer
 keeps_bytes bytes lent h = flag (ltb (length lent) (length bytes)) (λ e. rw e (refl, refl)) (λ e. absurd (h (rw e refl)))
 
 -- where it answers 0, its bytes stand at the front
-front_is : (writer : Writer) (bytes : List ℕ) (room : ℕ) → Writes writer bytes room → (lent : List ℕ) → (writer lent).0.number ≡ 0 → front (writer lent) ≡ bytes
+pub front_is : (writer : Writer) (bytes : List ℕ) (room : ℕ) → Writes writer bytes room → (lent : List ℕ) → (writer lent).0.number ≡ 0 → front (writer lent) ≡ bytes
 front_is writer bytes room w lent z = by (dec_lt (length lent) (length bytes))
   where
     by : Dec (length lent < length bytes) → front (writer lent) ≡ bytes
@@ -88,13 +90,33 @@ front_is writer bytes room w lent z = by (dec_lt (length lent) (length bytes))
 
 -- ---- the builder
 
+-- of an accepted register
+module _ (t : List ℕ) (reg : Register) (o : Opened t reg) where
+  pub opened_is : (x : Built) → build reg ≡ x → (lent : List ℕ) → build_call t lent ≡ (built_answer t reg lent x, built_buffer reg lent x)
+  opened_is x e lent = rw (o.reads, e) refl
+
+  module _ (sch : Scheme) (e : build reg ≡ built sch) where
+    pub opened_writes : Writes (build_call t) (encode_scheme reg.choices sch) built_room
+    opened_writes = writes_bytes (build_call t) (encode_scheme reg.choices sch) built_room (opened_is (built sch) e) (build_size reg o.valid sch e)
+
+    pub opened_reads : (lent : List ℕ) → (build_call t lent).0.number ≡ 0 → scheme_call t (front (build_call t lent)) ≡ scheme_accepted sch
+    opened_reads lent z =
+        let bytes = encode_scheme reg.choices sch in
+        ap (scheme_call t) (front_is (build_call t) bytes built_room opened_writes lent z)
+        ∙ rw (o.reads, Sa.encoding_accepted reg o.valid bytes sch (build_valid reg o.valid sch e) (canonical reg sch (built_factor reg sch e)))
+
 module _ (t : List ℕ) (reg : Register) (p : Part1 t reg) where
+  opened_part : Opened t reg
+  opened_part = record { reads = Ra.encoding_accepted t reg p.conditions p.bytes; valid = p.conditions }
+
   pub build_is : (x : Built) → build reg ≡ x → (lent : List ℕ) → build_call t lent ≡ (built_answer t reg lent x, built_buffer reg lent x)
-  build_is x e lent = rw (Ra.encoding_accepted t reg p.conditions p.bytes, e) refl
+  build_is = opened_is t reg opened_part
 
 build_writes : (t : List ℕ) (reg : Register) (sch : Scheme) → OfBuild t reg sch → Writes (build_call t) (encode_scheme reg.choices sch) built_room
-build_writes t reg sch o =
-    writes_bytes (build_call t) (encode_scheme reg.choices sch) built_room (build_is t reg o.part_1 (built sch) o.builds) (build_size reg o.part_1.conditions sch o.builds)
+build_writes t reg sch o = opened_writes t reg (opened_part t reg o.part_1) sch o.builds
+
+build_reads : (t : List ℕ) (reg : Register) (sch : Scheme) → OfBuild t reg sch → (lent : List ℕ) → (build_call t lent).0.number ≡ 0 → scheme_call t (front (build_call t lent)) ≡ scheme_accepted sch
+build_reads t reg sch o = opened_reads t reg (opened_part t reg o.part_1) sch o.builds
 
 -- the scheme of what is handed back
 built_part : (t : List ℕ) (reg : Register) (sch : Scheme) → OfBuild t reg sch → (lent : List ℕ) → (build_call t lent).0.number ≡ 0 → Part2 reg (front (build_call t lent)) sch
@@ -102,14 +124,6 @@ built_part t reg sch o lent z = record {
   conditions = build_valid reg o.part_1.conditions sch o.builds;
   bytes = rw (front_is (build_call t) (encode_scheme reg.choices sch) built_room (build_writes t reg sch o) lent z) (canonical reg sch (built_factor reg sch o.builds));
 }
-
-build_reads : (t : List ℕ) (reg : Register) (sch : Scheme) → OfBuild t reg sch → (lent : List ℕ) → (build_call t lent).0.number ≡ 0 → scheme_call t (front (build_call t lent)) ≡ scheme_accepted sch
-build_reads t reg sch o lent z =
-    acceptance.of_scheme.all t _ sch (record {
-      reg = reg;
-      part_1 = o.part_1;
-      part_2 = built_part t reg sch o lent z;
-    })
 
 build_only : (t lent : List ℕ) → Bytes t → (build_call t lent).0.number ≡ 0 → (reg : Register) × ((sch : Scheme) × OfBuild t reg sch)
 build_only t lent b z =

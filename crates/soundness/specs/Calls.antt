@@ -7,6 +7,7 @@ use Rattle.register.specs.Answer.{register_answer}
 use Rattle.scheme.specs.declared.SchemeAnswer.{SchemeAnswer}
 use Rattle.scheme.specs.Answer.{scheme_answer}
 use Rattle.builder.specs.Answer.{build_answer, build_buffer}
+use Rattle.costliest.specs.Answer.{costliest_answer, costliest_buffer}
 use Rattle.plan.specs.declared.CostAnswer.{CostAnswer}
 use Rattle.plan.specs.Answer.{cost_answer}
 use Rattle.penalty.specs.declared.PenaltyAnswer.{PenaltyAnswer}
@@ -50,6 +51,10 @@ PlainCall = List ℕ → List ℕ → List ℕ → List ℕ → WriterAnswer × 
 abbrev pub BuildCall : Type 0
 BuildCall = List ℕ → List ℕ → WriterAnswer × List ℕ
 
+-- how many terms, how many choices in each, and the byte buffer
+abbrev pub CostliestCall : Type 0
+CostliestCall = ℕ → ℕ → List ℕ → WriterAnswer × List ℕ
+
 -- a job, the table, the supplier's number and the tally
 abbrev pub JobCall : Type 0
 JobCall = List ℕ → List ℤ → ℕ → Tally → JobAnswer × List ℤ
@@ -88,6 +93,9 @@ plain_call register scheme plan lent = (plain_answer register scheme plan lent, 
 
 abbrev pub build_call : BuildCall
 build_call register lent = (build_answer register lent, build_buffer register lent)
+
+abbrev pub costliest_call : CostliestCall
+costliest_call m d lent = (costliest_answer m d lent, costliest_buffer m d lent)
 
 abbrev pub job_call : JobCall
 job_call job lent supplier tally = (job_answer job lent supplier tally, job_table job lent supplier)

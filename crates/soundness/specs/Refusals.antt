@@ -1,7 +1,8 @@
--- What a refusal says and hands back, of every call: which part it is, that the parts before it are right, that number and position
--- are those of the first command of the part that is not right, and within it the lowest number (`wire/specs/Refused`,
--- `bound/specs/Refused`), that the answer's other fields are 0, and what table and buffer then hold. 10, 11, 12, 14, 16
--- and 17, which no wrong command causes, have cases of their own. The bytes settle number and position: `refused_iff` in `wire/proofs/Lowest`.
+-- What a refusal says and hands back, of every call that is given bytes: which part it is, that the parts before it are right, that number
+-- and position are those of the first command of the part that is not right, and within it the lowest number (`wire/specs/Refused`,
+-- `bound/specs/Refused`), that the answer's other fields are 0, and what table and buffer then hold. 10, 11, 12, 14, 16 and 17, which no
+-- wrong command causes, have cases of their own. The bytes settle number and position: `refused_iff` in `wire/proofs/Lowest`. The call that
+-- is given two numbers, and its 18: `CostliestRegister`.
 use Rattle.std.specs.Prelude.{ℕ, ◌+◌, ◌≤◌, ◌<◌, ◌≡◌, ◌⊎◌, true, false, List, ◌++◌, ℤ, pos, length}
 use Rattle.std.proofs.Common.{inl, inr}
 use Rattle.wire.specs.Number.{Bytes}
@@ -338,7 +339,7 @@ SearchRefusals call = (register : List ℕ) → Bytes register → (limit : ℕ)
     ⊎ (PastLimit a.number a.part a.position register limit
     ⊎ NoneFits a.number a.part a.position register limit))
 
--- every call
+-- every call that is given bytes
 pub record Refusals (register : RegisterCall) (scheme : SchemeCall) (builder : BuildCall) (cost : CostCall) (penalty : PenaltyCall) (check : CheckCall) (plain : PlainCall) (job : JobCall) (lines supplier : ListingCall) (cheapest : SearchCall) : Type 0 where
   pub of_register : RegisterRefusals register
   pub of_scheme : SchemeRefusals scheme

@@ -1,5 +1,5 @@
--- What the calls write, of any such calls: the bytes of the scheme built or of the certificate meant, which read back, or the lines
--- of a job, and all else of the lent buffer as it was.
+-- What the calls write that are given bytes, of any such calls: the bytes of the scheme built or of the certificate meant, which read back,
+-- or the lines of a job, and all else of the lent buffer as it was. The costliest register: `CostliestRegister`.
 use Rattle.std.specs.Prelude.{ℕ, ◌≤◌, ◌<◌, ◌≡◌, cond, List, ◌++◌, ℤ, length, drop}
 use Rattle.wire.specs.declared.WriterAnswer.{WriterAnswer}
 use Rattle.wire.specs.Number.{Bytes}

@@ -6,11 +6,12 @@
 ghost use Rattle.std.specs.Prelude.{◌≡◌};
 ghost use Rattle.wire.specs.Number.{Bytes};
 ghost use Rattle.job.specs.Counting.{Whole};
-ghost use Rattle.soundness.specs.Calls.{register_call, scheme_call, cost_call, penalty_call, check_call, plain_call, build_call, job_call, listing_call, supplier_listing_call, search_call};
+ghost use Rattle.soundness.specs.Calls.{register_call, scheme_call, cost_call, penalty_call, check_call, plain_call, build_call, costliest_call, job_call, listing_call, supplier_listing_call, search_call};
 
 use bound::CheckAnswer;
 use bound::check::feedcheck_check;
 use builder::feedcheck_build;
+use costliest::feedcheck_costliest;
 use job::{JobAnswer, Tally, feedcheck_job};
 use listing::{feedcheck_listing, feedcheck_supplier_listing};
 use penalty::{PenaltyAnswer, feedcheck_penalty};
@@ -91,6 +92,13 @@ pub fn build_call(register: &[u8], buffer: &mut [u8]) -> WriterAnswer
     ensures buffer_after { buffer.new ≡ (build_call register.now buffer.old).1 }
 {
     feedcheck_build(register, buffer)
+}
+
+pub fn costliest_call(m: u32, d: u32, buffer: &mut [u8]) -> WriterAnswer
+    ensures value { result ≡ (costliest_call m d buffer.old).0 }
+    ensures buffer_after { buffer.new ≡ (costliest_call m d buffer.old).1 }
+{
+    feedcheck_costliest(m, d, buffer)
 }
 
 pub fn job_call(job: &[u8], table: &mut [i64], supplier: u8, tally: Tally) -> JobAnswer

@@ -8,3 +8,4 @@ pub mod Prices
 pub mod Table
 pub mod Large
 pub mod Heavier
+pub mod Costliest
