@@ -6,6 +6,7 @@ mod answers;
 mod buffers;
 mod builds;
 mod checks;
+mod costliests;
 mod costs;
 mod files;
 mod in_files;
@@ -48,6 +49,7 @@ fn main(rt: HostRuntime) -> io::Result<()> {
         })
     })?;
     run_call(rt, "search", "search.txt", searches::agrees)?;
+    run_call(rt, "costliest", "costliest.txt", costliests::agrees)?;
     run_call(rt, "feedcheck", "feedcheck.txt", outputs::agrees)?;
     run_call(rt, "build_scheme", "build_scheme.txt", |fields| {
         parts::agrees(fields, |register, text| scheme_of(register, text))
