@@ -1,6 +1,7 @@
 // The example of the scope through include/feedcheck.h, every call, a register with windows, days of each length, a register with
-// rows, one with ranges, one of 48 choices, a scheme with factors, a tally of several suppliers, what a supplier may read, the names
-// and sentences of the refusals, and the version. Prints a line and exits 1 where an answer is another than the scope's.
+// rows, one with ranges, one of 48 choices, a scheme with factors, the costliest registers, a tally of several suppliers, what a
+// supplier may read, the names and sentences of the refusals, and the version. Prints a line and exits 1 where an answer is another
+// than the scope's.
 #include <stddef.h>
 #include <stdio.h>
 #include <string.h>
@@ -299,6 +300,77 @@ static void try_factors(int64_t *table) {
     expect("factors, record", sizeof b == 616 && sizeof b.scheme == 600 && offsetof(FeedcheckScheme, factor) == 592);
 }
 
+// Two terms of three choices each.
+static const uint8_t COSTLIEST[54] = {0x10, 0, 0, 0, 0, 0x11, 1, 0, 0, 0, 0x11, 1, 0, 1, 0, 0x11, 1, 0, 2, 0,
+                                      0x11, 1, 0, 3, 0, 0x11, 1, 0, 4, 0, 0x11, 1, 0, 5, 0,
+                                      0x12, 7, 0, 0, 0, 1, 0, 0, 0, 0x12, 0x38, 0, 0, 0, 1, 0, 0, 0, 0x1F};
+
+enum { BESIDE = 16 };
+
+// A buffer, with bytes on either side of it.
+static uint8_t costliest_buffer[BESIDE + FEEDCHECK_MAX_COSTLIEST + BESIDE];
+
+static FeedcheckWriterAnswer costliest(uint32_t m, uint32_t d, size_t length) {
+    memset(costliest_buffer, 0xAA, sizeof costliest_buffer);
+    return feedcheck_costliest(m, d, costliest_buffer + BESIDE, length);
+}
+
+// Whether no byte was written but the first so many of the buffer.
+static int kept_but(size_t count) {
+    for (size_t i = 0; i < sizeof costliest_buffer; i++)
+        if ((i < BESIDE || i >= BESIDE + count) && costliest_buffer[i] != 0xAA)
+            return 0;
+    return 1;
+}
+
+static int not_written(FeedcheckWriterAnswer w, unsigned number) {
+    return w.number == number && w.part == 0 && w.position == 0 && w.count == 0 && kept_but(0);
+}
+
+// A shape that there is a costliest register of: its record, its products, and a buffer that is short by a byte.
+static void try_shape(uint32_t m, uint32_t d) {
+    uint8_t built[FEEDCHECK_MAX_BUILT];
+    const uint8_t *bytes = costliest_buffer + BESIDE;
+    const size_t count = 5 + 5 * m * d + 9 * m + 1, products = m * (d - 2);
+    expect("costliest, short buffer", not_written(costliest(m, d, count - 1), 11) && not_written(costliest(m, d, 0), 11));
+    FeedcheckWriterAnswer w = costliest(m, d, count);
+    expect("costliest", w.number == 0 && w.part == 0 && w.position == 0 && w.count == count && kept_but(count));
+    FeedcheckRegisterAnswer a = feedcheck_register(bytes, count);
+    expect("costliest, register", a.number == 0 && a.reg.base == 0 && a.reg.choices == m * d && a.reg.terms == m &&
+                                      a.reg.day_length == FEEDCHECK_USUAL_DAY && a.reg.windows == 0 && a.reg.rows == 0);
+    for (uint32_t i = 0; i < m * d; i++)
+        expect("costliest, choices", a.reg.tanks[i] == 1 && a.reg.minutes[i] == i && (a.reg.masks[i / d] >> i & 1) == 1);
+    for (uint32_t t = 0; t < m; t++)
+        expect("costliest, terms", a.reg.masks[t] == ((UINT64_C(1) << d) - 1) << t * d && a.reg.coefficients[t] == 1 && !a.reg.ranged[t]);
+    w = feedcheck_build(bytes, count, built, sizeof built);
+    expect("costliest, products", w.number == 0 && w.count == 3 * products + 3 * m + 1 &&
+                                      feedcheck_scheme(bytes, count, built, w.count).scheme.products == products);
+}
+
+// Each m and d near the limits, and products that would wrap to 32 or less.
+static void try_costliest(void) {
+    const uint8_t *bytes = costliest_buffer + BESIDE;
+    FeedcheckWriterAnswer w = costliest(2, 3, sizeof COSTLIEST + 1);
+    expect("costliest, bytes", w.number == 0 && w.count == sizeof COSTLIEST && kept_but(sizeof COSTLIEST) &&
+                                   memcmp(bytes, COSTLIEST, sizeof COSTLIEST) == 0);
+    w = costliest(10, 3, FEEDCHECK_MAX_COSTLIEST);
+    expect("costliest, longest", w.number == 0 && w.count == FEEDCHECK_MAX_COSTLIEST);
+    for (uint32_t m = 0; m <= 40; m++)
+        for (uint32_t d = 0; d <= 40; d++) {
+            if (m > 0 && d >= 3 && m * d <= 32)
+                try_shape(m, d);
+            else
+                expect("costliest, shapes out of range", not_written(costliest(m, d, FEEDCHECK_MAX_COSTLIEST), 18) &&
+                                                             not_written(costliest(m, d, 0), 18));
+        }
+    static const uint32_t WRAPPING[7][2] = {{UINT32_C(1) << 30, 4}, {4, UINT32_C(1) << 30}, {UINT32_C(1) << 27, 32}, {1431655766, 3},
+                                            {65536, 65536}, {(UINT32_C(1) << 31) + 1, 4}, {UINT32_MAX, UINT32_MAX}};
+    for (int i = 0; i < 7; i++) {
+        w = costliest(WRAPPING[i][0], WRAPPING[i][1], FEEDCHECK_MAX_COSTLIEST);
+        expect("costliest, products that wrap", not_written(w, 18));
+    }
+}
+
 // Unequal counters; those of supplier 15 are at the top and one below it.
 static FeedcheckTally unequal(void) {
     FeedcheckTally tally;
@@ -376,25 +448,25 @@ static void try_supplier_listing(int64_t *table) {
 }
 
 // The names, in the order of their numbers.
-static const int REFUSALS[17] = {
+static const int REFUSALS[18] = {
     FEEDCHECK_REFUSED_NO_COMMAND, FEEDCHECK_REFUSED_CUT_SHORT, FEEDCHECK_REFUSED_TOO_MANY, FEEDCHECK_REFUSED_OUT_OF_RANGE,
     FEEDCHECK_REFUSED_NOT_THERE, FEEDCHECK_REFUSED_MISORDERED, FEEDCHECK_REFUSED_NOT_RISING, FEEDCHECK_REFUSED_SETS_UNFIT,
     FEEDCHECK_REFUSED_FALLS_SHORT, FEEDCHECK_REFUSED_NO_PRODUCT_LEFT, FEEDCHECK_REFUSED_TOO_SHORT, FEEDCHECK_REFUSED_PAST_END,
     FEEDCHECK_REFUSED_OUTSIDE_WINDOWS, FEEDCHECK_REFUSED_PAST_LIMIT, FEEDCHECK_REFUSED_MISFIT, FEEDCHECK_REFUSED_NONE_FITS,
-    FEEDCHECK_REFUSED_UNKNOWN_SUPPLIER};
+    FEEDCHECK_REFUSED_UNKNOWN_SUPPLIER, FEEDCHECK_REFUSED_SHAPE_OUT_OF_RANGE};
 
 // Each refusal has a sentence of its own, and every other number says that there is none.
 static void try_refusals(void) {
     const char *none = feedcheck_refusal_text(FEEDCHECK_ACCEPTED);
     expect("refusals, accepted", FEEDCHECK_ACCEPTED == 0 && strcmp(none, "no refusal") == 0);
-    for (int number = 1; number <= 17; number++) {
+    for (int number = 1; number <= 18; number++) {
         const char *text = feedcheck_refusal_text((uint8_t)number);
         expect("refusals, names", REFUSALS[number - 1] == number);
         expect("refusals, sentence", strlen(text) > 0 && strcmp(text, none) != 0);
         for (int other = 1; other < number; other++)
             expect("refusals, sentences differ", strcmp(text, feedcheck_refusal_text((uint8_t)other)) != 0);
     }
-    for (int number = 18; number <= 255; number++)
+    for (int number = 19; number <= 255; number++)
         expect("refusals, no refusal", strcmp(feedcheck_refusal_text((uint8_t)number), none) == 0);
     expect("refusals, misfit",
            strcmp(feedcheck_refusal_text(FEEDCHECK_REFUSED_MISFIT), "the plan does not fit the rows") == 0);
@@ -436,6 +508,7 @@ int main(void) {
     try_ranges(table);
     try_wide(table);
     try_factors(table);
+    try_costliest();
     // The places that docs/LINKING.md speaks of.
     expect("record", sizeof a == 5256 && sizeof a.reg == 5240 && offsetof(FeedcheckRegister, day_length) == 4 &&
                          offsetof(FeedcheckRegister, choices) == 8 && offsetof(FeedcheckRegister, masks) == 216);
@@ -480,8 +553,8 @@ int main(void) {
     try_refusals();
     try_version();
     if (!failed)
-        printf("header %s: the example, the windows, the days, the rows, the ranges, the 48 choices, the factors, the suppliers and "
-               "their listing are answered as the scope says, and each refusal has its name and sentence\n",
+        printf("header %s: the example, the windows, the days, the rows, the ranges, the 48 choices, the factors, the costliest "
+               "registers, the suppliers and their listing are answered as the scope says, and each refusal has its name and sentence\n",
                FEEDCHECK_VERSION);
     return failed;
 }

@@ -1,4 +1,4 @@
-/* The eleven calls of the library, which checks feeding plans of fish farms; for C from C99 on, and for C++. docs/LINKING.md has
+/* The twelve calls of the library, which checks feeding plans of fish farms; for C from C99 on, and for C++. docs/LINKING.md has
  * complete programs with the commands that compile them; the first to look at is include/own_register.c.
  *
  * WORDS. A supplier sends a farm a job, a file of four parts. docs/FORMAT.md explains their bytes.
@@ -38,18 +38,18 @@
  * A call that is given parts by themselves reads them in the order of their numbers, but part 4 before part 3; each to the end of
  * its run: bytes after the end of a part are refused 12, at the first of them, before the next part is read.
  *
- * WHAT A CALL ANSWERS. An answer's number is 0, FEEDCHECK_ACCEPTED, or that of a refusal, 1 to 17. On a refusal part, 1 to 4, and
+ * WHAT A CALL ANSWERS. An answer's number is 0, FEEDCHECK_ACCEPTED, or that of a refusal, 1 to 18. On a refusal part, 1 to 4, and
  * position tell the command that is refused. The position is that of its first byte, or of the place where a command is missing or
  * where bytes stand past the end. It is counted from 0 at the first byte of that part's run, or of the job where the call is given
- * a whole job. Part and position are 0 where no command is at fault (11, 14, 16, 17), and where nothing is refused. On a refusal
- * every other field is 0, but for a job's tally, the count of accepted and refused jobs, which goes on all the same.
+ * a whole job. Part and position are 0 where no command is at fault (11, 14, 16, 17, 18), and where nothing is refused. On a
+ * refusal every other field is 0, but for a job's tally, the count of accepted and refused jobs, which goes on all the same.
  *
  * A table holds a quadratic function f of N variables, the choices and then the products, each 0 or 1. With side = N + 1, y[0] = 1
  * and y[i + 1] the variable i, f is half of the sum of table[side * i + j] * y[i] * y[j] over all i and j from 0 to N. The numbers
  * at (i, j) and (j, i) are the same. Numbers from side * side on stay as they were lent.
  *
- * LIBRARIES. The calls stand in ten static libraries, target/staticlib/libNAME.a, both listings in one; the name is given beside
- * each call. tools/libraries makes all ten, tools/libraries NAME one. They can be linked together, in any order. */
+ * LIBRARIES. The calls stand in eleven static libraries, target/staticlib/libNAME.a, both listings in one; the name is given beside
+ * each call. tools/libraries makes all eleven, tools/libraries NAME one. They can be linked together, in any order. */
 #ifndef FEEDCHECK_H
 #define FEEDCHECK_H
 
@@ -65,9 +65,9 @@ extern "C" {
  * is that of the last change that users asked for (docs/changes/R-NUMBER.md), and the patch number counts what came after it.
  * Before 1.0 a new minor number may change calls and records, a new patch number does not. docs/LINKING.md tells what a program
  * must change, under "Programs compiled with an earlier header". */
-#define FEEDCHECK_VERSION "0.11.0"
+#define FEEDCHECK_VERSION "0.12.0"
 #define FEEDCHECK_VERSION_MAJOR 0
-#define FEEDCHECK_VERSION_MINOR 11
+#define FEEDCHECK_VERSION_MINOR 12
 #define FEEDCHECK_VERSION_PATCH 0
 
 enum {
@@ -84,6 +84,7 @@ enum {
     FEEDCHECK_LONG_DAY = 1500,      /* when they go back */
     FEEDCHECK_TABLE_NUMBERS = 4225, /* numbers of a table, enough for every scheme */
     FEEDCHECK_MAX_BUILT = 865,      /* a buffer of so many bytes is enough for every scheme that is built, */
+    FEEDCHECK_MAX_COSTLIEST = 246,  /* for every register that feedcheck_costliest writes, */
     FEEDCHECK_MAX_PLAIN = 1294,     /* for every certificate that feedcheck_plain writes, */
     FEEDCHECK_MAX_LISTING = 4096,   /* for every listing, the farm's and the supplier's */
     FEEDCHECK_MAX_JOB = 27100,      /* no job of more bytes is accepted */
@@ -107,15 +108,16 @@ enum {
     FEEDCHECK_REFUSED_MISORDERED = 6,
     FEEDCHECK_REFUSED_NOT_RISING = 7,
     FEEDCHECK_REFUSED_SETS_UNFIT = 8,
-    FEEDCHECK_REFUSED_FALLS_SHORT = 9,      /* feedcheck_check, feedcheck_job */
-    FEEDCHECK_REFUSED_NO_PRODUCT_LEFT = 10, /* feedcheck_build */
-    FEEDCHECK_REFUSED_TOO_SHORT = 11,       /* every call that is lent a table or a buffer */
+    FEEDCHECK_REFUSED_FALLS_SHORT = 9,        /* feedcheck_check, feedcheck_job */
+    FEEDCHECK_REFUSED_NO_PRODUCT_LEFT = 10,   /* feedcheck_build */
+    FEEDCHECK_REFUSED_TOO_SHORT = 11,         /* every call that is lent a table or a buffer */
     FEEDCHECK_REFUSED_PAST_END = 12,
     FEEDCHECK_REFUSED_OUTSIDE_WINDOWS = 13,
-    FEEDCHECK_REFUSED_PAST_LIMIT = 14,      /* feedcheck_search */
-    FEEDCHECK_REFUSED_MISFIT = 15,          /* feedcheck_cost, feedcheck_job; with ranges feedcheck_check, feedcheck_plain */
-    FEEDCHECK_REFUSED_NONE_FITS = 16,       /* feedcheck_search */
-    FEEDCHECK_REFUSED_UNKNOWN_SUPPLIER = 17 /* feedcheck_job */
+    FEEDCHECK_REFUSED_PAST_LIMIT = 14,        /* feedcheck_search */
+    FEEDCHECK_REFUSED_MISFIT = 15,            /* feedcheck_cost, feedcheck_job; with ranges feedcheck_check, feedcheck_plain */
+    FEEDCHECK_REFUSED_NONE_FITS = 16,         /* feedcheck_search */
+    FEEDCHECK_REFUSED_UNKNOWN_SUPPLIER = 17,  /* feedcheck_job */
+    FEEDCHECK_REFUSED_SHAPE_OUT_OF_RANGE = 18 /* feedcheck_costliest */
 };
 
 /* What the number of a refusal means; of any other number, 0 too, "no refusal". The text is constant and is not to be freed. */
@@ -155,6 +157,8 @@ static inline const char *feedcheck_refusal_text(uint8_t number) {
         return "no plan fits the rows";
     case FEEDCHECK_REFUSED_UNKNOWN_SUPPLIER:
         return "a supplier number is above 15";
+    case FEEDCHECK_REFUSED_SHAPE_OUT_OF_RANGE:
+        return "m is 0, d is below 3 or above 32, or m times d is above 32";
     default:
         return "no refusal";
     }
@@ -302,6 +306,13 @@ FeedcheckSchemeAnswer feedcheck_scheme(const uint8_t *reg, size_t reg_length, co
 /* Builds a scheme of a register and writes its bytes; it says no factor, so that its factor is 1. Refused 10, in part 1 at the
  * command of the term, where a term needs a 33rd product, or one that is the 65th variable. libbuilder.a */
 FeedcheckWriterAnswer feedcheck_build(const uint8_t *reg, size_t reg_length, uint8_t *buffer, size_t buffer_length);
+
+/* Writes a register, the bytes of part 1, for which feedcheck_build forms m * (d - 2) products. For no accepted register with at
+ * most m terms, none over more than d choices, does it form more, whatever else the register has. The base cost is 0, the choices
+ * are m * d, of tank 1 at the minutes from 0 up, and term number t is of the d choices from number d * t on and has the coefficient
+ * 1. m is 1 or more, d 3 to 32, and m * d, which does not wrap, at most 32. For any other m and d it is refused 18, with part and
+ * position 0, whatever the buffer's length. libcostliest.a */
+FeedcheckWriterAnswer feedcheck_costliest(uint32_t m, uint32_t d, uint8_t *buffer, size_t buffer_length);
 
 /* The cost of a plan, the bytes of part 4, of a range with the high coefficient. Refused 15, at the plan's command, where the plan
  * does not fit the rows. Where parts 4 and 3 of a job with ranges are given in the plan's place it is refused 12 in part 4 with the

@@ -25,11 +25,10 @@ import sys
 sys.dont_write_bytecode = True
 
 from check_job import Job, Refused, text
-from command_line import Misuse, expect, files, put, read, run, say
+from command_line import expect, files, number, put, read, run, say
 from job_text import TEXT, is_text
 
 LIMIT = 100_000_000
-LARGEST_LIMIT = 4_294_967_295
 WALKED = 200_000
 EVERY = 20
 TOO_MANY = "R 14 0\n"
@@ -134,18 +133,12 @@ def compare(folder):
     return 1 if failed or not registers else 0
 
 
-def limit_of(word):
-    if not re.fullmatch("[0-9]{1,10}", word) or int(word) > LARGEST_LIMIT:
-        raise Misuse(f"N is to be a whole number from 0 to {LARGEST_LIMIT}, and is {word}")
-    return int(word)
-
-
 def main(words):
     if words[:1] == ["--compare"]:
         return compare(*expect(words[1:], "DIR"))
     limited = words[:1] == ["--limit"]
-    number, file = expect(words[1:], "N", "FILE") if limited else (str(LIMIT), *expect(words, "FILE"))
-    limit, data = limit_of(number), read(file)
+    word, file = expect(words[1:], "N", "FILE") if limited else (str(LIMIT), *expect(words, "FILE"))
+    limit, data = number("N", word), read(file)
     printed, is_found = lines(data, limit)
     put(text(printed))
     if is_text(data):

@@ -2,9 +2,12 @@
 import contextlib
 import os
 import pathlib
+import re
 import sys
 
 TROUBLE, INTERRUPTED = 2, 130
+# the largest number that a call is given in 32 bits
+LARGEST = 4_294_967_295
 # the names of words that may be `-`, standard input
 FROM_INPUT = ("LINES", "BITS")
 
@@ -47,6 +50,13 @@ def expect(words, *names):
     if len(words) > len(names):
         raise Misuse(f"{words[len(names)]} is a word too many")
     return words
+
+
+def number(name, word):
+    """The word as a number of 32 bits."""
+    if not re.fullmatch("[0-9]{1,10}", word) or int(word) > LARGEST:
+        raise Misuse(f"{name} is to be a whole number from 0 to {LARGEST}, and is {word}")
+    return int(word)
 
 
 def say(said):

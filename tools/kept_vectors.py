@@ -1,15 +1,15 @@
 #!/usr/bin/env python3
-"""Says which lines of a folder of vectors do not hold, by the scope paper and the requests as check_job.py, cheapest.py and
-penalty_qubo.py read them:
+"""Says which lines of a folder of vectors do not hold, by the scope paper and the requests as check_job.py, cheapest.py, costliest.py
+and penalty_qubo.py read them:
 
     tools/kept_vectors.py FOLDER    FOLDER is crates/conformance/data/kept, or another with files of vectors
 
 Each line that does not hold is printed, by its file and its name. Where a request alters answers, change check_job.py first: the lines
 that are printed then are those that the request alters.
 
-Judged are all lines of register.txt, scheme.txt, cost.txt, penalty.txt, check.txt, job.txt, listing.txt, supplier.txt, search.txt and
-feedcheck.txt. There is no second opinion on what build and plain write. Of build.txt and plain.txt what is refused in the parts that the
-call reads, or for a table, is judged, and the other lines are counted as not judged. Other files are passed over.
+Judged are all lines of register.txt, scheme.txt, cost.txt, penalty.txt, check.txt, job.txt, listing.txt, supplier.txt, search.txt,
+costliest.txt and feedcheck.txt. There is no second opinion on what build and plain write. Of build.txt and plain.txt what is refused in
+the parts that the call reads, or for a table, is judged, and the other lines are counted as not judged. Other files are passed over.
 
 The exit status is 0 where all lines that are judged hold, else 1. Where something else is wrong it is 2, and one line on standard
 error says what.
@@ -21,6 +21,7 @@ sys.dont_write_bytecode = True
 from cheapest import Search, register_of
 from check_job import Job, Refused, farm, supplier, text
 from command_line import Trouble, expect, files, put, run
+from costliest import costliest
 from penalty_qubo import penalty_form
 from program_vectors import bytes_of, cases
 
@@ -179,6 +180,16 @@ def search(first, limit):
     return [*ACCEPTED, found.plan, found.best, found.visits]
 
 
+def costliest_call(m, d, room):
+    try:
+        written = costliest(int(m), int(d))
+    except Refused as refused:
+        return [*refused.args, 0, buffer_after(int(room))]
+    if int(room) < len(written):
+        return [*SHORT, 0, buffer_after(int(room))]
+    return [*ACCEPTED, len(written), buffer_after(int(room), written)]
+
+
 def feedcheck(given):
     written = text(farm(Job(bytes_of(given)))).encode()
     return [buffer_after(len(written), written)]
@@ -197,6 +208,7 @@ CALLS = {
     "listing": (3, lambda *given: listing(farm, *given)),
     "supplier": (3, lambda *given: listing(supplier, *given)),
     "search": (2, search),
+    "costliest": (3, costliest_call),
     "feedcheck": (1, feedcheck),
 }
 

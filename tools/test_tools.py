@@ -23,8 +23,9 @@ ROOT = pathlib.Path(__file__).resolve().parent.parent
 EXAMPLES = ROOT / "examples"
 JOB_TEXT, CHECK_JOB, CHEAPEST, FINISH, QUBO = (f"tools/{name}.py" for name in (
     "job_text", "check_job", "cheapest", "finish_certificate", "penalty_qubo"))
+COSTLIEST, KEPT = "tools/costliest.py", "tools/kept_vectors.py"
 PORT, COUNT = "tools/port_names.py", "tools/count_places.py"
-TOOLS = (JOB_TEXT, CHECK_JOB, CHEAPEST, FINISH, QUBO, PORT, COUNT)
+TOOLS = (JOB_TEXT, CHECK_JOB, CHEAPEST, FINISH, QUBO, COSTLIEST, KEPT, PORT, COUNT)
 SCRIPTS = ("compare/run", "compare/speed", "compare/search_speed", "compare/turns", "tools/programs", "tools/libraries")
 
 HINT = "; --help tells how it is called"
@@ -278,6 +279,63 @@ class Trials:
         self.call([CHEAPEST, self.lines], 1, b"R 1 0\n", said=f"{self.lines}: {TEXT}")
         self.compare(CHEAPEST, "example.register", "example.cheapest")
 
+    def costliest(self):
+        self.misuse(COSTLIEST, "M is missing")
+        self.misuse(COSTLIEST, "D is missing", "2")
+        self.misuse(COSTLIEST, "4 is a word too many", "2", "3", "4")
+        self.misuse(COSTLIEST, "-1 is no option here", "-1", "3")
+        for number in ("x", "1.5", "", "4294967296", "9" * 5_000):
+            said = f"is to be a whole number from 0 to 4294967295, and is {number}"
+            self.misuse(COSTLIEST, f"M {said}", number, "3")
+            self.misuse(COSTLIEST, f"D {said}", "2", number)
+        self.wrong_output(0, COSTLIEST, "2", "3")
+        choices = "11 0100 0000 11 0100 0100 11 0100 0200"
+        one = bytes.fromhex(f"10 00000000 {choices} 12 07000000 01000000 1F")
+        choices += "11 0100 0300 11 0100 0400 11 0100 0500"
+        two = bytes.fromhex(f"10 00000000 {choices} 12 07000000 01000000 12 38000000 01000000 1F")
+        self.call([COSTLIEST, "1", "3"], 0, one)
+        self.call([COSTLIEST, "2", "3"], 0, two)
+        # check_job.py reads them to their ends, where it misses part 2
+        file = pathlib.Path(self.folder, "my.register")
+        for m, d, end, terms in (
+            (1, 32, 175, "12 FFFFFFFF 01000000"),
+            (2, 16, 184, "12 FFFF0000 01000000 12 0000FFFF 01000000"),
+            (8, 4, 238, "12 0F000000 01000000 12 F0000000 01000000 12 000F0000 01000000 12 00F00000 01000000"
+                        "12 00000F00 01000000 12 0000F000 01000000 12 0000000F 01000000 12 000000F0 01000000"),
+            (10, 3, 246, "12 07000000 01000000 12 38000000 01000000 12 C0010000 01000000 12 000E0000 01000000 12 00700000 01000000"
+                         "12 00800300 01000000 12 00001C00 01000000 12 0000E000 01000000 12 00000007 01000000 12 00000038 01000000"),
+        ):
+            choices = b"".join(bytes([0x11, 1, 0, minute, 0]) for minute in range(m * d))
+            register = bytes.fromhex("10 00000000") + choices + bytes.fromhex(terms) + bytes.fromhex("1F")
+            self.call([COSTLIEST, str(m), str(d)], 0, register)
+            file.write_bytes(register)
+            self.call([CHECK_JOB, str(file)], 1, f"R 2 {end}\n".encode())
+        # 1,073,741,825 times 4 is 2 to the power 32 and 4
+        for m, d in ((0, 3), (1, 2), (1, 33), (11, 3), (1_073_741_825, 4), (4_294_967_295, 4_294_967_295)):
+            said = f"M {m} and D {d}: R 18, since M is 0, D is below 3 or above 32, or M times D is above 32"
+            self.call([COSTLIEST, str(m), str(d)], 1, said=said)
+
+    def kept(self):
+        """Vectors of the costliest register, right ones and ones with a fault each."""
+        self.misuse(KEPT, "FOLDER is missing")
+        self.misuse(KEPT, "x is a word too many", self.folder, "x")
+        self.call([KEPT, self.none], 2, said=f"{self.none}: {MISSING}")
+        folder = pathlib.Path(self.folder, "vectors")
+        folder.mkdir()
+        self.call([KEPT, str(folder)], 1, b"0 passed, 0 failed, 0 not judged\n")
+        written = "10000000001101000000110100010011010002001207000000010000001F"
+        right = ["a 1 3 30 0 0 0 30 " + written, f"b 1 3 31 0 0 0 30 {written}AA", "c 1 3 29 11 0 0 0 " + "AA" * 29]
+        right += ["d 1 3 0 11 0 0 0 -", "e 11 3 0 18 0 0 0 -", "f 1 2 2 18 0 0 0 AAAA", "g 1073741825 4 1 18 0 0 0 AA"]
+        wrong = ["h 1 3 30 0 0 0 31 " + written, f"i 1 3 31 0 0 0 30 {written}AB", "j 1 3 29 18 0 0 0 " + "AA" * 29]
+        wrong += ["k 11 3 0 11 0 0 0 -", "l 1 2 2 18 1 0 0 AAAA", "m 1 3 30 0 0 0 30 " + written.replace("1207", "1203")]
+        (folder / "costliest.txt").write_text("\n".join(["# a comment", *right, ""]))
+        self.call([KEPT, str(folder)], 0, b"7 passed, 0 failed, 0 not judged\n")
+        (folder / "costliest.txt").write_text("\n".join(right + wrong))
+        said = "".join(f"does not hold: costliest.txt {name}\n" for name in "hijklm") + "7 passed, 6 failed, 0 not judged\n"
+        self.call([KEPT, str(folder)], 1, said.encode())
+        (folder / "costliest.txt").write_text("a 1 3\n")
+        self.call([KEPT, str(folder)], 2, said=f"{folder}/costliest.txt: a line that is none of this call's")
+
     def finish(self):
         out = pathlib.Path(self.folder, "out.job")
         self.wrong_file(FINISH, after=(str(out),))
@@ -402,7 +460,7 @@ class Trials:
         self.script(folder, ["compare/turns", self.none], 2, f"{self.none} is no folder")
         self.script(folder, ["compare/turns", "examples"], 2, "examples has no libregister.a")
         programs = "feedcheck supplier_view cheapest build_scheme own_certificate"
-        libraries = "register scheme builder plan search penalty bound plain job listing"
+        libraries = "register scheme builder plan search penalty bound plain job listing costliest"
         for script, what, names in (("tools/programs", "program", programs), ("tools/libraries", "library", libraries)):
             for name in ("x", "", "--all", " ".join(names.split()[:2])):
                 for words in ([name], [names.split()[0], name]):
@@ -430,6 +488,8 @@ def main(words):
         trials.plan()
         trials.check_job()
         trials.cheapest()
+        trials.costliest()
+        trials.kept()
         trials.finish()
         trials.qubo()
         trials.past()

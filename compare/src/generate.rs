@@ -125,6 +125,29 @@ pub fn seed(job: &[u8]) -> Option<Whole> {
     })
 }
 
+/// The m and d that a costliest register is asked for: of one that there is, of one that is just too large or small, small numbers,
+/// at a limit of their width, with a higher bit set in one that there is, or with a product that wraps to 32 or less.
+pub fn shape(random: &mut Random) -> (u32, u32) {
+    let d = random.within(3, 32);
+    let right = (random.within(1, 32 / d) as u32, d as u32);
+    let any = random.next() as u32;
+    let notable = [0, 1, 2, 3, 31, 32, 33, 255, 256, 1 << 16, 1 << 30, 1 << 31, u32::MAX, any];
+    let (m, d) = match random.below(10) {
+        0..=3 => right,
+        4 => (right.0, right.1 + random.below(3) as u32),
+        5 => (random.within(0, 32 / d + 1) as u32, right.1),
+        6 => (random.below(40) as u32, random.below(40) as u32),
+        7 => (random.pick(&notable), random.pick(&notable)),
+        8 => (right.0 | random.pick(&[1 << 8, 1 << 16, 1 << 31, any << 8]), right.1),
+        _ => (((random.within(1, d - 1) as u64) << 32).div_ceil(d as u64) as u32, right.1),
+    };
+    if random.chance(10) {
+        (d, m)
+    } else {
+        (m, d)
+    }
+}
+
 // Registers and schemes.
 
 /// The choices that a mask or a plan of 32 bits names.

@@ -6,9 +6,9 @@
 //! The folders have jobs, `*.job`, of which a part of the inputs is made. Exit status 1: a difference, or a refusal number that
 //! the scope gives a call or a command and that no input led to, or a length of the day or a number of rows that no accepted
 //! register had, or no accepted certificate with `3B`, or a supplier of whom no job was accepted or none refused, or something else
-//! that `report_wide`, `report_factors`, `report_ranges`, `report_suppliers` or `report_listings` asks for.
+//! that `report_wide`, `report_factors`, `report_ranges`, `report_suppliers`, `report_listings` or `report_costliest` asks for.
 
-use compare::generate::{input, seed, with_other_places, Input, Whole};
+use compare::generate::{input, seed, shape, with_other_places, Input, Whole};
 use compare::random::Random;
 use feedcheck::raw;
 use reference::plan::FEEDS_NONE;
@@ -17,10 +17,10 @@ use reference::scheme::{Scheme, MAX_FACTOR, MAX_PRODUCTS, MAX_VARIABLES};
 use reference::search::Found;
 use reference::table::NUMBERS as TABLE_NUMBERS;
 use reference::{Answer, Counters, Refusal, Tally, SUPPLIERS};
-use std::collections::BTreeMap;
+use std::collections::{BTreeMap, BTreeSet};
 
 /// Each call, with the refusal numbers that the scope gives it.
-const CALLS: [(&str, &[u8]); 11] = [
+const CALLS: [(&str, &[u8]); 12] = [
     ("register", &[1, 2, 3, 4, 5, 6, 7, 12, 13]),
     ("scheme", &[1, 2, 3, 4, 5, 6, 7, 8, 12, 13]),
     ("build", &[1, 2, 3, 4, 5, 6, 7, 10, 11, 12, 13]),
@@ -32,13 +32,14 @@ const CALLS: [(&str, &[u8]); 11] = [
     ("job", &[1, 2, 3, 4, 5, 6, 7, 8, 9, 11, 12, 13, 15, 17]),
     ("listing", &[11]),
     ("supplier_listing", &[11]),
+    ("costliest", &[11, 18]),
 ];
 
 /// A listing call.
 type Listing<A> = fn(&[u8], &mut [i64], &mut [u8]) -> A;
 
-/// The numbers of an answer: 0, and the refusals 1 to 17.
-const NUMBERS: usize = 18;
+/// The numbers of an answer: 0, and the refusals 1 to 18.
+const NUMBERS: usize = 19;
 
 /// Each command, by its part and byte, with the refusal numbers that the scope gives it there; 1 where it stands out of place.
 const COMMANDS: [(u8, u8, &[u8]); 31] = [
@@ -135,7 +136,24 @@ const NOT_THERE: [&str; 3] = ["accepted otherwise", "refused otherwise", "lent a
 /// The jobs of a list that have one tally.
 const LIST: usize = 20;
 
-/// The buffer that is lent for the lines of an accepted job.
+/// The longest costliest register, and how many shapes there are one for.
+const MAX_COSTLIEST: usize = 246;
+const SHAPES: usize = 71;
+
+/// Why there is no costliest register of a shape.
+const NO_SHAPE: [&str; 6] = [
+    "no terms",
+    "fewer than three choices each",
+    "more than 32 choices each",
+    "more than 32 choices in all",
+    "a product that wraps to 32 or less",
+    "an empty buffer",
+];
+
+/// How many products the builder formed for a register of few terms of few choices each, beside the costliest one.
+const BESIDE: [&str; 3] = ["fewer", "as many", "one too many, refused 10"];
+
+/// The buffer that is lent for the lines of an accepted job, or for a costliest register that there is.
 const ROOMS: [&str; 4] = ["too short by more", "too short by one byte", "just long enough", "longer"];
 
 /// Where two accepted jobs may differ of which a supplier is shown the same.
@@ -191,6 +209,12 @@ struct Comparison {
     /// differ in each of `APART`.
     pairs: [u64; 2],
     apart: [u64; 5],
+    /// The shapes of which a costliest register was written; how many were asked for that there is one of, by `ROOMS`, and that there
+    /// is none of, by `NO_SHAPE`; and how many registers of few terms there were, by `BESIDE`.
+    shapes: BTreeSet<(u32, u32)>,
+    shape_rooms: [u64; 4],
+    no_shape: [u64; 6],
+    beside_costliest: [u64; 3],
     /// What lent tables and buffers hold at first.
     contents: Vec<i64>,
 }
@@ -326,6 +350,7 @@ impl Comparison {
         self.compare_listing("listing", input, raw::listing, reference::listing);
         self.compare_listing("supplier_listing", input, raw::supplier_listing, reference::supplier_listing);
         self.compare_pairs(input);
+        self.compare_costliest(input);
     }
 
     /// A call that writes bytes, at most `longest`.
@@ -359,6 +384,55 @@ impl Comparison {
             let full = reference::builder::build(&register).is_ok_and(|scheme| scheme.is_full());
             self.few_products[1] += (number == 0 && full) as u64;
             self.few_products[2] += (number == 10) as u64;
+        }
+    }
+
+    /// A costliest register, and, where it is written, the products that the library's builder forms for it.
+    fn compare_costliest(&mut self, input: &Input) {
+        let (m, d) = shape(&mut self.random);
+        let expected = reference::costliest(m, d, &mut [0; MAX_COSTLIEST]);
+        let mut buffer = self.buffer(expected.unwrap_or(MAX_COSTLIEST));
+        let (ours, theirs) = buffer.both();
+        let library = raw::costliest(m, d, ours);
+        let answer = written(reference::costliest(m, d, theirs));
+        match expected {
+            Ok(count) => {
+                let room = (theirs.len() + 2).saturating_sub(count).min(3);
+                self.shape_rooms[room] += 1;
+            }
+            Err(_) => add(&mut self.no_shape, kinds_of_no_shape(m, d, theirs.len())),
+        }
+        let is_written = answer.number == 0;
+        let formed = is_written.then(|| products_formed(&ours[..answer.count])).flatten();
+        let due = is_written.then(|| (m * (d - 2)) as usize);
+        if is_written {
+            self.shapes.insert((m, d));
+        }
+        let same = library == answer && buffer.same() && formed == due;
+        self.count_answer("costliest", answer.number, same, input, || {
+            format!("{m} terms of {d}: {library:?} {answer:?} buffers {} products {formed:?}", buffer.same())
+        });
+        self.compare_products(input);
+    }
+
+    /// Where a register has at most m terms of at most d choices each and there is a costliest one of m and d, the library's builder
+    /// forms at most as many products for it; one that is refused 10 needs one more than there may be.
+    fn compare_products(&mut self, input: &Input) {
+        let part1 = &input.parts[0];
+        let Some(register) = alone(part1) else { return };
+        let degree = register.terms.iter().map(|term| term.mask.count_ones()).max().unwrap_or(0);
+        let (m, d) = (register.terms.len().max(1), degree.max(3) as usize);
+        if m * d > 32 {
+            return;
+        }
+        let (most, formed) = (m * (d - 2), products_formed(part1));
+        let limit = MAX_PRODUCTS.min(MAX_VARIABLES - register.choices.len());
+        let needed = formed.unwrap_or(limit + 1);
+        add(&mut self.beside_costliest, [needed < most && formed.is_some(), formed == Some(most), formed.is_none()]);
+        if needed > most {
+            self.differences += 1;
+            println!("more products than the costliest register's {most}, input {}: {formed:?}", self.inputs);
+            println!("  part {}", hexadecimal(part1));
         }
     }
 
@@ -685,7 +759,7 @@ impl Comparison {
         println!("accepted jobs with rows: {}; accepted certificates with 3B: {}", self.fitting, self.row_forms);
         missing += (self.fitting == 0) as usize + (self.row_forms == 0) as usize;
         missing += self.report_wide() + self.report_factors() + self.report_ranges();
-        missing += self.report_suppliers() + self.report_listings();
+        missing += self.report_suppliers() + self.report_listings() + self.report_costliest();
         println!(
             "commands refused by the check, and those of part 4 by the cost too (--: no byte there, or bytes after the end)"
         );
@@ -781,6 +855,33 @@ impl Comparison {
         APART.iter().zip(self.apart).for_each(|(kind, count)| println!("{kind}: {count}"));
         self.rooms.values().map(|counts| zeros(counts)).sum::<usize>() + zeros(&self.pairs) + zeros(&self.apart)
     }
+
+    /// Prints what was counted of costliest registers; how much of it did not occur.
+    fn report_costliest(&self) -> usize {
+        println!("shapes of which a costliest register was written: {} of {SHAPES}", self.shapes.len());
+        println!("shapes that there is one of, by the buffer");
+        ROOMS.iter().zip(self.shape_rooms).for_each(|(room, count)| println!("{room}: {count}"));
+        println!("shapes refused 18");
+        NO_SHAPE.iter().zip(self.no_shape).for_each(|(kind, count)| println!("{kind}: {count}"));
+        println!("registers of few terms, by the products that the builder forms, beside the costliest");
+        BESIDE.iter().zip(self.beside_costliest).for_each(|(kind, count)| println!("{kind}: {count}"));
+        let missing = SHAPES.abs_diff(self.shapes.len()) + zeros(&self.shape_rooms);
+        missing + zeros(&self.no_shape) + zeros(&self.beside_costliest)
+    }
+}
+
+/// How many products the library's builder forms for a register, by its scheme reader; `None` where it builds no scheme.
+fn products_formed(part1: &[u8]) -> Option<usize> {
+    let mut built = [0; 865];
+    let answer = raw::build(part1, &mut built);
+    let read = raw::scheme(part1, &built[..answer.count]);
+    (read.number == 0).then_some(read.scheme.products)
+}
+
+/// Why there is no costliest register, as in `NO_SHAPE`, and whether a buffer of no bytes was lent.
+fn kinds_of_no_shape(m: u32, d: u32, length: usize) -> [bool; 6] {
+    let in_range = m > 0 && (3..=32).contains(&d);
+    [m == 0, d < 3, d > 32, in_range, in_range && m.wrapping_mul(d) <= 32, length == 0]
 }
 
 /// How many of the counts are 0.
@@ -1041,6 +1142,10 @@ fn main() {
         rooms: BTreeMap::from(["listing", "supplier_listing"].map(|call| (call, [0; 4]))),
         pairs: [0; 2],
         apart: [0; 5],
+        shapes: BTreeSet::new(),
+        shape_rooms: [0; 4],
+        no_shape: [0; 6],
+        beside_costliest: [0; 3],
         contents,
     };
     let mut random = Random(start ^ 0x5EED);

@@ -10,7 +10,7 @@ fn main() {
         None => PathBuf::from(std::env::var_os("CARGO_MANIFEST_DIR").unwrap()).join("../../target/staticlib"),
     };
     println!("cargo:rustc-link-search=native={}", folder.display());
-    for name in ["register", "scheme", "builder", "plan", "search", "penalty", "bound", "plain", "job", "listing"] {
+    for name in ["register", "scheme", "builder", "plan", "search", "penalty", "bound", "plain", "job", "listing", "costliest"] {
         let file = folder.join(format!("lib{name}.a"));
         assert!(file.exists(), "{} is not there: run tools/libraries in the repository", file.display());
         println!("cargo:rerun-if-changed={}", file.display());

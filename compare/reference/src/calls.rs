@@ -1,8 +1,10 @@
-//! The eleven calls.
+//! The twelve calls.
 
 use crate::search::{self as searches, Found, NotFound};
 use crate::wire::{alone, Fault, Read};
-use crate::{builder, certificate, plain as own, plan as plans, register as registers, scheme as schemes, table};
+use crate::{
+    builder, certificate, costliest as costliests, plain as own, plan as plans, register as registers, scheme as schemes, table,
+};
 
 /// A refusal's number, part and position.
 #[derive(Clone, Copy, Debug, Default, PartialEq, Eq)]
@@ -28,6 +30,9 @@ impl Refusal {
 
     /// Refusal 17, likewise.
     const NO_SUPPLIER: Refusal = Refusal { number: 17, part: 0, position: 0 };
+
+    /// Refusal 18, likewise.
+    const SHAPE: Refusal = Refusal { number: 18, part: 0, position: 0 };
 }
 
 pub type Answer<T> = Result<T, Refusal>;
@@ -69,6 +74,10 @@ pub fn scheme(part1: &[u8], part2: &[u8]) -> Answer<schemes::Scheme> {
 pub fn build(part1: &[u8], buffer: &mut [u8]) -> Answer<usize> {
     let scheme = builder::build(&register(part1)?).map_err(|fault| Refusal::of(1, fault))?;
     write(&scheme.bytes(), buffer)
+}
+
+pub fn costliest(m: u32, d: u32, buffer: &mut [u8]) -> Answer<usize> {
+    write(&costliests::bytes(m, d).ok_or(Refusal::SHAPE)?, buffer)
 }
 
 pub fn cost(part1: &[u8], part4: &[u8]) -> Answer<i64> {

@@ -143,6 +143,16 @@ fn build() {
 }
 
 #[test]
+fn costliest() {
+    each("costliest.txt", |f| {
+        let (m, d) = (f.number() as u32, f.number() as u32);
+        let mut buffer = vec![0xAA; f.number() as usize];
+        let (refusal, count) = split(reference::costliest(m, d, &mut buffer));
+        refusal == f.refusal() && count as i64 == f.number() && buffer == f.bytes()
+    });
+}
+
+#[test]
 fn cost() {
     each("cost.txt", |f| {
         let (refusal, cost) = split(reference::cost(&f.bytes(), &f.bytes()));

@@ -80,6 +80,9 @@ pub const TABLE_NUMBERS: usize = 4_225;
 /// A buffer of so many bytes is enough for every scheme that is built.
 pub const MAX_BUILT: usize = 865;
 
+/// A buffer of so many bytes is enough for every register that `costliest` writes.
+pub const MAX_COSTLIEST: usize = 246;
+
 /// A buffer of so many bytes is enough for every certificate that `plain` writes.
 pub const MAX_PLAIN: usize = 1_294;
 
@@ -134,6 +137,7 @@ impl Refusal {
     pub const MISFIT: u8 = 15;
     pub const NONE_FITS: u8 = 16;
     pub const UNKNOWN_SUPPLIER: u8 = 17;
+    pub const SHAPE_OUT_OF_RANGE: u8 = 18;
 
     /// What the number means.
     pub fn reason(&self) -> &'static str {
@@ -155,6 +159,7 @@ impl Refusal {
             Refusal::MISFIT => "the plan does not fit the rows",
             Refusal::NONE_FITS => "no plan fits the rows",
             Refusal::UNKNOWN_SUPPLIER => "a supplier number is above 15",
+            Refusal::SHAPE_OUT_OF_RANGE => "m is 0, d is below 3 or above 32, or m times d is above 32",
             _ => "no refusal",
         }
     }
@@ -209,6 +214,16 @@ pub fn scheme(register: &[u8], scheme: &[u8]) -> Result<Scheme, Refusal> {
 /// buffer. Refused 10 where a term needs a 33rd product, or one that is the 65th variable.
 pub fn build(register: &[u8], buffer: &mut [u8]) -> Result<usize, Refusal> {
     let answer = raw::build(register, buffer);
+    result(answer.number, answer.part, answer.position, answer.count)
+}
+
+/// Writes a register for which [`build`] forms m · (d - 2) products: how many bytes were written to the front of the buffer. For no
+/// accepted register with at most m terms, none over more than d choices, does it form more, whatever else the register has. The base
+/// cost is 0, the choices are m · d, of tank 1 at the minutes from 0 up, and term number t is of the d choices from number d · t on
+/// and has the coefficient 1. m is 1 or more, d 3 to 32, and m · d, which does not wrap, at most 32; for any other m and d it is
+/// refused 18, whatever the buffer's length.
+pub fn costliest(m: u32, d: u32, buffer: &mut [u8]) -> Result<usize, Refusal> {
+    let answer = raw::costliest(m, d, buffer);
     result(answer.number, answer.part, answer.position, answer.count)
 }
 

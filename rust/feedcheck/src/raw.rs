@@ -182,6 +182,7 @@ mod linked {
             buffer: *mut u8,
             buffer_length: usize,
         ) -> WriterAnswer;
+        pub fn feedcheck_costliest(m: u32, d: u32, buffer: *mut u8, buffer_length: usize) -> WriterAnswer;
         pub fn feedcheck_cost(register: *const u8, register_length: usize, plan: *const u8, plan_length: usize) -> CostAnswer;
         pub fn feedcheck_search(register: *const u8, register_length: usize, limit: u32) -> SearchAnswer;
         pub fn feedcheck_penalty(
@@ -251,6 +252,10 @@ pub fn scheme(register: &[u8], scheme: &[u8]) -> SchemeAnswer {
 
 pub fn build(register: &[u8], buffer: &mut [u8]) -> WriterAnswer {
     unsafe { linked::feedcheck_build(register.as_ptr(), register.len(), buffer.as_mut_ptr(), buffer.len()) }
+}
+
+pub fn costliest(m: u32, d: u32, buffer: &mut [u8]) -> WriterAnswer {
+    unsafe { linked::feedcheck_costliest(m, d, buffer.as_mut_ptr(), buffer.len()) }
 }
 
 pub fn cost(register: &[u8], plan: &[u8]) -> CostAnswer {

@@ -10,9 +10,9 @@ macro_rules! named {
 }
 
 /// In the order of their numbers.
-const NAMES: [(&str, u8); 17] = named! {
+const NAMES: [(&str, u8); 18] = named! {
     NO_COMMAND CUT_SHORT TOO_MANY OUT_OF_RANGE NOT_THERE MISORDERED NOT_RISING SETS_UNFIT FALLS_SHORT NO_PRODUCT_LEFT TOO_SHORT
-    PAST_END OUTSIDE_WINDOWS PAST_LIMIT MISFIT NONE_FITS UNKNOWN_SUPPLIER
+    PAST_END OUTSIDE_WINDOWS PAST_LIMIT MISFIT NONE_FITS UNKNOWN_SUPPLIER SHAPE_OUT_OF_RANGE
 };
 
 fn reason(number: u8) -> &'static str {
@@ -70,7 +70,7 @@ fn sentences() {
     reasons.sort();
     reasons.dedup();
     assert_eq!(reasons.len(), NAMES.len());
-    for number in [0].into_iter().chain(18..=u8::MAX) {
+    for number in [0].into_iter().chain(19..=u8::MAX) {
         assert_eq!(reason(number), "no refusal");
         assert!(!reasons.contains(&reason(number)));
     }

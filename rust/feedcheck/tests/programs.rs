@@ -29,6 +29,16 @@ fn page() {
             assert!(page.contains(&format!("```{language}\n{}```\n", text(file))), "{file}");
         }
     }
+    // A function alone of each of these.
+    for (language, file, head) in [
+        ("c", "include/products.c", "/* How many products"),
+        ("rust", "rust/feedcheck/tests/costliest.rs", "fn costliest_products("),
+    ] {
+        let text = text(file);
+        let from_head = &text[text.find(head).unwrap()..];
+        let function = &from_head[..from_head.find("\n}\n").unwrap()];
+        assert!(page.contains(&format!("```{language}\n{function}\n}}\n```\n")), "{file}");
+    }
 }
 
 /// The files of `examples` with this ending.
@@ -143,6 +153,16 @@ fn search() {
     for words in [&[][..], &["missing"], &["."]] {
         assert_eq!(run(&program, words), no_answer(), "{words:?}");
     }
+}
+
+/// The table of docs/PRODUCTS.md.
+#[test]
+fn products() {
+    let page = text("docs/PRODUCTS.md");
+    let lines = page.lines().skip_while(|line| !line.starts_with("| d |")).take_while(|line| line.starts_with('|'));
+    let table: String = lines.map(|line| format!("{line}\n")).collect();
+    assert_eq!(table.lines().count(), 2 + 30);
+    assert_eq!(run(&compile("products"), &[]), prints(&table, 0));
 }
 
 #[test]
