@@ -18,7 +18,7 @@ ghost use Rattle.builder.specs.Answer.{build_answer, build_buffer};
 use register::walk::term_position;
 use register::{Register, open_register};
 use scheme::Scheme;
-use state::Work;
+pub use state::Work;
 use wire::{Fault, Refusal, WriterAnswer};
 use writing::write_scheme;
 

@@ -19,7 +19,7 @@ fn print_difference(rt: &impl Print, name: &str, line: &[u8]) -> io::Result<()> 
 }
 
 // Tries each case of a file, and prints which differ and how many there are.
-pub fn run<R: Files + AllocGlobal + Print, F: Fn(Fields) -> io::Result<bool>>(
+pub fn run<R: Files + AllocGlobal + Print, F: Fn(&[u8]) -> io::Result<bool>>(
     rt: &R,
     name: &str,
     path: &str,
@@ -32,7 +32,7 @@ pub fn run<R: Files + AllocGlobal + Print, F: Fn(Fields) -> io::Result<bool>>(
     for line in text.as_slice().split(|b| *b == b'\n') {
         if vectors::is_case(line) {
             tally.cases = tally.cases.wrapping_add(1);
-            if !agrees(Fields::of(line))? {
+            if !agrees(line)? {
                 print_difference(rt, name, line)?;
                 tally.differences = tally.differences.wrapping_add(1);
             }
@@ -62,7 +62,7 @@ pub fn run_call<R: Files + AllocGlobal + Print, F: Fn(Fields) -> Result<(), Diff
             rt,
             printed.as_str(),
             path.as_str(),
-            |fields| Ok(agrees(fields.past_name()).is_ok()),
+            |line| Ok(agrees(Fields::of(line).past_name()).is_ok()),
         )?;
     }
     Ok(())

@@ -57,17 +57,17 @@ fn main(rt: HostRuntime) -> io::Result<()> {
     run_call(rt, "own_certificate", "own_certificate.txt", |fields| {
         parts::agrees(fields, |parts, text| certificate_of(parts, text))
     })?;
-    run(rt, "examples", "examples.txt", |fields| {
-        in_files::agrees(rt, fields, |job, text| lines_of(job, text).count)
+    run(rt, "examples", "examples.txt", |line| {
+        in_files::agrees(rt, line, |job, text| lines_of(job, text).count)
     })?;
-    run(rt, "suppliers", "suppliers.txt", |fields| {
-        in_files::agrees(rt, fields, |job, text| lines_of(job, text).count)
+    run(rt, "suppliers", "suppliers.txt", |line| {
+        in_files::agrees(rt, line, |job, text| lines_of(job, text).count)
     })?;
-    run(rt, "views", "views.txt", |fields| {
-        in_files::agrees(rt, fields, |job, text| supplier_lines(job, text))
+    run(rt, "views", "views.txt", |line| {
+        in_files::agrees(rt, line, |job, text| supplier_lines(job, text))
     })?;
-    run(rt, "cheapest", "cheapest.txt", |fields| {
-        in_files::agrees(rt, fields, |register, text| {
+    run(rt, "cheapest", "cheapest.txt", |line| {
+        in_files::agrees(rt, line, |register, text| {
             cheapest_lines(register, MAX_VISITS, text)
         })
     })?;

@@ -2,5 +2,6 @@
 pub mod Listing
 pub mod Answer
 pub mod Same
--- not the paper's: the lines of choices by who reads them
+-- not the paper's: the lines of choices by who reads them, and the array in which lines are put
 pub mod Readers
+pub mod Held

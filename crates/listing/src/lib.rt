@@ -23,22 +23,31 @@ use wire::{Fault, Refusal, WriterAnswer};
 
 // A listing: lines put one after the other at the front of an array. An `ArrayVec` lends no room past its end, where
 // `text::put_line` writes. Nothing compares or prints one.
-#[derive(Drop)]
+#[derive(Clone, Copy)]
 pub struct Listing {
     bytes: [u8; Listing::MAX_BYTES],
     count: usize,
 }
 
-// Clauses see the bytes of the lines.
+// Clauses see the bytes of the lines. What stands past them is 0, so the lines give the fields back, which a copy needs.
 impl Model for Listing {
-    ghost use Rattle.std.specs.Prelude.{ℕ, List, ◌≤◌, take};
+    ghost use Rattle.std.specs.Prelude.{◌≡◌, ℕ, List, ◌≤◌, length, take};
+    ghost use Rattle.std.proofs.Common.{arith, length-take-le};
     ghost use Rattle.listing.specs.Answer.{listing_room};
+    ghost use Rattle.listing.specs.Held.{held};
 
     ghost Value = { List ℕ };
 
     ghost view = { λ l. take l.count l.bytes };
 
-    ghost invariant = { λ l. l.count ≤ listing_room };
+    ghost invariant = { λ l. (l.count ≤ listing_room) × ((length l.bytes ≡ listing_room) × (held (take l.count l.bytes) ≡ l.bytes)) };
+
+    ghost inverse = { λ lines. record { bytes = held lines; count = length lines } };
+
+    ghost inverse_ok = { λ l h i. record {
+      bytes = h.1.1 i;
+      count = length-take-le l.count l.bytes (omega (arith, h.0, h.1.0)) i;
+    } };
 }
 
 // Who reads a listing.

@@ -13,11 +13,11 @@ ghost use Rattle.register.specs.Limits.{max_choices, max_rows};
 ghost use Rattle.register.specs.Register.{coefficient};
 ghost use Rattle.register.specs.Valid.{Within};
 ghost use Rattle.plan.specs.Fits.{fits};
-ghost use Rattle.search.specs.Walk.{Best, walk};
+ghost use Rattle.search.specs.Walk.{Best, start, walk};
 ghost use Rattle.search.specs.Answer.{search, within_limit, refused_search, accepted_search, found_search, told_search, search_answer};
 ghost use Rattle.search.specs.Lent.{lent_sum, At, is_left_by, walked_of, UpTo};
 
-use lists::TermLists;
+pub use lists::{Change, TermLists};
 use plan::fits_rows;
 use register::{Register, open_register};
 use terms::sum_at;
@@ -142,21 +142,31 @@ fn walk(
     walk(lists, register, limit, k, more, fed_sum, walked)
 }
 
-// The search of a register, from the empty partial plan on: the cheapest plan that fits.
-fn search_from(register: &Register, limit: u32) -> Result<Found, Refusal>
-    requires { Within register.now }
-    ensures { told_search result ≡ answer_by refused_search accepted_search (within_limit limit (search (coefficient register.now) register.now)) }
+// The walk from the empty partial plan of a register on, which stops at the first visit that passes the limit.
+fn walk_from_empty(register: &Register, limit: u32, walked: &mut Walked) -> Result<(), PastLimit>
+    requires within { Within register.now }
+    requires fresh { walked.old ≡ walked_of start }
+    ensures few { OnOk result (walked.new.visits ≤ limit) }
+    ensures reached { UpTo limit (search (coefficient register.now) register.now) walked.new (is_ok result) }
 {
     let mut lists = TermLists::fresh();
     lists.list_all(register);
     let n = register.choices;
     let possible = (1u64 << n) - 1;
     let sum = sum_at(register, 0, possible);
+    walk(&lists, register, u64::from(limit), n, 0, sum, walked)
+}
+
+// The search of a register, from the empty partial plan on: the cheapest plan that fits.
+fn search_from(register: &Register, limit: u32) -> Result<Found, Refusal>
+    requires { Within register.now }
+    ensures { told_search result ≡ answer_by refused_search accepted_search (within_limit limit (search (coefficient register.now) register.now)) }
+{
     let mut walked = Walked {
         best: None,
         visits: 0,
     };
-    walk(&lists, register, u64::from(limit), n, 0, sum, &mut walked)?;
+    walk_from_empty(register, limit, &mut walked)?;
     let best = walked.best.ok_or(Refusal::NoneFits)?;
     Ok(Found {
         plan: best.plan,

@@ -43,7 +43,8 @@ fn gained_by(mask: u64, coefficient: i32, fed: u64) -> i32
 }
 
 impl TermLists {
-    const PLACES: usize = Register::MAX_CHOICES * Register::MAX_TERMS;
+    // As many places for each choice as there can be terms.
+    pub const PLACES: usize = Register::MAX_CHOICES * Register::MAX_TERMS;
 
     // No term is listed under any choice.
     pub fn fresh() -> TermLists

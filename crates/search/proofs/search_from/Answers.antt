@@ -1,55 +1,27 @@
--- `search::search_from` meets its contract. The terms are listed, and the walk begins with the sum at the empty partial plan.
-use Prim.Native.Nat.{ℕ, ◌-◌, ◌*◌, ◌%◌, ◌^◌}
+-- `search::search_from` meets its contract: the answer is by what the walk has come to.
 use mathlib.Core.Path.{◌≡◌, refl, ◌∙◌}
 use mir.Syntax.{w64}
-use mir.Val.{SFits, to_z, of_z}
+use mir.Val.{to_z, of_z}
 use mir.Facts.{to_z-of_z}
 use Rattle.std.proofs.lemmas.Result.{err_from_is_err_and}
-use mathlib.Core.List.{List}
-use lib.IntN.{ℤ}
-use Rattle.std.proofs.Common.{Bool, rules}
-use Rattle.register.specs.declared.Register.{Register}
-use Rattle.register.specs.Register.{coefficient}
-use Rattle.register.specs.Valid.{Within}
-use Rattle.plan.specs.Fits.{fits as fits_test}
-use Rattle.search.specs.declared.Walked.{Walked}
-use Rattle.search.specs.Walk.{Best, start, walk}
-use Rattle.search.specs.Answer.{search as rule}
-use Rattle.search.specs.Lent.{terms_in, sum_to, lent_sum, AllListed, At, walked_of, UpTo}
-use Rattle.search.proofs.Sums.{within_small}
-use Rattle.search.proofs.Going.{shifted, empty_sum, empty_at}
-use Rattle.search.proofs.Answers.{search_lent, passes, answers, best_err, best_ok}
+use Rattle.std.proofs.Common.{rules}
+use Rattle.search.proofs.Answers.{passes, answers, best_err, best_ok}
 use Rattle.search.proofs.search_from.Goals as goal
 
-module _ {r : Register} (w : Within r) {masks : List ℕ} {coefficients : List ℤ} {counts : List ℕ} {s : ℤ} (listed : AllListed (terms_in r) r.choices masks coefficients counts) (fits : SFits w64 s)
-    (is : s ≡ sum_to r.base (terms_in r) r.terms 0 (1 * 2 ^ r.choices % 18446744073709551616 - 1)) where
-  -- what is known at the empty partial plan
-  abbrev begins : At masks coefficients counts r.choices 0 (to_z w64 (of_z w64 s))
-  begins = empty_at r.base (terms_in r) w.base (within_small r w) listed w.choices.few (to_z-of_z fits ∙ is ∙ rw (shifted r.choices w.choices.few) (empty_sum r.base (terms_in r) r.choices))
+pub walk_from_empty-requires-clause-fresh : goal.walk_from_empty-requires-clause-fresh
+walk_from_empty-requires-clause-fresh c = refl
 
-  -- and what the walk has come to
-  came : (limit : ℕ) {l : ℕ} (walked : Walked) (ok : Bool) → l ≡ limit →
-      ((a : At masks coefficients counts r.choices 0 (to_z w64 (of_z w64 s))) (w : Best) → walked_of start ≡ walked_of w → UpTo l (walk (lent_sum a.base a.terms) (fits_test r) r.choices 0 w) walked ok) →
-      UpTo limit (rule (coefficient r) r) walked ok
-  came limit walked ok e h = rw (e, search_lent r) at (h begins start refl)
-
-pub walk-requires-clause-at : goal.walk-requires-clause-at
-walk-requires-clause-at c = begins c.requires c.list_all.ensures (record { sfits = c.sum_at-sum.type_inv }) c.sum_at-sum.ensures
-
-pub returns-in_err-walk : goal.returns-in_err-walk
-returns-in_err-walk c =
-    let u = came c.requires c.list_all.ensures (record { sfits = c.sum_at-sum.type_inv }) c.sum_at-sum.ensures c.args.limit _ _ c.from.ensures c.in_err-walk.ensures.reached in
+pub returns-in_err-walk_from_empty : goal.returns-in_err-walk_from_empty
+returns-in_err-walk_from_empty c =
     let p = err_from_is_err_and c.from_residual.result c.from_residual.ensures.1 in
-    rw (p.1, p.2) (passes _ _ _ _ u refl)
+    rw (p.1, p.2) (passes _ _ _ _ c.in_err-walk_from_empty.ensures.reached refl)
 
 pub returns-in_err-best : goal.returns-in_err-best
 returns-in_err-best c =
-    let u = came c.requires c.list_all.ensures (record { sfits = c.sum_at-sum.type_inv }) c.sum_at-sum.ensures c.args.limit _ _ c.from.ensures c.in_ok-walk.ensures.reached in
     let p = err_from_is_err_and c.from_residual-in_err-best.result c.from_residual-in_err-best.ensures.1 in
-    rw (p.1, p.2) (best_err _ _ c.in_err-best.ensures.value ∙ answers _ _ _ _ u refl)
+    rw (p.1, p.2) (best_err _ _ c.in_err-best.ensures.value ∙ answers _ _ _ _ c.in_ok-walk_from_empty.ensures.reached refl)
 
 pub returns : goal.returns
 returns c =
-    let u = came c.requires c.list_all.ensures (record { sfits = c.sum_at-sum.type_inv }) c.sum_at-sum.ensures c.args.limit _ _ c.from.ensures c.in_ok-walk.ensures.reached in
     let read : to_z w64 (of_z w64 c.in_ok-best.best.cost) ≡ c.in_ok-best.best.cost = to_z-of_z {w = w64} (search rules) in
-    rw read (best_ok _ _ c.in_ok-best.ensures.value ∙ answers _ _ _ _ u refl)
+    rw read (best_ok _ _ c.in_ok-best.ensures.value ∙ answers _ _ _ _ c.in_ok-walk_from_empty.ensures.reached refl)
