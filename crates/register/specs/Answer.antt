@@ -1,10 +1,12 @@
 -- What the register's calls answer, by what reading leads to.
-use Rattle.std.specs.Prelude.{ℕ, ◌+◌, ◌-◌, ◌<◌, ◌≤◌, List, [], ◌∷◌, get_or, ℤ}
+use Rattle.std.specs.Prelude.{ℕ, ◌+◌, ◌-◌, ◌<◌, ◌≤◌, List, [], ◌∷◌, get_or, ℤ, Result, Ok, Err}
 use Rattle.std.specs.Int.{w8}
 use Rattle.integers.specs.Lists.{join_below}
 use Rattle.wire.specs.Number.{int_at}
 use Rattle.wire.specs.Part.{Reading, refused, accepted}
 use Rattle.wire.specs.Rows.{Progress}
+use Rattle.wire.specs.declared.refusals.Refused.{Refused}
+use Rattle.wire.specs.Results.{number_of}
 use Rattle.register.specs.declared.Register.{Register}
 use Rattle.register.specs.declared.RegisterAnswer.{RegisterAnswer}
 use Rattle.register.specs.Limits.{max_choices, max_terms, max_windows, row_entries}
@@ -27,6 +29,11 @@ pub record Given (r : Register) (passed : ℕ) : Type 0 where
   pub within : passed ≤ r.windows
   pub no_fall : NoFall r.windows r.window_tanks
   pub earlier : (j : ℕ) → j < passed → (1 ≤ r.choices) × (window_tank r j < tank r (r.choices - 1))
+
+-- a register at the front of a run of bytes, read into a record: where it ends, or the refusal
+abbrev pub filled_of : Result ℕ Refused → Register → Reading Register
+filled_of (Ok end) r = accepted r end
+filled_of (Err fault) r = refused (number_of fault.refusal) fault.position
 
 -- of the call: number, part and position of a refusal, other fields 0; or zeros and the register
 

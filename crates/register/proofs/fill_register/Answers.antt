@@ -12,7 +12,7 @@ use Rattle.wire.specs.Number.{nat_at, int_at}
 use Rattle.wire.specs.Checks.{refusal}
 use Rattle.wire.specs.Part.{refused, operands_at, total, checks_at}
 use Rattle.wire.specs.Outcome.{added_by}
-use Rattle.wire.specs.Results.{number_of, number_in, reading_of}
+use Rattle.wire.specs.Results.{number_of, number_in}
 use Rattle.wire.specs.Rows.{Progress, row_of}
 use Rattle.wire.proofs.Rest.{only_last}
 use Rattle.wire.proofs.Results.{numbered}
@@ -23,14 +23,14 @@ use Rattle.register.specs.Limits.{max_choices, max_terms, max_windows, max_rows}
 use Rattle.register.specs.Register.{tank, minute, fresh}
 use Rattle.register.specs.Format.{base_row, choice_row, term_row, window_row, row_row, entries_of, wide_term_row, range_row, length_row, end_row, register_rows, register_part, register_in_job}
 use Rattle.register.specs.Valid.{Within, window_at}
-use Rattle.register.specs.Answer.{Given}
+use Rattle.register.specs.Answer.{Given, filled_of}
 use Rattle.register.proofs.Passes.{NextChoice, choice_iff, term_iff, window_iff, row_iff, range_iff}
 use Rattle.register.proofs.RowOperands.{entries_read, entries_at_lem}
 use Rattle.register.proofs.Entries.{term_at, still_unranged, windows_no_fall}
 use Rattle.register.proofs.Passed.{Passed, passed_starts, passed_base, passed_length, passed_choice, passed_terms, passed_window, passed_rows}
 use Rattle.register.proofs.Laws.{laws}
-use Rattle.register.proofs.read_register.Goals.{In_ok-map_err}
-use Rattle.register.proofs.read_register.Goals as goal
+use Rattle.register.proofs.fill_register.Goals.{In_ok-map_err}
+use Rattle.register.proofs.fill_register.Goals as goal
 
 given_is : (r : Register) {k : ℕ} → Within r → Passed r k → Given r k
 given_is r w p = record { few_choices = w.choices.few; few_terms = w.terms.few; few_windows = w.windows.few; within = p.within; no_fall = windows_no_fall r w; earlier = p.earlier }
@@ -87,7 +87,7 @@ module _ (c : In_ok-map_err) where
   next_choice e = ((choice_iff _ _ _ _ _ _ _).0 (here 0x11 e).allowed).0
 
 pub loop-at-init : goal.loop-at-init
-loop-at-init c = rw c.fresh-register.ensures (record { going = going_starts fresh register_rows laws _; lower = passed_starts })
+loop-at-init c = rw c.requires.starts (record { going = going_starts fresh register_rows laws _; lower = passed_starts })
 
 pub refusal_at-requires-clause-given : goal.refusal_at-requires-clause-given
 refusal_at-requires-clause-given c = let i = c.loop-at.invariant in given_is c.loop-at.register i.going.so_far.holds.within i.lower
@@ -96,19 +96,19 @@ pub returns-in_err-map_err : goal.returns-in_err-map_err
 unfolding register_in_job
 returns-in_err-map_err c =
     let refusal = c.in_err-map_err.field-0.0.refusal in
-    let said : reading_of c.from_residual.result ≡ refused (number_of refusal) c.loop-at.at = search rules in
+    let said : filled_of c.from_residual.result c.loop-at.register ≡ refused (number_of refusal) c.loop-at.at = search rules in
     let n : number_of refusal ≡ number_in c.refusal_at.result = search rules in
     said ∙ ap (added_by (λ r. r)) (sym (going_refused fresh register_rows laws c.loop-at.invariant.going _ c.loop-at-test.true (n ∙ c.refusal_at.ensures) (numbered refusal)))
 
-pub read-requires : goal.read-requires
+pub read-register-requires : goal.read-register-requires
 unfolding row_of total
-read-requires c = omega (arith, (here (goal.at.read-requires c).In_ok-map_err 0x10 c.in-16.is).room)
+read-register-requires c = omega (arith, (here (goal.at.read-register-requires c).In_ok-map_err 0x10 c.in-16.is).room)
 
 pub loop-at-preserved-in-16 : goal.loop-at-preserved-in-16
 unfolding row_of total operands_at int_at
 loop-at-preserved-in-16 c =
     let e = (goal.at.loop-at-preserved-in-16 c).In_ok-map_err in record {
-      going = rw (to_z-of_z (record { sfits = c.read.type_inv }), c.read.ensures) (going_on fresh register_rows laws c.loop-at.invariant.going c.loop-at-test.true (judged e) 0x10 c.in-16.is refl);
+      going = rw (to_z-of_z (record { sfits = c.read-register.type_inv }), c.read-register.ensures) (going_on fresh register_rows laws c.loop-at.invariant.going c.loop-at-test.true (judged e) 0x10 c.in-16.is refl);
       lower = passed_base c.loop-at.register (within e) c.loop-at.invariant.lower _;
     }
 
@@ -119,9 +119,9 @@ read-tank-requires c = omega (arith, (here (goal.at.read-tank-requires c).In_ok-
 pub bounds-register-n : goal.bounds-register-n
 bounds-register-n c = few (goal.at.bounds-register-n c).In_ok-map_err c.in-17.is
 
-pub read-requires-in-17 : goal.read-requires-in-17
+pub read-requires : goal.read-requires
 unfolding row_of total
-read-requires-in-17 c = omega (arith, (here (goal.at.read-requires-in-17 c).In_ok-map_err 0x11 c.in-17.is).room)
+read-requires c = omega (arith, (here (goal.at.read-requires c).In_ok-map_err 0x11 c.in-17.is).room)
 
 pub bounds-register-n-in-17 : goal.bounds-register-n-in-17
 bounds-register-n-in-17 c = few (goal.at.bounds-register-n-in-17 c).In_ok-map_err c.in-17.is
@@ -131,8 +131,8 @@ unfolding row_of total operands_at
 loop-at-preserved-in-17 c =
     let e = (goal.at.loop-at-preserved-in-17 c).In_ok-map_err in
     let w = c.pass_windows-passed.ensures in record {
-      going = rw (c.read-in-17.ensures, c.read-tank.ensures, add-one) (going_on fresh register_rows laws c.loop-at.invariant.going c.loop-at-test.true (judged e) 0x11 c.in-17.is refl);
-      lower = rw add-one (passed_choice c.loop-at.register (within e) c.loop-at.invariant.lower _ _ (rw (c.read-in-17.ensures, c.read-tank.ensures) (next_choice e c.in-17.is)) _ w.within.1 w.lower);
+      going = rw (c.read.ensures, c.read-tank.ensures, add-one) (going_on fresh register_rows laws c.loop-at.invariant.going c.loop-at-test.true (judged e) 0x11 c.in-17.is refl);
+      lower = rw add-one (passed_choice c.loop-at.register (within e) c.loop-at.invariant.lower _ _ (rw (c.read.ensures, c.read-tank.ensures) (next_choice e c.in-17.is)) _ w.within.1 w.lower);
     }
 
 pub read-coefficient-requires : goal.read-coefficient-requires
@@ -268,15 +268,15 @@ loop-at-preserved-in-22 c =
       lower = rw add-one (passed_terms c.loop-at.register (within e) c.loop-at.invariant.lower _ _ _ _ _);
     }
 
-pub read-requires-in-24 : goal.read-requires-in-24
+pub read-register-requires-in-24 : goal.read-register-requires-in-24
 unfolding row_of total
-read-requires-in-24 c = omega (arith, (here (goal.at.read-requires-in-24 c).In_ok-map_err 0x18 c.in-24.is).room)
+read-register-requires-in-24 c = omega (arith, (here (goal.at.read-register-requires-in-24 c).In_ok-map_err 0x18 c.in-24.is).room)
 
 pub loop-at-preserved : goal.loop-at-preserved
 unfolding row_of total operands_at
 loop-at-preserved c =
     let e = (goal.at.loop-at-preserved c).In_ok-map_err in record {
-      going = rw c.read-in-24.ensures (going_on fresh register_rows laws c.loop-at.invariant.going c.loop-at-test.true (judged e) 0x18 c.in-24.is refl);
+      going = rw c.read-register-in-24.ensures (going_on fresh register_rows laws c.loop-at.invariant.going c.loop-at-test.true (judged e) 0x18 c.in-24.is refl);
       lower = passed_length c.loop-at.register (within e) c.loop-at.invariant.lower _;
     }
 

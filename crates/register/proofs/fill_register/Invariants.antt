@@ -6,7 +6,7 @@ use Rattle.register.specs.Register.{fresh}
 use Rattle.register.specs.Format.{register_rows}
 use Rattle.register.proofs.Laws.{Good}
 use Rattle.register.proofs.Passed.{Passed}
-use Rattle.register.proofs.read_register.Given as goal
+use Rattle.register.proofs.fill_register.Given as goal
 
 -- what is read from here on is what the whole is; and which windows no later choice need look at
 abbrev pub invariant-loop-at : goal.invariant-loop-at
